@@ -1,0 +1,317 @@
+-- The midpoint (x + y) / 2 of two f32 below 2 ^ 127 in size, as those within ±1e38 are, each operation rounded, lies between the two: so it is on the same side of any number as both are.
+-- With z the larger of the two, x + y is at most 2 z, which is an f32; rounding keeps the order, so the rounded sum is at most 2 z too, and its half at most z. Likewise below.
+-- The midpoint is itself within the bound, so it goes on by induction over halvings. Assumes nothing.
+use mathlib.Core.Path.{_≡_, refl, sym, ap, _∙_, subst}
+use mathlib.Core.Logic.{_⊎_, inl, inr}
+use Prim.Native.Nat.{ℕ, zero, suc, _+_, _-_, _*_, _%_, _^_, _≤_, _<_}
+use native.Mathlib.Nat.{le-of-eq, lt-of-lt-of-le, lt-of-le-of-lt, lt-of-not-le, not-le-of-lt, mul-le-mul-right, mul-lt-mul-of-pos-right, mul-assoc, mul-one, zero-mul, mul-pos, pow-suc}
+use native.Mathlib.Decide.{decLe}
+use native.Mathlib.Omega.{arith}
+use mathlib.Core.Bool.{Bool, true, false, _&&_, true≢false}
+use lib.Dec.{T, leb, ltb, eqb, leb→le, ltb→lt, lit<}
+use lib.IntN.{ℤ, pos, negsuc}
+use lib.Pow.{pow-add, pow-pos, pow-mono, pow-lt, shl-lt}
+use lib.Ieee.{Float, nan, inf, fin, binary32, up, down, round, add, div, neg, ofBits, le, lt, fits}
+use lib.Ieee.Fits.{and-l, and-r, down-pos, div-fits}
+use lib.Ieee.Exact.{HasValue, round-exact}
+use lib.Ieee.Order.{transfer}
+use lib.Ieee.Scale.{round-same, finite}
+use Rattle.float.specs.F32.{_⊕_, _⊘_, f2}
+use Rattle.float.proofs.Order as order
+use Rattle.float.proofs.Order.{LeP, le→P, P→le}
+use Rattle.float.proofs.Rounding.{round-le, sum-below, sum-above}
+
+-- ---- the order of fractions, scaled
+scale : (s t : Bool) (a b c d k : ℕ) → c ≡ a * k → d ≡ b * k → LeP s a t b → LeP s c t d
+scale false false a b c d k e f h = let w : a * k ≤ b * k = mul-le-mul-right k h in omega arith
+scale false true a b c d k e f h = (e ∙ ap (λ (z : ℕ). z * k) (h .0) ∙ zero-mul k, f ∙ ap (λ (z : ℕ). z * k) (h .1) ∙ zero-mul k)
+scale true false a b c d k e f h = tt
+scale true true a b c d k e f h = let w : b * k ≤ a * k = mul-le-mul-right k h in omega arith
+
+-- ---- halving keeps the order
+half-is : (s : Bool) (m : ℕ) (e : ℤ) → fin s m e ⊘ f2 ≡ round binary32 s (m * up e * 1) (2 * down e)
+unfolding div ofBits
+half-is true m e = refl
+half-is false m e = refl
+
+twice-pos : (d : ℕ) → 0 < d → 0 < 2 * d
+twice-pos d h = omega arith
+
+half-le : (x y : Float) → T (finite x) → T (finite y) → T (le x y) → T (le (x ⊘ f2) (y ⊘ f2))
+unfolding le
+half-le nan y p q h = absurd p
+half-le (inf s) y p q h = absurd p
+half-le (fin s m e) nan p q h = absurd q
+half-le (fin s m e) (inf t) p q h = absurd q
+half-le (fin s m e) (fin t n d) p q h =
+    subst (λ (x : Float). T (le x (fin t n d ⊘ f2))) (sym (half-is s m e))
+    (subst (λ (y : Float). T (le (round binary32 s (m * up e * 1) (2 * down e)) y)) (sym (half-is t n d))
+    (round-le s (m * up e * 1) (2 * down e) t (n * up d * 1) (2 * down d) (twice-pos (down e) (down-pos e)) (twice-pos (down d) (down-pos d))
+    (scale s t (m * up e * down d) (n * up d * down e) (m * up e * 1 * (2 * down d)) (n * up d * 1 * (2 * down e)) 2 (omega arith) (omega arith)
+    (le→P s (m * up e * down d) t (n * up d * down e) h))))
+
+-- ---- a sum against twice a number
+abbrev twice : Float → Float
+twice nan = nan
+twice (inf s) = inf s
+twice (fin s m e) = round binary32 s (2 * (m * up e)) (down e)
+
+add-below : (x y z : Float) → T (finite x) → T (finite y) → T (finite z) → T (le x z) → T (le y z) → T (le (x ⊕ y) (twice z))
+unfolding le add
+add-below nan y z p q r h k = absurd p
+add-below (inf s) y z p q r h k = absurd p
+add-below (fin s m e) nan z p q r h k = absurd q
+add-below (fin s m e) (inf t) z p q r h k = absurd q
+add-below (fin s m e) (fin t n d) nan p q r h k = absurd r
+add-below (fin s m e) (fin t n d) (inf v) p q r h k = absurd r
+add-below (fin s m e) (fin t n d) (fin v o g) p q r h k =
+    sum-below (m * up e * down d) (n * up d * down e) (down e * down d) (o * up g) (down g) (mul-pos (down-pos e) (down-pos d)) (down-pos g) s t v
+    (scale s v (m * up e * down g) (o * up g * down e) (m * up e * down d * down g) (o * up g * (down e * down d)) (down d) (omega arith) (omega arith) (le→P s (m * up e * down g) v (o * up g * down e) h))
+    (scale t v (n * up d * down g) (o * up g * down d) (n * up d * down e * down g) (o * up g * (down e * down d)) (down e) (omega arith) (omega arith) (le→P t (n * up d * down g) v (o * up g * down d) k))
+
+add-above : (x y z : Float) → T (finite x) → T (finite y) → T (finite z) → T (le z x) → T (le z y) → T (le (twice z) (x ⊕ y))
+unfolding le add
+add-above nan y z p q r h k = absurd p
+add-above (inf s) y z p q r h k = absurd p
+add-above (fin s m e) nan z p q r h k = absurd q
+add-above (fin s m e) (inf t) z p q r h k = absurd q
+add-above (fin s m e) (fin t n d) nan p q r h k = absurd r
+add-above (fin s m e) (fin t n d) (inf v) p q r h k = absurd r
+add-above (fin s m e) (fin t n d) (fin v o g) p q r h k =
+    sum-above (m * up e * down d) (n * up d * down e) (down e * down d) (o * up g) (down g) (mul-pos (down-pos e) (down-pos d)) (down-pos g) s t v
+    (scale v s (o * up g * down e) (m * up e * down g) (o * up g * (down e * down d)) (m * up e * down d * down g) (down d) (omega arith) (omega arith) (le→P v (o * up g * down e) s (m * up e * down g) h))
+    (scale v t (o * up g * down d) (n * up d * down g) (o * up g * (down e * down d)) (n * up d * down e * down g) (down e) (omega arith) (omega arith) (le→P v (o * up g * down d) t (n * up d * down g) k))
+
+-- ---- an f32 below 2 ^ 127 is q * 2 ^ j units, and so is its double
+record Shape (n : ℕ) (g : ℤ) : Type 0 where
+  q : ℕ
+  j : ℕ
+  small : q < 2 ^ 24
+  room : q * 2 ^ suc j < 2 ^ 277
+  is : n * up g * 2 ^ 149 ≡ q * 2 ^ j * down g
+
+what-fits : (s : Bool) (m : ℕ) (e : ℤ) → T (fits binary32 (fin s (suc m) e)) → (suc m < 2 ^ 24) × (down e ≤ 2 ^ 149)
+unfolding fits
+what-fits s m e t =
+    let a = eqb (suc m % 2) 1 in
+    let b = ltb (suc m) (2 ^ 24) in
+    let c = leb (down e) (2 ^ 149) in
+    let d = ltb (suc m * up e) (2 ^ 128 * down e) in
+    let abc = and-l (a && b && c) d t in
+    (ltb→lt (suc m) (2 ^ 24) (and-r a b (and-l (a && b) c abc)), leb→le (down e) (2 ^ 149) (and-r (a && b) c abc))
+
+pow-le-back : (i j : ℕ) → 2 ^ i ≤ 2 ^ j → i ≤ j
+pow-le-back i j h = go (decLe i j)
+  where
+    go : Dec (i ≤ j) → i ≤ j
+    go (yes e) = e
+    go (no f) = absurd (not-le-of-lt (pow-lt (lt-of-not-le f)) h)
+
+shape-whole : (m k : ℕ) → m < 2 ^ 24 → m * 2 ^ k < 2 ^ 127 * 1 → Shape m (pos k)
+shape-whole m k h l =
+    let e : m * 2 ^ k * 2 ^ 149 ≡ m * 2 ^ (k + 149) = mul-assoc m (2 ^ k) (2 ^ 149) ∙ ap (λ (x : ℕ). m * x) (sym (pow-add 2 k 149)) in
+    let w : m * 2 ^ k * 2 ^ 150 ≡ m * 2 ^ (k + 150) = mul-assoc m (2 ^ k) (2 ^ 150) ∙ ap (λ (x : ℕ). m * x) (sym (pow-add 2 k 150)) in
+    record {
+      q = m;
+      j = k + 149;
+      small = h;
+      room = subst (λ (x : ℕ). x < 2 ^ 277) (w ∙ ap (λ (x : ℕ). m * 2 ^ x) (more k)) (mul-lt-mul-of-pos-right {m = m * 2 ^ k} {n = 2 ^ 127} l (pow-pos 150));
+      is = e ∙ sym (mul-one (m * 2 ^ (k + 149)));
+    }
+  where
+    more : (k : ℕ) → k + 150 ≡ suc (k + 149)
+    more k = omega arith
+
+shape-part : (m k : ℕ) → m < 2 ^ 24 → suc k ≤ 149 → Shape m (negsuc k)
+shape-part m k h l =
+    let g = 149 - suc k in
+    let e : g + suc k ≡ 149 = omega arith in
+    let p : 2 ^ g * 2 ^ suc k ≡ 2 ^ 149 = sym (pow-add 2 g (suc k)) ∙ ap (λ (x : ℕ). 2 ^ x) e in
+    record {
+      q = m;
+      j = g;
+      small = h;
+      room = lt-of-lt-of-le (shl-lt 24 (suc g) h) (pow-mono {i = 24 + suc g} {j = 277} (omega arith));
+      is = ap (λ (x : ℕ). x * 2 ^ 149) (mul-one m) ∙ ap (λ (x : ℕ). m * x) (sym p) ∙ sym (mul-assoc m (2 ^ g) (2 ^ suc k));
+    }
+
+shape : (s : Bool) (m : ℕ) (e : ℤ) → T (fits binary32 (fin s m e)) → m * up e < 2 ^ 127 * down e → Shape m e
+shape s zero e t h =
+    record {
+      q = 0;
+      j = 0;
+      small = lit< tt;
+      room = lit< tt;
+      is = ap (λ (x : ℕ). x * 2 ^ 149) (zero-mul (up e)) ∙ sym (zero-mul (down e));
+    }
+shape s (suc m) (pos k) t h = shape-whole (suc m) k (what-fits s m (pos k) t .0) h
+shape s (suc m) (negsuc k) t h = let w = what-fits s m (negsuc k) t in shape-part (suc m) k (w .0) (pow-le-back (suc k) 149 (w .1))
+
+-- ---- doubling and halving is the identity there
+same-value : (x y : Float) (s : Bool) (a c : ℕ) → 0 < c → HasValue x s a c → HasValue y s a c → T (le x y)
+unfolding le
+same-value nan y s a c C h k = absurd h
+same-value (inf t) y s a c C h k = absurd h
+same-value (fin t m e) nan s a c C h k = absurd k
+same-value (fin t m e) (inf u) s a c C h k = absurd k
+same-value (fin t m e) (fin u n d) s a c C h k =
+    let up-to : m * up e * down d ≤ n * up d * down e = transfer (m * up e) (n * up d) (down e) (down d) a a c c C C (h .1) (k .1) (le-of-eq refl) in
+    let back : n * up d * down e ≤ m * up e * down d = transfer (n * up d) (m * up e) (down d) (down e) a a c c C C (k .1) (h .1) (le-of-eq refl) in
+    P→le t (m * up e * down d) u (n * up d * down e) (at t u (h .0 ∙ sym (k .0)) up-to back)
+  where
+    at : (t u : Bool) {p q : ℕ} → t ≡ u → p ≤ q → q ≤ p → LeP t p u q
+    at false false e l r = l
+    at true true e l r = r
+    at false true e l r = absurd (true≢false (sym e))
+    at true false e l r = absurd (true≢false e)
+
+half-value : (y : Float) (s : Bool) (a c : ℕ) → 0 < c → HasValue y s (2 * a) c → y ⊘ f2 ≡ round binary32 s a c
+half-value nan s a c C h = absurd h
+half-value (inf t) s a c C h = absurd h
+half-value (fin t m e) s a c C h =
+    let v : m * up e * c ≡ 2 * a * down e = h .1 in
+    half-is t m e
+    ∙ ap (λ (b : Bool). round binary32 b (m * up e * 1) (2 * down e)) (h .0)
+    ∙ round-same binary32 s (m * up e * 1) (2 * down e) a c (twice-pos (down e) (down-pos e)) C (omega arith)
+
+value-finite : (y : Float) (s : Bool) (a c : ℕ) → HasValue y s a c → T (finite y)
+value-finite nan s a c h = absurd h
+value-finite (inf t) s a c h = absurd h
+value-finite (fin t m e) s a c h = tt
+
+record Halves (z : Float) : Type 0 where
+  whole : T (finite (twice z))
+  below : T (le z (twice z ⊘ f2))
+  above : T (le (twice z ⊘ f2) z)
+
+halves : (s : Bool) (m : ℕ) (e : ℤ) → T (fits binary32 (fin s m e)) → m * up e < 2 ^ 127 * down e → Halves (fin s m e)
+halves s m e t h =
+    let w = shape s m e t h in
+    let a = m * up e in
+    let c = down e in
+    let d : HasValue (round binary32 s (2 * a) c) s (2 * a) c = round-exact binary32 s (2 * a) c (w .q) (suc (w .j)) (down-pos e) (w .small) (w .room) (doubled a c (w .q) (w .j) (2 ^ 149) (w .is)) in
+    let v : HasValue (round binary32 s a c) s a c = round-exact binary32 s a c (w .q) (w .j) (down-pos e) (w .small) (half-room (w .q) (w .j) (w .room)) (w .is) in
+    let b : HasValue (twice (fin s m e) ⊘ f2) s a c = subst (λ (y : Float). HasValue y s a c) (sym (half-value (twice (fin s m e)) s a c (down-pos e) d)) v in
+    record {
+      whole = value-finite (twice (fin s m e)) s (2 * a) c d;
+      below = same-value (fin s m e) (twice (fin s m e) ⊘ f2) s a c (down-pos e) (refl, refl) b;
+      above = same-value (twice (fin s m e) ⊘ f2) (fin s m e) s a c (down-pos e) b (refl, refl);
+    }
+  where
+    doubled : (a c q j u : ℕ) → a * u ≡ q * 2 ^ j * c → 2 * a * u ≡ q * 2 ^ suc j * c
+    doubled a c q j u e = rw pow-suc (omega arith)
+
+    half-room : (q j : ℕ) → q * 2 ^ suc j < 2 ^ 277 → q * 2 ^ j < 2 ^ 277
+    half-room q j h = lt-of-le-of-lt (rw pow-suc (more q (2 ^ j))) h
+      where
+        more : (q p : ℕ) → q * p ≤ q * (p * 2)
+        more q p = omega arith
+
+-- ---- the bound that keeps sums finite: 2 ^ 127
+abbrev pub top : Float
+top = ofBits binary32 0x7f00_0000
+
+pub record Within (x : Float) : Type 0 where
+  pub one : T (fits binary32 x)
+  pub low : T (lt (neg top) x)
+  pub high : T (lt x top)
+
+top-is : top ≡ fin false 1 (pos 127)
+unfolding ofBits
+top-is = refl
+
+neg-top : neg top ≡ fin true 1 (pos 127)
+unfolding ofBits neg
+neg-top = refl
+
+under : (n k d : ℕ) → n * 1 < 1 * k * d → n < k * d
+under n k d h = omega arith
+
+small : (x : Float) → T (lt (fin true 1 (pos 127)) x) → T (lt x (fin false 1 (pos 127))) → T (fits binary32 x) → Halves x
+unfolding lt
+small nan h k f = absurd h
+small (inf true) h k f = absurd h
+small (inf false) h k f = absurd k
+small (fin false m e) h k f = halves false m e f (under (m * up e) (2 ^ 127) (down e) (ltb→lt (m * up e * 1) (1 * 2 ^ 127 * down e) k))
+small (fin true m e) h k f = halves true m e f (under (m * up e) (2 ^ 127) (down e) (ltb→lt (m * up e * 1) (1 * 2 ^ 127 * down e) h))
+
+within-halves : (x : Float) → Within x → Halves x
+within-halves x w = small x (subst (λ (y : Float). T (lt y x)) neg-top (w .low)) (subst (λ (y : Float). T (lt x y)) top-is (w .high)) (w .one)
+
+pub within-finite : (x : Float) → Within x → T (finite x)
+within-finite x w = go x (within-halves x w .whole)
+  where
+    go : (x : Float) → T (finite (twice x)) → T (finite x)
+    go nan h = h
+    go (inf s) h = h
+    go (fin s m e) h = tt
+
+-- 1e38 is below it
+abbrev pub most : Float
+most = ofBits binary32 0x7e96_7699
+
+most-top : T (lt most top) × T (lt (neg top) (neg most))
+unfolding ofBits neg lt
+most-top = (tt, tt)
+
+pub within-most : (x : Float) → T (fits binary32 x) → T (le (neg most) x) → T (le x most) → Within x
+within-most x f l h = record { one = f; low = order.lt-le-trans (neg top) (neg most) x (most-top .1) l; high = order.le-lt-trans x most top h (most-top .0) }
+
+-- ---- the midpoint lies between
+finite-between : (x y z : Float) → T (finite x) → T (finite z) → T (le x y) → T (le y z) → T (finite y)
+unfolding le
+finite-between nan y z p q h k = absurd p
+finite-between (inf s) y z p q h k = absurd p
+finite-between (fin s m e) nan z p q h k = absurd h
+finite-between (fin s m e) (inf true) z p q h k = absurd h
+finite-between (fin s m e) (inf false) nan p q h k = absurd q
+finite-between (fin s m e) (inf false) (inf u) p q h k = absurd q
+finite-between (fin s m e) (inf false) (fin u o g) p q h k = absurd k
+finite-between (fin s m e) (fin t n d) z p q h k = tt
+
+abbrev mid : Float → Float → Float
+mid x y = (x ⊕ y) ⊘ f2
+
+-- of two between lo and hi
+between : (lo hi x y : Float) → Within lo → Within hi → T (finite x) → T (finite y) → T (le lo x) → T (le lo y) → T (le x hi) → T (le y hi) → T (le lo (mid x y)) × T (le (mid x y) hi)
+between lo hi x y l h p q lx ly xh yh =
+    let l2 = within-halves lo l in
+    let h2 = within-halves hi h in
+    let up-from : T (le (twice lo) (x ⊕ y)) = add-above x y lo p q (within-finite lo l) lx ly in
+    let down-from : T (le (x ⊕ y) (twice hi)) = add-below x y hi p q (within-finite hi h) xh yh in
+    let f : T (finite (x ⊕ y)) = finite-between (twice lo) (x ⊕ y) (twice hi) (l2 .whole) (h2 .whole) up-from down-from in (
+      order.le-trans lo (twice lo ⊘ f2) (mid x y) (l2 .below) (half-le (twice lo) (x ⊕ y) (l2 .whole) f up-from),
+      order.le-trans (mid x y) (twice hi ⊘ f2) hi (half-le (x ⊕ y) (twice hi) f (h2 .whole) down-from) (h2 .above),
+    )
+
+module _ (x y : Float) (wx : Within x) (wy : Within y) where
+  -- from the smaller to the larger
+  record Lies (lo hi : Float) : Type 0 where
+    low : T (le lo (mid x y))
+    high : T (le (mid x y) hi)
+
+  lies : Lies x y ⊎ Lies y x
+  lies =
+      let nx = order.no-nan-l x top (order.lt→le x top (wx .high)) in
+      let ny = order.no-nan-l y top (order.lt→le y top (wy .high)) in
+      let fx = within-finite x wx in
+      let fy = within-finite y wy in
+      elim (order.le-total x y nx ny) [
+        | inl h ↦ let b = between x y x y wx wy fx fy (order.le-refl x nx) h h (order.le-refl y ny) in inl (record { low = b .0; high = b .1 })
+        | inr h ↦ let b = between y x x y wy wx fx fy h (order.le-refl y ny) (order.le-refl x nx) h in inr (record { low = b .0; high = b .1 })
+      ]
+
+  pub mid-le : (z : Float) → T (le x z) → T (le y z) → T (le (mid x y) z)
+  mid-le z h k = elim lies [ inl l ↦ order.le-trans (mid x y) y z (l .high) k | inr l ↦ order.le-trans (mid x y) x z (l .high) h ]
+
+  pub le-mid : (z : Float) → T (le z x) → T (le z y) → T (le z (mid x y))
+  le-mid z h k = elim lies [ inl l ↦ order.le-trans z x (mid x y) h (l .low) | inr l ↦ order.le-trans z y (mid x y) k (l .low) ]
+
+  pub mid-lt : (z : Float) → T (lt x z) → T (lt y z) → T (lt (mid x y) z)
+  mid-lt z h k = elim lies [ inl l ↦ order.le-lt-trans (mid x y) y z (l .high) k | inr l ↦ order.le-lt-trans (mid x y) x z (l .high) h ]
+
+  pub lt-mid : (z : Float) → T (lt z x) → T (lt z y) → T (lt z (mid x y))
+  lt-mid z h k = elim lies [ inl l ↦ order.lt-le-trans z x (mid x y) h (l .low) | inr l ↦ order.lt-le-trans z y (mid x y) k (l .low) ]
+
+  pub mid-within : Within (mid x y)
+  mid-within = record { one = div-fits binary32 (x ⊕ y) f2; low = lt-mid (neg top) (wx .low) (wy .low); high = mid-lt top (wx .high) (wy .high) }

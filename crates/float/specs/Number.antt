@@ -1,0 +1,24 @@
+-- What the source takes from the language: the sign cleared, the clamp, the whole part. `finite` is lib.Ieee.Scale's.
+use mathlib.Core.Bool.{true, false, cond}
+use lib.IntN.{ℤ, pos}
+use lib.Ieee.{Float, nan, inf, fin, binary32, lt, ofInt, toSigned}
+use Prim.Native.Nat.{ℕ}
+use Rattle.float.specs.F32.{f0, f1}
+
+-- the sign cleared
+unfoldable pub magnitudeOf : Float → Float
+magnitudeOf nan = nan
+magnitudeOf (inf s) = inf false
+magnitudeOf (fin s m e) = fin false m e
+
+-- below 0 to 0, above 1 to 1, else unchanged: -0 and not-a-number stay
+unfoldable pub clampOf : Float → Float
+clampOf x = cond (lt x f0) f0 (cond (lt f1 x) f1 x)
+
+-- the whole part toward zero, as a signed number; beyond 64 bits the nearest end, and 0 for not-a-number
+abbrev pub wholeOf : Float → ℤ
+wholeOf x = toSigned 63 x
+
+-- a whole number as an f32
+abbrev pub countOf : ℕ → Float
+countOf i = ofInt binary32 (pos i)

@@ -1,0 +1,11 @@
+pub mod Whole
+pub mod Near
+pub mod Values
+pub mod Shift
+pub mod Cases
+pub mod Nearest
+pub mod Order
+pub mod Patterns
+pub mod Threshold
+pub mod Theorems
+pub mod Prints

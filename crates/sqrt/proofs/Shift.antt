@@ -1,0 +1,117 @@
+-- The shifts of `root_of`: the significand m moved up by its leading zeros, and then by 23 or 24, is the n of 47 or 48 digits whose root is taken. Assumes nothing.
+use mathlib.Core.Path.{_≡_, sym, ap, _∙_, subst}
+use Prim.Native.Nat.{ℕ, suc, _+_, _-_, _*_, _/_, _%_, _^_, _≤_, _<_}
+use native.Mathlib.Nat.{mod-eq-of-lt, not-le-of-lt, lt-of-not-le, le-trans, lt-of-lt-of-le, mul-assoc, mul-le-mul-right, mul-le-mul}
+use native.Mathlib.Decide.{decLe}
+use native.Mathlib.Omega.{arith}
+use lib.Pow.{pow-mono, pow-add, shl-lt, shl-exact}
+use lib.Count.{leadingZeros, leading-top}
+use lib.Ieee.{binary32, ofBits}
+use Rattle.sqrt.specs.Root.{nearestRoot}
+use Rattle.sqrt.proofs.Near.{Near, order, four-pow, nearestRoot-at}
+use Rattle.sqrt.proofs.Values.{pattern}
+
+-- m moved up until it has 24 digits
+abbrev pub zeros : ℕ → ℕ
+zeros m = leadingZeros 32 m - 8
+
+pub record Moved (m : ℕ) : Type 0 where
+  pub enough : 8 ≤ leadingZeros 32 m
+  pub few : zeros m ≤ 23
+  pub low : 2 ^ 23 ≤ m * 2 ^ zeros m
+  pub high : m * 2 ^ zeros m < 2 ^ 24
+
+pub pow-back : (i j m : ℕ) → 2 ^ i ≤ m → m < 2 ^ j → i < j
+pow-back i j m h k = go (decLe j i)
+  where
+    go : Dec (j ≤ i) → i < j
+    go (yes e) = absurd (not-le-of-lt k (le-trans (pow-mono e) h))
+    go (no f) = lt-of-not-le f
+
+pub moved : (m : ℕ) → 0 < m → m < 2 ^ 24 → Moved m
+moved m p h =
+    let t = leading-top 32 m p (lt-of-lt-of-le h (pow-mono {i = 24} {j = 32} (omega arith))) in
+    let j = t .0 in
+    let e : leadingZeros 32 m + suc j ≡ 32 = t .1 in
+    let lo : 2 ^ j ≤ m = t .2 in
+    let hi : m < 2 ^ suc j = t .3 in
+    let j-lt : j < 24 = pow-back j 24 m lo h in
+    let e1 : j + zeros m ≡ 23 = omega arith in
+    let e2 : suc j + zeros m ≡ 24 = omega arith in
+    record {
+      enough = omega arith;
+      few = omega arith;
+      low = subst (λ (x : ℕ). x ≤ m * 2 ^ zeros m) (sym (pow-add 2 j (zeros m)) ∙ ap (λ (x : ℕ). 2 ^ x) e1) (mul-le-mul-right (2 ^ zeros m) lo);
+      high = subst (λ (x : ℕ). m * 2 ^ zeros m < 2 ^ x) e2 (shl-lt (suc j) (zeros m) hi);
+    }
+
+-- as the machine has it, cut to 32 bits
+pub moved-exact : (m : ℕ) → 0 < m → m < 2 ^ 24 → m * 2 ^ zeros m % 2 ^ 32 ≡ m * 2 ^ zeros m
+moved-exact m p h = mod-eq-of-lt (lt-of-lt-of-le (moved m p h .high) (pow-mono {i = 24} {j = 32} (omega arith)))
+
+-- the n of `root_of`, c being field + 127 - zeros m
+abbrev pub scaled : ℕ → ℕ → ℕ
+scaled m c = m * 2 ^ zeros m * 2 ^ (23 + c % 2)
+
+-- n as the machine has it, each shift cut to its word's width
+pub exact : (m c : ℕ) → 0 < m → m < 2 ^ 24 → (m * 2 ^ zeros m % 2 ^ 32) * 2 ^ (23 + c % 2) % 2 ^ 64 ≡ scaled m c
+exact m c p h =
+    let s = moved m p h in
+    ap (λ (x : ℕ). x * 2 ^ (23 + c % 2) % 2 ^ 64) (moved-exact m p h)
+    ∙ shl-exact 24 (23 + c % 2) 64 (s .high) (omega arith)
+
+pub scaled-low : (m c : ℕ) → 0 < m → m < 2 ^ 24 → 2 ^ 46 ≤ scaled m c
+scaled-low m c p h = let g : 2 ^ 23 ≤ 2 ^ (23 + c % 2) = pow-mono {i = 23} {j = 23 + c % 2} (omega arith) in mul-le-mul (moved m p h .low) g
+
+pub scaled-high : (m c : ℕ) → 0 < m → m < 2 ^ 24 → scaled m c ≤ (2 ^ 24 - 1) * 2 ^ 24
+scaled-high m c p h =
+    let s : m * 2 ^ zeros m < 2 ^ 24 = moved m p h .high in
+    let t : m * 2 ^ zeros m ≤ 2 ^ 24 - 1 = omega arith in
+    let g : 2 ^ (23 + c % 2) ≤ 2 ^ 24 = pow-mono {i = 23 + c % 2} {j = 24} (omega arith) in
+    mul-le-mul t g
+
+-- what is rooted is n times a power of four
+pub regroup : (m f : ℕ) → 0 < m → m < 2 ^ 24 → 0 < f → m * 2 ^ (f - 1) * 2 ^ 149 ≡ scaled m (f + 127 - zeros m) * 4 ^ ((f + 127 - zeros m) / 2 - 1)
+regroup m f p h g =
+    let z = zeros m in
+    let c = f + 127 - z in
+    let k = c / 2 - 1 in
+    let few : z ≤ 23 = moved m p h .few in
+    let e : f - 1 + 149 ≡ z + (23 + c % 2 + (k + k)) = omega arith in
+    mul-assoc m (2 ^ (f - 1)) (2 ^ 149)
+    ∙ ap (λ (x : ℕ). m * x) (sym (pow-add 2 (f - 1) 149) ∙ ap (λ (x : ℕ). 2 ^ x) e ∙ pow-add 2 z (23 + c % 2 + (k + k)) ∙ ap (λ (x : ℕ). 2 ^ z * x) (pow-add 2 (23 + c % 2) (k + k)))
+    ∙ sym (mul-assoc m (2 ^ z) (2 ^ (23 + c % 2) * 2 ^ (k + k)))
+    ∙ sym (mul-assoc (m * 2 ^ z) (2 ^ (23 + c % 2)) (2 ^ (k + k)))
+    ∙ ap (λ (x : ℕ). scaled m c * x) (pow-add 2 k k ∙ sym (four-pow k))
+
+-- ---- from the whole number nearest to the root of n to the root's pattern
+
+-- the k of `root_of`: how many of the root's digits, in units, are dropped
+abbrev pub dropped : ℕ → ℕ → ℕ
+dropped m f = (f + 127 - zeros m) / 2 - 1
+
+pub record Found (m f q : ℕ) : Type 0 where
+  pub low : 2 ^ 23 ≤ q
+  pub high : q < 2 ^ 24
+  pub least : 1 ≤ (f + 127 - zeros m) / 2
+  pub most : dropped m f < 200
+  pub is : ofBits binary32 (dropped m f * 8388608 + q) ≡ nearestRoot (m * 2 ^ (f - 1) * 2 ^ 149)
+
+pub found : (m f q : ℕ) → 0 < m → m < 2 ^ 24 → 0 < f → f < 255 → Near (scaled m (f + 127 - zeros m)) q → Found m f q
+found m f q p h g l near =
+    let n = scaled m (f + 127 - zeros m) in
+    let few : zeros m ≤ 23 = moved m p h .few in
+    let lo : 2 ^ 46 ≤ n = scaled-low m (f + 127 - zeros m) p h in
+    let hi : n ≤ (2 ^ 24 - 1) * 2 ^ 24 = scaled-high m (f + 127 - zeros m) p h in
+    let q-hi : q ≤ 2 ^ 24 - 1 = order n (2 ^ 24 - 1) q (omega arith) (near .0) in
+    let q-lo : 2 ^ 23 ≤ q = order n q (2 ^ 23) (near .1) (omega arith) in
+    let q-lt : q < 2 ^ 24 = omega arith in
+    let n-lt : n < 2 ^ 48 = omega arith in
+    let k-lt : dropped m f < 200 = omega arith in
+    record {
+      low = q-lo;
+      high = q-lt;
+      least = omega arith;
+      most = k-lt;
+      is = pattern q (dropped m f) q-lo q-lt k-lt ∙ sym (nearestRoot-at n (dropped m f) q lo n-lt near) ∙ ap nearestRoot (sym (regroup m f p h g));
+    }

@@ -1,0 +1,97 @@
+-- The f32 patterns above zero: which number of units of 2 ^ -149 each stands for, and that q * 2 ^ k units, for a q of 24 digits, is the pattern k * 2 ^ 23 + q. Assumes nothing.
+use mathlib.Core.Path.{_≡_, refl, sym, ap, _∙_, subst}
+use Prim.Native.Nat.{ℕ, zero, suc, _+_, _-_, _*_, _/_, _%_, _^_, _≤_, _<_}
+use native.Mathlib.Nat.{not-le-of-lt, lt-of-lt-of-le}
+use native.Mathlib.Omega.{arith}
+use mathlib.Core.Bool.{Bool, false, not, cond}
+use lib.Dec.{T, leb, ltb, eqb, leb→le, lt→ltb, ltb→lt, eqb→eq, not-T}
+use lib.Pow.{pow-mono, shl-lt}
+use lib.Count.{trailingZeros, under}
+use lib.Ieee.{Float, nan, inf, fin, binary32, odd, units, minus, ofFields, ofBits, nanBits, isNan, ne}
+use lib.Ieee.Bits.{is-true, is-false, cond-no, nanBits-above}
+use Rattle.float.proofs.Order.{ne-self}
+
+-- ---- what a pattern stands for
+
+pub ofBits-is : (b : ℕ) → ofBits binary32 b ≡ ofFields binary32 (leb 2147483648 b) (b % 2147483648 / 8388608) (b % 8388608)
+unfolding ofBits
+ofBits-is b = refl
+
+under-ones : (s : Bool) (x t : ℕ) → suc x < 255 → ofFields binary32 s (suc x) t ≡ odd 24 s (8388608 + t) x 149
+unfolding ofFields
+under-ones s x t h = cond-no (eqb (suc x) 255) (cond (eqb t 0) (inf s) nan) (odd 24 s (8388608 + t) x 149) (not-T (eqb (suc x) 255) (λ (u : T (eqb (suc x) 255)). differ (eqb→eq (suc x) 255 u)))
+  where
+    differ : suc x ≡ 255 → ⊥
+    differ e = omega arith
+
+sign-clear : (b : ℕ) → b < 2147483648 → leb 2147483648 b ≡ false
+sign-clear b h = is-false (leb 2147483648 b) (not-T (leb 2147483648 b) (λ (u : T (leb 2147483648 b)). not-le-of-lt h (leb→le 2147483648 b u)))
+
+-- the exponent's field is x + 1 and the digits are t: 8388608 + t times 2 ^ x
+pub normal : (b x t : ℕ) → b ≡ suc x * 8388608 + t → t < 8388608 → suc x < 255 → ofBits binary32 b ≡ odd 24 false (8388608 + t) x 149
+normal b x t e l h =
+    let small : b < 2147483648 = omega arith in
+    let ef : b % 2147483648 / 8388608 ≡ suc x = omega arith in
+    let et : b % 8388608 ≡ t = omega arith in
+    ofBits-is b
+    ∙ ap (λ (s : Bool). ofFields binary32 s (b % 2147483648 / 8388608) (b % 8388608)) (sign-clear b small)
+    ∙ ap (λ (f : ℕ). ofFields binary32 false f (b % 8388608)) ef
+    ∙ ap (λ (d : ℕ). ofFields binary32 false (suc x) d) et
+    ∙ under-ones false x t h
+
+-- the exponent's field is 0: as many units
+pub subnormal : (b : ℕ) → b < 8388608 → ofBits binary32 b ≡ odd 24 false b 0 149
+unfolding ofFields
+subnormal b h =
+    let small : b < 2147483648 = omega arith in
+    let ef : b % 2147483648 / 8388608 ≡ 0 = omega arith in
+    let et : b % 8388608 ≡ b = omega arith in
+    ofBits-is b
+    ∙ ap (λ (s : Bool). ofFields binary32 s (b % 2147483648 / 8388608) (b % 8388608)) (sign-clear b small)
+    ∙ ap (λ (f : ℕ). ofFields binary32 false f (b % 8388608)) ef
+    ∙ ap (λ (d : ℕ). ofFields binary32 false 0 d) et
+
+-- ---- q * 2 ^ k units as a pattern
+
+tz-more : (d n : ℕ) → 0 < n → n < 2 ^ d → trailingZeros (suc d) n ≡ trailingZeros d n
+unfolding trailingZeros
+tz-more zero n p h = absurd (omega arith)
+tz-more (suc d) n p h = go (n % 2) refl (tz-more d (n / 2))
+  where
+    go : (r : ℕ) → n % 2 ≡ r → (0 < n / 2 → n / 2 < 2 ^ d → trailingZeros (suc d) (n / 2) ≡ trailingZeros d (n / 2)) → under r (trailingZeros (suc d) (n / 2)) ≡ under r (trailingZeros d (n / 2))
+    go zero e ih = ap suc (ih (omega arith) (omega arith))
+    go (suc r) e ih = refl
+
+odd-more : (d : ℕ) (s : Bool) (q k l : ℕ) → 0 < q → q < 2 ^ d → odd (suc d) s q k l ≡ odd d s q k l
+unfolding odd
+odd-more d s zero k l p h = absurd (omega arith)
+odd-more d s (suc q) k l p h = ap (λ (t : ℕ). fin s (suc q / 2 ^ t) (minus (k + t) l)) (tz-more d (suc q) p h)
+
+pub units-is : (q k : ℕ) → q * 2 ^ k < 2 ^ 277 → units binary32 false q k ≡ odd 25 false q k 149
+unfolding units
+units-is q k h = ap (λ (b : Bool). cond b (odd 25 false q k 149) (inf false)) (is-true (ltb (q * 2 ^ k) (2 ^ 277)) (lt→ltb (q * 2 ^ k) (2 ^ 277) h))
+
+pub pattern : (q k : ℕ) → 2 ^ 23 ≤ q → q < 2 ^ 24 → k < 200 → ofBits binary32 (k * 8388608 + q) ≡ units binary32 false q k
+pattern q k lo hi h =
+    let t = q - 8388608 in
+    let e : 8388608 + t ≡ q = omega arith in
+    let room : q * 2 ^ k < 2 ^ 277 = lt-of-lt-of-le (shl-lt 24 k hi) (pow-mono {i = 24 + k} {j = 277} (omega arith)) in
+    normal (k * 8388608 + q) k t (omega arith) (omega arith) (omega arith)
+    ∙ ap (λ (x : ℕ). odd 24 false x k 149) e
+    ∙ sym (odd-more 24 false q k 149 (omega arith) hi)
+    ∙ sym (units-is q k room)
+
+-- ---- what `from_bits` and `to_bits` ask
+
+-- a pattern up to the infinity's is no NaN's
+pub number-pattern : (b : ℕ) → b ≤ 2139095040 → T (not (nanBits binary32 b))
+number-pattern b h =
+    subst (λ (x : Bool). T (not x)) (sym (nanBits-above binary32 b))
+    (not-T (ltb 2139095040 (b % 2147483648)) (λ (u : T (ltb 2139095040 (b % 2147483648))). over (ltb→lt 2139095040 (b % 2147483648) u)))
+  where
+    over : 2139095040 < b % 2147483648 → ⊥
+    over k = omega arith
+
+-- `x != x` was false: x is no NaN
+pub is-number : (x : Float) → ne x x ≡ false → T (not (isNan x))
+is-number x h = subst (λ (b : Bool). T (not b)) (sym h ∙ ne-self x) tt

@@ -1,0 +1,20 @@
+-- `sqrt::half_root::passes` meets its contract, from what `root` ensures. Assumes nothing.
+use mathlib.Core.Path.{ap}
+use borrow.Author.Needs.{needs}
+use lib.Ieee.{Float, lt}
+use Rattle.sqrt.specs.Cutoff.{halved}
+use Rattle.sqrt.proofs.Values.{number-pattern}
+use Rattle.sqrt.proofs.half_root.passes.Statement.{statement}
+use Rattle.sqrt.proofs.half_root.passes.Tie as tie
+
+float-from-bits-root : tie.Need-float-from-bits-root
+float-from-bits-root c = number-pattern (c .args .b) (c .pre)
+
+root-requires : tie.Need-root-requires
+root-requires c κs = search needs
+
+returns : tie.Need-returns
+returns c = ap (λ (r : Float). lt (c .before .args .t) (halved r)) (c .root .ensures)
+
+pub passes-spec : {M : Type 1} → statement M
+passes-spec = tie.close (tie.spec float-from-bits-root root-requires returns)
