@@ -11,76 +11,48 @@ use mathlib.Core.Bool.{Bool, true, false, _&&_, true≢false}
 use lib.Dec.{T, leb, ltb, eqb, leb→le, ltb→lt, lit<}
 use lib.IntN.{ℤ, pos, negsuc}
 use lib.Pow.{pow-add, pow-pos, pow-mono, pow-lt, shl-lt}
-use lib.Ieee.{Float, nan, inf, fin, binary32, up, down, round, add, div, neg, ofBits, le, lt, fits}
+use lib.Ieee.{Float, nan, inf, fin, binary32, up, down, round, div, neg, ofBits, le, lt, fits}
 use lib.Ieee.Fits.{and-l, and-r, down-pos, div-fits}
 use lib.Ieee.Exact.{HasValue, round-exact}
 use lib.Ieee.Order.{transfer}
+use lib.Ieee.Positive.{den, den-pos}
 use lib.Ieee.Scale.{round-same, finite}
 use Rattle.float.specs.F32.{_⊕_, _⊘_, f2}
+use Rattle.float.specs.Number.{top, Within}
 use Rattle.float.proofs.Order as order
-use Rattle.float.proofs.Order.{LeP, le→P, P→le}
-use Rattle.float.proofs.Rounding.{round-le, sum-below, sum-above}
+use Rattle.float.proofs.Order.{LeP, P→le}
+use Rattle.float.proofs.Rounding.{Rounds, rounds-le, round-rounds, pro, con, le→linear, add-rounds, half-rounds}
 
--- ---- the order of fractions, scaled
-scale : (s t : Bool) (a b c d k : ℕ) → c ≡ a * k → d ≡ b * k → LeP s a t b → LeP s c t d
-scale false false a b c d k e f h = let w : a * k ≤ b * k = mul-le-mul-right k h in omega arith
-scale false true a b c d k e f h = (e ∙ ap (λ (z : ℕ). z * k) (h .0) ∙ zero-mul k, f ∙ ap (λ (z : ℕ). z * k) (h .1) ∙ zero-mul k)
-scale true false a b c d k e f h = tt
-scale true true a b c d k e f h = let w : b * k ≤ a * k = mul-le-mul-right k h in omega arith
-
--- ---- halving keeps the order
-half-is : (s : Bool) (m : ℕ) (e : ℤ) → fin s m e ⊘ f2 ≡ round binary32 s (m * up e * 1) (2 * down e)
-unfolding div ofBits
-half-is true m e = refl
-half-is false m e = refl
-
+-- ---- halving keeps the order, and a sum lies on the same side of twice a number as both terms of the number
 twice-pos : (d : ℕ) → 0 < d → 0 < 2 * d
 twice-pos d h = omega arith
 
 half-le : (x y : Float) → T (finite x) → T (finite y) → T (le x y) → T (le (x ⊘ f2) (y ⊘ f2))
-unfolding le
-half-le nan y p q h = absurd p
-half-le (inf s) y p q h = absurd p
-half-le (fin s m e) nan p q h = absurd q
-half-le (fin s m e) (inf t) p q h = absurd q
-half-le (fin s m e) (fin t n d) p q h =
-    subst (λ (x : Float). T (le x (fin t n d ⊘ f2))) (sym (half-is s m e))
-    (subst (λ (y : Float). T (le (round binary32 s (m * up e * 1) (2 * down e)) y)) (sym (half-is t n d))
-    (round-le s (m * up e * 1) (2 * down e) t (n * up d * 1) (2 * down d) (twice-pos (down e) (down-pos e)) (twice-pos (down d) (down-pos d))
-    (scale s t (m * up e * down d) (n * up d * down e) (m * up e * 1 * (2 * down d)) (n * up d * 1 * (2 * down e)) 2 (omega arith) (omega arith)
-    (le→P s (m * up e * down d) t (n * up d * down e) h))))
+half-le x y p q h = let l = le→linear x y p q h in rounds-le (half-rounds x p) (half-rounds y q) (twice-pos (den x) (den-pos x)) (twice-pos (den y) (den-pos y)) (omega arith)
 
--- ---- a sum against twice a number
 abbrev twice : Float → Float
 twice nan = nan
 twice (inf s) = inf s
 twice (fin s m e) = round binary32 s (2 * (m * up e)) (down e)
 
-add-below : (x y z : Float) → T (finite x) → T (finite y) → T (finite z) → T (le x z) → T (le y z) → T (le (x ⊕ y) (twice z))
-unfolding le add
-add-below nan y z p q r h k = absurd p
-add-below (inf s) y z p q r h k = absurd p
-add-below (fin s m e) nan z p q r h k = absurd q
-add-below (fin s m e) (inf t) z p q r h k = absurd q
-add-below (fin s m e) (fin t n d) nan p q r h k = absurd r
-add-below (fin s m e) (fin t n d) (inf v) p q r h k = absurd r
-add-below (fin s m e) (fin t n d) (fin v o g) p q r h k =
-    sum-below (m * up e * down d) (n * up d * down e) (down e * down d) (o * up g) (down g) (mul-pos (down-pos e) (down-pos d)) (down-pos g) s t v
-    (scale s v (m * up e * down g) (o * up g * down e) (m * up e * down d * down g) (o * up g * (down e * down d)) (down d) (omega arith) (omega arith) (le→P s (m * up e * down g) v (o * up g * down e) h))
-    (scale t v (n * up d * down g) (o * up g * down d) (n * up d * down e * down g) (o * up g * (down e * down d)) (down e) (omega arith) (omega arith) (le→P t (n * up d * down g) v (o * up g * down d) k))
+twice-rounds : (z : Float) → T (finite z) → Rounds (twice z) (2 * pro z) (2 * con z) (den z)
+twice-rounds nan p = absurd p
+twice-rounds (inf s) p = absurd p
+twice-rounds (fin false m e) p = round-rounds false (2 * (m * up e)) (down e)
+twice-rounds (fin true m e) p = round-rounds true (2 * (m * up e)) (down e)
 
-add-above : (x y z : Float) → T (finite x) → T (finite y) → T (finite z) → T (le z x) → T (le z y) → T (le (twice z) (x ⊕ y))
-unfolding le add
-add-above nan y z p q r h k = absurd p
-add-above (inf s) y z p q r h k = absurd p
-add-above (fin s m e) nan z p q r h k = absurd q
-add-above (fin s m e) (inf t) z p q r h k = absurd q
-add-above (fin s m e) (fin t n d) nan p q r h k = absurd r
-add-above (fin s m e) (fin t n d) (inf v) p q r h k = absurd r
-add-above (fin s m e) (fin t n d) (fin v o g) p q r h k =
-    sum-above (m * up e * down d) (n * up d * down e) (down e * down d) (o * up g) (down g) (mul-pos (down-pos e) (down-pos d)) (down-pos g) s t v
-    (scale v s (o * up g * down e) (m * up e * down g) (o * up g * (down e * down d)) (m * up e * down d * down g) (down d) (omega arith) (omega arith) (le→P v (o * up g * down e) s (m * up e * down g) h))
-    (scale v t (o * up g * down d) (n * up d * down g) (o * up g * (down e * down d)) (n * up d * down e * down g) (down e) (omega arith) (omega arith) (le→P v (o * up g * down d) t (n * up d * down g) k))
+module _ (x y z : Float) (fx : T (finite x)) (fy : T (finite y)) (fz : T (finite z)) where
+  add-below : T (le x z) → T (le y z) → T (le (x ⊕ y) (twice z))
+  add-below h k =
+      let a = mul-le-mul-right (den y) (le→linear x z fx fz h) in
+      let b = mul-le-mul-right (den x) (le→linear y z fy fz k) in
+      rounds-le (add-rounds x y fx fy) (twice-rounds z fz) (mul-pos (den-pos x) (den-pos y)) (den-pos z) (omega arith)
+
+  add-above : T (le z x) → T (le z y) → T (le (twice z) (x ⊕ y))
+  add-above h k =
+      let a = mul-le-mul-right (den y) (le→linear z x fz fx h) in
+      let b = mul-le-mul-right (den x) (le→linear z y fz fy k) in
+      rounds-le (twice-rounds z fz) (add-rounds x y fx fy) (den-pos z) (mul-pos (den-pos x) (den-pos y)) (omega arith)
 
 -- ---- an f32 below 2 ^ 127 is q * 2 ^ j units, and so is its double
 record Shape (n : ℕ) (g : ℤ) : Type 0 where
@@ -165,6 +137,11 @@ same-value (fin t m e) (fin u n d) s a c C h k =
     at false true e l r = absurd (true≢false (sym e))
     at true false e l r = absurd (true≢false e)
 
+half-is : (s : Bool) (m : ℕ) (e : ℤ) → fin s m e ⊘ f2 ≡ round binary32 s (m * up e * 1) (2 * down e)
+unfolding div ofBits
+half-is true m e = refl
+half-is false m e = refl
+
 half-value : (y : Float) (s : Bool) (a c : ℕ) → 0 < c → HasValue y s (2 * a) c → y ⊘ f2 ≡ round binary32 s a c
 half-value nan s a c C h = absurd h
 half-value (inf t) s a c C h = absurd h
@@ -208,14 +185,6 @@ halves s m e t h =
         more q p = omega arith
 
 -- ---- the bound that keeps sums finite: 2 ^ 127
-abbrev pub top : Float
-top = ofBits binary32 0x7f00_0000
-
-pub record Within (x : Float) : Type 0 where
-  pub one : T (fits binary32 x)
-  pub low : T (lt (neg top) x)
-  pub high : T (lt x top)
-
 top-is : top ≡ fin false 1 (pos 127)
 unfolding ofBits
 top-is = refl
@@ -258,17 +227,6 @@ pub within-most : (x : Float) → T (fits binary32 x) → T (le (neg most) x) �
 within-most x f l h = record { one = f; low = order.lt-le-trans (neg top) (neg most) x (most-top .1) l; high = order.le-lt-trans x most top h (most-top .0) }
 
 -- ---- the midpoint lies between
-finite-between : (x y z : Float) → T (finite x) → T (finite z) → T (le x y) → T (le y z) → T (finite y)
-unfolding le
-finite-between nan y z p q h k = absurd p
-finite-between (inf s) y z p q h k = absurd p
-finite-between (fin s m e) nan z p q h k = absurd h
-finite-between (fin s m e) (inf true) z p q h k = absurd h
-finite-between (fin s m e) (inf false) nan p q h k = absurd q
-finite-between (fin s m e) (inf false) (inf u) p q h k = absurd q
-finite-between (fin s m e) (inf false) (fin u o g) p q h k = absurd k
-finite-between (fin s m e) (fin t n d) z p q h k = tt
-
 abbrev mid : Float → Float → Float
 mid x y = (x ⊕ y) ⊘ f2
 
@@ -279,7 +237,7 @@ between lo hi x y l h p q lx ly xh yh =
     let h2 = within-halves hi h in
     let up-from : T (le (twice lo) (x ⊕ y)) = add-above x y lo p q (within-finite lo l) lx ly in
     let down-from : T (le (x ⊕ y) (twice hi)) = add-below x y hi p q (within-finite hi h) xh yh in
-    let f : T (finite (x ⊕ y)) = finite-between (twice lo) (x ⊕ y) (twice hi) (l2 .whole) (h2 .whole) up-from down-from in (
+    let f : T (finite (x ⊕ y)) = order.finite-between (twice lo) (x ⊕ y) (twice hi) (l2 .whole) (h2 .whole) up-from down-from in (
       order.le-trans lo (twice lo ⊘ f2) (mid x y) (l2 .below) (half-le (twice lo) (x ⊕ y) (l2 .whole) f up-from),
       order.le-trans (mid x y) (twice hi ⊘ f2) hi (half-le (x ⊕ y) (twice hi) f (h2 .whole) down-from) (h2 .above),
     )

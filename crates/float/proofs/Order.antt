@@ -12,6 +12,7 @@ use lib.Ieee.{Float, nan, inf, fin, up, down, below, level, lt, eq, le, ne, isNa
 use lib.Ieee.Fits.{down-pos, and-l, and-r, and-i, eq→eqb}
 use lib.Ieee.Bits.{is-true}
 use lib.Ieee.Positive.{through}
+use lib.Ieee.Scale.{finite}
 use borrow.Author.Tests.{lt-ltb, le-ltb, eq-eqb, ne-eqb, ltb-true, ltb-false, eqb-true, eqb-false, not-false}
 
 -- ---- ±a ≤ ±b, as a statement on numbers
@@ -226,7 +227,7 @@ lt-irrefl (fin false m e) = le-ltb (m * up e * down e) (m * up e * down e) (omeg
 pub le-refl : (x : Float) → isNan x ≡ false → T (le x x)
 le-refl x p = not-lt→le x x p p (lt-irrefl x)
 
--- of two that are no NaN, one is at most the other
+-- of two that are no NaN, one is no more than the other
 pub le-total : (x y : Float) → isNan x ≡ false → isNan y ≡ false → T (le x y) ⊎ T (le y x)
 le-total x y p q = go (lt x y) refl
   where
@@ -247,3 +248,15 @@ ne-self (inf true) = refl
 ne-self (inf false) = refl
 ne-self (fin true m e) = simp (eq-eqb (m * up e * down e) (m * up e * down e) refl)
 ne-self (fin false m e) = simp (eq-eqb (m * up e * down e) (m * up e * down e) refl)
+
+-- between two finite values there are finite values only
+pub finite-between : (x y z : Float) → T (finite x) → T (finite z) → T (le x y) → T (le y z) → T (finite y)
+unfolding le
+finite-between nan y z p q h k = absurd p
+finite-between (inf s) y z p q h k = absurd p
+finite-between (fin s m e) nan z p q h k = absurd h
+finite-between (fin s m e) (inf true) z p q h k = absurd h
+finite-between (fin s m e) (inf false) nan p q h k = absurd q
+finite-between (fin s m e) (inf false) (inf u) p q h k = absurd q
+finite-between (fin s m e) (inf false) (fin u o g) p q h k = absurd k
+finite-between (fin s m e) (fin t n d) z p q h k = tt

@@ -1,7 +1,8 @@
 -- What the source takes from the language: the sign cleared, the clamp, the whole part. `finite` is lib.Ieee.Scale's.
 use mathlib.Core.Bool.{true, false, cond}
 use lib.IntN.{ℤ, pos}
-use lib.Ieee.{Float, nan, inf, fin, binary32, lt, ofInt, toSigned}
+use lib.Dec.{T}
+use lib.Ieee.{Float, nan, inf, fin, binary32, lt, neg, fits, ofInt, ofBits, toSigned}
 use Prim.Native.Nat.{ℕ}
 use Rattle.float.specs.F32.{f0, f1}
 
@@ -22,3 +23,12 @@ wholeOf x = toSigned 63 x
 -- a whole number as an f32
 abbrev pub countOf : ℕ → Float
 countOf i = ofInt binary32 (pos i)
+
+-- below 2 ^ 127 in size, so that the sum of two is finite
+abbrev pub top : Float
+top = ofBits binary32 0x7f00_0000
+
+pub record Within (x : Float) : Type 0 where
+  pub one : T (fits binary32 x)
+  pub low : T (lt (neg top) x)
+  pub high : T (lt x top)

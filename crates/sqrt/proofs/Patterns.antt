@@ -19,7 +19,7 @@ use Rattle.sqrt.proofs.Order.{le→counts, count-known, plain-number}
 use Rattle.sqrt.proofs.Cases.{count-of}
 use Rattle.sqrt.proofs.Values.{ofBits-is, normal, subnormal}
 
--- the f32 with the pattern b, and the infinity's pattern
+-- the f32 with the pattern b
 abbrev pub at : ℕ → Float
 at b = ofBits binary32 b
 
