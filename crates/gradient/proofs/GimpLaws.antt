@@ -1,0 +1,123 @@
+-- The check and the colour of GIMP segments, by the tests that the code makes. Assumes nothing.
+use mathlib.Core.Path.{_≡_, sym, _∙_, ap}
+use mathlib.Core.Bool.{Bool, true, false, _&&_}
+use mathlib.Core.List.{List}
+use Prim.Native.Nat.{ℕ, suc, _+_, _-_, _*_, _≤_, _<_}
+use native.Mathlib.Numerals.{add-one}
+use native.Mathlib.Omega.{arith}
+use lib.Dec.{leb, eqb}
+use lib.ListN.{length, getD, List·getD-eq-default}
+use lib.Ieee.{Float, le}
+use borrow.Author.Tests.{leb-true, eqb-true, eq-eqb, ne-eqb}
+use Rattle.float.proofs.Flags.{both-l, both-r}
+use Rattle.gradient.specs.Blend.{linear, black}
+use Rattle.gradient.specs.Stops.{colourAt}
+use Rattle.gradient.specs.Finite.{allFinite}
+use Rattle.gradient.specs.Gimp.{mostSegments, segments, leftAt, middleAt, rightAt, blendingAt, colouringAt, stepCode, increasingCode, decreasingCode, carried, allCarried, gimpShaped, gimpCheck, segmentFor, along, linearFactor, increasing, decreasing, bent, blended, segmentColour, offDomain, gimpColour}
+use Rattle.gradient.specs.declared.Rgba.{Rgba}
+use Rattle.gradient.specs.declared.Checked.the-variants.{Fine, Refused}
+
+-- ---- a code past the end
+pub no-code : (ks : List ℕ) (i : ℕ) → length ks ≤ i → 0 ≡ getD ks i 0
+no-code ks i h = sym (List·getD-eq-default ks 0 h)
+
+-- ---- the kinds, one by one
+module _ (n i : ℕ) (ks : List ℕ) where
+  carried-step : i < n → allCarried (n - i) i ks ≡ (carried (blendingAt ks i) (colouringAt ks i) && allCarried (n - (i + 1)) (i + 1) ks)
+  unfolding allCarried
+  carried-step h = let e : n - i ≡ suc (n - (i + 1)) = omega arith in ap (λ (k : ℕ). allCarried k i ks) e ∙ simp add-one
+
+  pub carried-not : i < n → carried (blendingAt ks i) (colouringAt ks i) ≡ false → allCarried (n - i) i ks ≡ false
+  carried-not h a = carried-step h ∙ simp a
+
+  pub carried-next : i < n → carried (blendingAt ks i) (colouringAt ks i) ≡ true → allCarried (n - i) i ks ≡ allCarried (n - (i + 1)) (i + 1) ks
+  carried-next h a = carried-step h ∙ simp a
+
+  pub carried-end : n ≤ i → allCarried (n - i) i ks ≡ true
+  unfolding allCarried
+  carried-end h = let e : n - i ≡ 0 = omega arith in ap (λ (k : ℕ). allCarried k i ks) e
+
+pub carried-start : (n : ℕ) (ks : List ℕ) → allCarried (n - 0) 0 ks ≡ allCarried n 0 ks
+carried-start n ks = let e : n - 0 ≡ n = omega arith in ap (λ (k : ℕ). allCarried k 0 ks) e
+
+-- ---- the check
+pub record Shape (n k : ℕ) : Type 0 where
+  pub most : n ≤ mostSegments
+  pub codes : k ≡ 2 * n
+
+pub shape : (n p c k : ℕ) → gimpShaped n p c k ≡ true → Shape n k
+unfolding gimpShaped
+shape n p c k h =
+    let a = both-l (leb 1 n && leb n mostSegments && eqb p (3 * n) && eqb c (8 * n)) (eqb k (2 * n)) h in
+    let b = both-l (leb 1 n && leb n mostSegments && eqb p (3 * n)) (eqb c (8 * n)) a in
+    let d = both-l (leb 1 n && leb n mostSegments) (eqb p (3 * n)) b in
+    record { most = leb-true n mostSegments (both-r (leb 1 n) (leb n mostSegments) d); codes = eqb-true k (2 * n) (both-r (leb 1 n && leb n mostSegments && eqb p (3 * n) && eqb c (8 * n)) (eqb k (2 * n)) h) }
+
+module _ (ps cs : List Float) (ks : List ℕ) where
+  abbrev fits : Bool
+  fits = gimpShaped (segments ps) (length ps) (length cs) (length ks)
+
+  abbrev kinds : Bool
+  kinds = allCarried (segments ps) 0 ks
+
+  pub check-shape : fits ≡ false → Refused 1 ≡ gimpCheck ps cs ks
+  unfolding gimpCheck
+  check-shape a = simp a
+
+  pub check-kinds : kinds ≡ false → fits ≡ true → Refused 1 ≡ gimpCheck ps cs ks
+  unfolding gimpCheck
+  check-kinds b a = simp (a, b)
+
+  pub check-positions : allFinite ps ≡ false → kinds ≡ true → fits ≡ true → Refused 2 ≡ gimpCheck ps cs ks
+  unfolding gimpCheck
+  check-positions d b a = simp (a, b, d)
+
+  pub check-channels : allFinite cs ≡ false → allFinite ps ≡ true → kinds ≡ true → fits ≡ true → Refused 2 ≡ gimpCheck ps cs ks
+  unfolding gimpCheck
+  check-channels e d b a = simp (a, b, d, e)
+
+  pub check-fine : allFinite cs ≡ true → allFinite ps ≡ true → kinds ≡ true → fits ≡ true → Fine ≡ gimpCheck ps cs ks
+  unfolding gimpCheck
+  check-fine e d b a = simp (a, b, d, e)
+
+-- ---- the colour
+module _ (k : ℕ) (f : Float) {z : Float} where
+  pub bent-increasing : k ≡ increasingCode → z ≡ increasing f → z ≡ bent k f
+  unfolding bent
+  bent-increasing a e = e ∙ simp (eq-eqb k increasingCode a)
+
+  pub bent-decreasing : (k ≡ increasingCode → ⊥) → k ≡ decreasingCode → z ≡ decreasing f → z ≡ bent k f
+  unfolding bent
+  bent-decreasing a b e = e ∙ simp (ne-eqb k increasingCode a, eq-eqb k decreasingCode b)
+
+pub bent-not : (k : ℕ) (f : Float) → (k ≡ increasingCode → ⊥) → (k ≡ decreasingCode → ⊥) → f ≡ bent k f
+unfolding bent
+bent-not k f a b = simp (ne-eqb k increasingCode a, ne-eqb k decreasingCode b)
+
+module _ (k : ℕ) (p q : Rgba) (middle place : Float) where
+  pub step-right : k ≡ stepCode → le middle place ≡ true → q ≡ blended k p q middle place
+  unfolding blended
+  step-right a b = simp (eq-eqb k stepCode a, b)
+
+  pub step-left : k ≡ stepCode → le middle place ≡ false → p ≡ blended k p q middle place
+  unfolding blended
+  step-left a b = simp (eq-eqb k stepCode a, b)
+
+  pub mixed-at : (k ≡ stepCode → ⊥) → {f g : Float} {z : Rgba} → f ≡ linearFactor middle place → g ≡ bent k f → z ≡ linear p q g → z ≡ blended k p q middle place
+  unfolding blended
+  mixed-at a {f} e h z = z ∙ ap (λ (x : Float). linear p q x) (h ∙ ap (λ (x : Float). bent k x) e) ∙ simp (ne-eqb k stepCode a)
+
+pub segment-done : (ps cs : List Float) (ks : List ℕ) (i : ℕ) (t : Float) {left right mid middle place : Float} {k : ℕ} {p q z : Rgba}
+    → left ≡ leftAt ps i → right ≡ rightAt ps i → mid ≡ middleAt ps i
+    → middle ≡ along left right mid → place ≡ along left right t
+    → k ≡ blendingAt ks i → p ≡ colourAt cs (2 * i) → q ≡ colourAt cs (2 * i + 1) → z ≡ blended k p q middle place → z ≡ segmentColour ps cs ks i t
+unfolding segmentColour
+segment-done ps cs ks i t l r m a b k p q z = cc
+
+pub inside : (ps cs : List Float) (ks : List ℕ) (t : Float) {o : Bool} {i : ℕ} {z : Rgba} → o ≡ offDomain t → o ≡ false → i ≡ segmentFor ps t → z ≡ segmentColour ps cs ks i t → z ≡ gimpColour ps cs ks t
+unfolding gimpColour
+inside ps cs ks t o f e z = z ∙ ap (λ (n : ℕ). segmentColour ps cs ks n t) e ∙ simp (sym o ∙ f)
+
+pub beyond : (ps cs : List Float) (ks : List ℕ) (t : Float) {o : Bool} → o ≡ offDomain t → o ≡ true → black ≡ gimpColour ps cs ks t
+unfolding gimpColour
+beyond ps cs ks t o h = simp (sym o ∙ h)

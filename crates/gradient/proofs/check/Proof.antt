@@ -1,0 +1,27 @@
+-- `check` meets its contract: by the kind. Assumes nothing.
+use mathlib.Core.Path.{sym, _∙_}
+use Rattle.gradient.specs.Ramp.{checkOf}
+use borrow.Author.Needs.{needs}
+use Rattle.gradient.proofs.check.Statement.{statement}
+use Rattle.gradient.proofs.check.Tie as tie
+
+is-gimp-requires : tie.Need-is-gimp-requires
+is-gimp-requires c κs = search needs
+
+check-requires : tie.Need-check-requires
+check-requires c κs = search needs
+
+returns : tie.Need-returns
+unfolding checkOf
+returns c = c .check .ensures ∙ simp (sym (c .before .before .is-gimp .ensures) ∙ c .before .if1 .taken)
+
+check-requires-2 : tie.Need-check-requires-2
+check-requires-2 c κs = search needs
+
+returns-2 : tie.Need-returns-2
+unfolding checkOf
+returns-2 c = c .check2 .ensures ∙ simp (sym (c .before .before .is-gimp .ensures) ∙ c .before .if1 .left)
+
+pub check-spec : {M : Type 1} → statement M
+check-spec =
+    tie.close (tie.spec is-gimp-requires check-requires returns check-requires-2 returns-2)

@@ -1,0 +1,79 @@
+-- `gimp::are_carried` meets its contract. The loop's invariant: what is asked of the segments left is what is asked of all. Assumes nothing.
+use borrow.Author.Needs.{needs}
+use mathlib.Core.Path.{_≡_, sym, _∙_}
+use Prim.Native.Nat.{_-_, _≤_}
+use native.Mathlib.Omega.{arith}
+use denote.Ref.{now}
+use Rattle.float.proofs.Flags.{failed, passed}
+use Rattle.gradient.specs.Gimp.{allCarried}
+use Rattle.gradient.proofs.GimpLaws.{carried-start, carried-not, carried-next, carried-end}
+use Rattle.gradient.proofs.gimp.are_carried.Statement.{statement}
+use Rattle.gradient.proofs.gimp.are_carried.Tie as tie
+
+abbrev Inv-loop : tie.InvT-loop
+Inv-loop codes n i₀ i = (i ≤ n) × (allCarried (n - i) i codes ≡ allCarried n 0 codes)
+
+abbrev μ-loop : tie.MeasureT-loop
+μ-loop codes n i₀ i = n - i
+
+loop-holds : tie.Need-loop-holds Inv-loop μ-loop
+loop-holds c = (omega arith, carried-start (c .before .args .n) (now (c .before .args .codes)))
+
+mul-is-carried : tie.Need-mul-is-carried Inv-loop μ-loop
+mul-is-carried c = omega arith
+
+shared-slice-read-is-carried : tie.Need-shared-slice-read-is-carried Inv-loop μ-loop
+shared-slice-read-is-carried c = omega arith
+
+mul-is-carried-2 : tie.Need-mul-is-carried-2 Inv-loop μ-loop
+mul-is-carried-2 c = omega arith
+
+add-is-carried : tie.Need-add-is-carried Inv-loop μ-loop
+add-is-carried c = omega arith
+
+shared-slice-read-is-carried-2 : tie.Need-shared-slice-read-is-carried-2 Inv-loop μ-loop
+shared-slice-read-is-carried-2 c = omega arith
+
+is-carried-requires : tie.Need-is-carried-requires Inv-loop μ-loop
+is-carried-requires c κs = search needs
+
+returns : tie.Need-returns Inv-loop μ-loop
+returns c =
+    let l = c .before .before .before .before .before in
+    let a = l .before .before .args in
+    sym (carried-not (a .n) (l .loop .i) (now (a .codes)) (c .before .before .before .before .loop-test .taken) (failed (c .if1 .taken) (c .before .is-carried .ensures))) ∙ l .loop .inv .1
+
+add-i : tie.Need-add-i Inv-loop μ-loop
+add-i c = omega arith
+
+loop-less : tie.Need-loop-less Inv-loop μ-loop
+loop-less c = omega arith
+
+loop-again : tie.Need-loop-again Inv-loop μ-loop
+loop-again c =
+    let l = c .before .before .before .before .before in
+    let a = l .before .before .args in
+    let h = c .before .before .before .before .loop-test .taken in
+    (omega arith, sym (carried-next (a .n) (l .loop .i) (now (a .codes)) h (passed (c .if1 .left) (c .before .is-carried .ensures))) ∙ l .loop .inv .1)
+
+returns-2 : tie.Need-returns-2 Inv-loop μ-loop
+returns-2 c = let l = c .before in let a = l .before .before .args in sym (carried-end (a .n) (l .loop .i) (now (a .codes)) (c .loop-test .left)) ∙ l .loop .inv .1
+
+pub are-carried-spec : {M : Type 1} → statement M
+are-carried-spec =
+    tie.close
+    (tie.spec
+    Inv-loop
+    μ-loop
+    loop-holds
+    mul-is-carried
+    shared-slice-read-is-carried
+    mul-is-carried-2
+    add-is-carried
+    shared-slice-read-is-carried-2
+    is-carried-requires
+    returns
+    add-i
+    loop-less
+    loop-again
+    returns-2)

@@ -1,0 +1,134 @@
+-- GIMP segments: their check, and their colour at t. The evaluation of item 6 of document 01's 'Ramps carried', and the last point of 'What a GIMP file may hold'.
+-- Segment i has positions 3i, 3i + 1, 3i + 2 (left, middle, right), channels 8i to 8i + 7 (left r g b a, right r g b a) and codes 2i, 2i + 1 (blending, colouring).
+-- Past the end of a list a number is not-a-number and a code is 0, so that any lists at all have a colour.
+use Prim.Native.Nat.{ℕ, zero, suc, _+_, _*_, _/_}
+use mathlib.Core.Bool.{Bool, true, cond, _&&_, _||_}
+use mathlib.Core.List.{List}
+use lib.Dec.{leb, ltb, eqb}
+use lib.ListN.{length, getD}
+use lib.Ieee.{Float, le, lt, isNan}
+use Rattle.float.specs.F32.{_⊕_, _⊖_, _⊗_, _⊘_, f0, f1, half, epsilon}
+use Rattle.sqrt.specs.Root.{rootOf}
+use Rattle.gradient.specs.Blend.{linear, black}
+use Rattle.gradient.specs.Stops.{posAt, colourAt}
+use Rattle.gradient.specs.Finite.{allFinite}
+use Rattle.gradient.specs.declared.Rgba.{Rgba}
+use Rattle.gradient.specs.declared.Checked.{Checked}
+use Rattle.gradient.specs.declared.Checked.the-variants.{Fine, Refused}
+
+-- ---- what is lent
+abbrev pub mostSegments : ℕ
+mostSegments = 256
+
+-- how many segments: three positions each
+abbrev pub segments : List Float → ℕ
+segments ps = length ps / 3
+
+abbrev pub leftAt : List Float → ℕ → Float
+leftAt ps i = posAt ps (3 * i)
+
+abbrev pub middleAt : List Float → ℕ → Float
+middleAt ps i = posAt ps (3 * i + 1)
+
+abbrev pub rightAt : List Float → ℕ → Float
+rightAt ps i = posAt ps (3 * i + 2)
+
+abbrev pub blendingAt : List ℕ → ℕ → ℕ
+blendingAt ks i = getD ks (2 * i) 0
+
+abbrev pub colouringAt : List ℕ → ℕ → ℕ
+colouringAt ks i = getD ks (2 * i + 1) 0
+
+-- ---- the kinds carried: blending linear, spherical increasing, spherical decreasing, step; colouring RGB
+abbrev pub linearCode : ℕ
+linearCode = 0
+
+abbrev pub increasingCode : ℕ
+increasingCode = 3
+
+abbrev pub decreasingCode : ℕ
+decreasingCode = 4
+
+abbrev pub stepCode : ℕ
+stepCode = 5
+
+abbrev pub rgbCode : ℕ
+rgbCode = 0
+
+unfoldable pub carried : ℕ → ℕ → Bool
+carried blending colouring = eqb colouring rgbCode && (eqb blending linearCode || eqb blending increasingCode || eqb blending decreasingCode || eqb blending stepCode)
+
+-- ---- the check
+-- the next `left` segments, from segment i on
+unfoldable pub allCarried : ℕ → ℕ → List ℕ → Bool
+allCarried zero i ks = true
+allCarried (suc left) i ks = carried (blendingAt ks i) (colouringAt ks i) && allCarried left (suc i) ks
+
+-- n segments, one to the most, and lengths that agree with it: positions, channels, codes
+unfoldable pub gimpShaped : ℕ → ℕ → ℕ → ℕ → Bool
+gimpShaped n p c k = leb 1 n && leb n mostSegments && eqb p (3 * n) && eqb c (8 * n) && eqb k (2 * n)
+
+-- all of 1, then 2. Falling positions are not asked after
+unfoldable pub gimpCheck : List Float → List Float → List ℕ → Checked
+gimpCheck ps cs ks =
+    cond (gimpShaped (segments ps) (length ps) (length cs) (length ks) && allCarried (segments ps) 0 ks)
+    (cond (allFinite ps && allFinite cs) Fine (Refused 2))
+    (Refused 1)
+
+-- ---- the search
+-- The segment tried last, of those from low to before high; `tried` is the one tried before, and at most `left` are tried.
+-- It starts at the middle of the remaining range; the first hit wins.
+unfoldable pub search : ℕ → List Float → Float → ℕ → ℕ → ℕ → ℕ
+search zero ps t tried low high = tried
+search (suc left) ps t tried low high =
+    let mid = (low + high) / 2 in
+    cond (ltb low high)
+    (cond (lt (rightAt ps mid) t) (search left ps t mid (mid + 1) high) (cond (lt t (leftAt ps mid)) (search left ps t mid low mid) mid))
+    tried
+
+unfoldable pub segmentFor : List Float → Float → ℕ
+segmentFor ps t = search (segments ps) ps t 0 0 (segments ps)
+
+-- ---- the factor
+-- where x lies from left, 0, to right, 1; a length below 2^-23 makes it 0.5
+unfoldable pub along : Float → Float → Float → Float
+along left right x = cond (lt (right ⊖ left) epsilon) half ((x ⊖ left) ⊘ (right ⊖ left))
+
+-- 0.5 at the middle, and straight on each side of it
+unfoldable pub linearFactor : Float → Float → Float
+linearFactor middle place =
+    cond (le place middle)
+    (cond (lt middle epsilon) f0 (half ⊗ place ⊘ middle))
+    (cond (lt (f1 ⊖ middle) epsilon) f1 (half ⊕ half ⊗ (place ⊖ middle) ⊘ (f1 ⊖ middle)))
+
+-- a quarter of a circle
+unfoldable pub increasing : Float → Float
+increasing f = rootOf (f1 ⊖ (f ⊖ f1) ⊗ (f ⊖ f1))
+
+unfoldable pub decreasing : Float → Float
+decreasing f = f1 ⊖ rootOf (f1 ⊖ f ⊗ f)
+
+-- a blending that is not carried is taken as linear
+unfoldable pub bent : ℕ → Float → Float
+bent blending f = cond (eqb blending increasingCode) (increasing f) (cond (eqb blending decreasingCode) (decreasing f) f)
+
+-- ---- the colour
+-- from the colour p to the colour q; a step gives one of the two itself
+unfoldable pub blended : ℕ → Rgba → Rgba → Float → Float → Rgba
+blended blending p q middle place =
+    cond (eqb blending stepCode) (cond (le middle place) q p) (linear p q (bent blending (linearFactor middle place)))
+
+-- segment i at t, which need not lie in it. A colouring that is not carried is taken as RGB
+unfoldable pub segmentColour : List Float → List Float → List ℕ → ℕ → Float → Rgba
+segmentColour ps cs ks i t =
+    blended (blendingAt ks i) (colourAt cs (2 * i)) (colourAt cs (2 * i + 1))
+    (along (leftAt ps i) (rightAt ps i) (middleAt ps i))
+    (along (leftAt ps i) (rightAt ps i) t)
+
+-- the domain is 0..1
+unfoldable pub offDomain : Float → Bool
+offDomain t = lt t f0 || lt f1 t || isNan t
+
+unfoldable pub gimpColour : List Float → List Float → List ℕ → Float → Rgba
+gimpColour ps cs ks t =
+    cond (offDomain t) black (segmentColour ps cs ks (segmentFor ps t) t)

@@ -1,0 +1,236 @@
+// GIMP segments: their check, and their colour at t. Segment i has positions 3i.. (left, middle, right),
+// channels 8i.. (left r g b a, right r g b a) and codes 2i.. (blending, colouring).
+use super::Checked;
+use super::Rgba;
+use super::stops;
+use super::utils;
+ghost use mathlib.Core.Path.{_≡_};
+ghost use Prim.Native.Nat.{_*_, _≤_};
+ghost use lib.ListN.{length, getD};
+ghost use Rattle.gradient.specs.Gimp.{mostSegments, segments, carried, allCarried, gimpShaped, gimpCheck, segmentFor, along, linearFactor, increasing, decreasing, bent, blended, segmentColour, offDomain, gimpColour};
+
+pub const MOST_SEGMENTS: usize = 256;
+
+// The codes carried: of blending, and of colouring.
+pub const LINEAR: u8 = 0;
+
+pub const SPHERICAL_INCREASING: u8 = 3;
+
+pub const SPHERICAL_DECREASING: u8 = 4;
+
+pub const STEP: u8 = 5;
+
+pub const RGB: u8 = 0;
+
+// 2^-23.
+const EPSILON: f32 = 0.00000011920928955078125;
+
+pub fn is_carried(blending: u8, colouring: u8) -> bool
+    ensures { λ r. ⌜ r ≡ carried blending colouring ⌝ }
+{
+    if colouring != RGB {
+        return false;
+    }
+    if blending == LINEAR {
+        return true;
+    }
+    if blending == SPHERICAL_INCREASING {
+        return true;
+    }
+    if blending == SPHERICAL_DECREASING {
+        return true;
+    }
+    blending == STEP
+}
+
+fn are_carried(codes: &[u8], n: usize) -> bool
+    requires { ⌜ (n ≤ mostSegments) × (length (now codes) ≡ 2 * n) ⌝ }
+    ensures { λ r. ⌜ r ≡ allCarried n 0 (now (codes .entry)) ⌝ }
+{
+    let mut i = 0;
+    while i < n {
+        if !is_carried(codes[2 * i], codes[2 * i + 1]) {
+            return false;
+        }
+        i += 1;
+    }
+    true
+}
+
+// n segments, and the lengths of what is lent for them.
+fn is_shaped(n: usize, positions: usize, channels: usize, codes: usize) -> bool
+    ensures { λ r. ⌜ r ≡ gimpShaped n positions channels codes ⌝ }
+{
+    if n < 1 {
+        return false;
+    }
+    if n > MOST_SEGMENTS {
+        return false;
+    }
+    if positions != 3 * n {
+        return false;
+    }
+    if channels != 8 * n {
+        return false;
+    }
+    codes == 2 * n
+}
+
+// All of refusal 1, then 2.
+pub fn check(positions: &[f32], channels: &[f32], codes: &[u8]) -> Checked
+    ensures { λ r. ⌜ r ≡ gimpCheck (now (positions .entry)) (now (channels .entry)) (now (codes .entry)) ⌝ }
+{
+    let n = positions.len() / 3;
+    if !is_shaped(n, positions.len(), channels.len(), codes.len()) {
+        return Checked::Refused(1);
+    }
+    if !are_carried(codes, n) {
+        return Checked::Refused(1);
+    }
+    if !utils::all_finite(positions) {
+        return Checked::Refused(2);
+    }
+    if !utils::all_finite(channels) {
+        return Checked::Refused(2);
+    }
+    Checked::Fine
+}
+
+// The segment whose colour is taken: the first hit, and in a gap the one tried last.
+fn find_segment(positions: &[f32], t: f32) -> usize
+    ensures { λ r. ⌜ r ≡ segmentFor (now (positions .entry)) t ⌝ }
+{
+    let mut low = 0;
+    let mut high = positions.len() / 3;
+    let mut tried = 0;
+    while low < high {
+        let mid = (low + high) / 2;
+        tried = mid;
+        let left = 3 * mid;
+        let right = left + 2;
+        if t > positions[right] {
+            low = mid + 1;
+        } else if t < positions[left] {
+            high = mid;
+        } else {
+            return mid;
+        }
+    }
+    tried
+}
+
+fn code(codes: &[u8], i: usize) -> u8
+    ensures { λ r. ⌜ r ≡ getD (now (codes .entry)) i 0 ⌝ }
+{
+    if i < codes.len() {
+        return codes[i];
+    }
+    0
+}
+
+// Where x lies from left, 0, to right, 1.
+fn place_along(left: f32, right: f32, x: f32) -> f32
+    ensures { λ r. ⌜ r ≡ along left right x ⌝ }
+{
+    let length = right - left;
+    if length < EPSILON {
+        return 0.5;
+    }
+    (x - left) / length
+}
+
+fn calc_linear_factor(middle: f32, place: f32) -> f32
+    ensures { λ r. ⌜ r ≡ linearFactor middle place ⌝ }
+{
+    if place <= middle {
+        if middle < EPSILON {
+            return 0.0;
+        }
+        return 0.5 * place / middle;
+    }
+    if 1.0 - middle < EPSILON {
+        return 1.0;
+    }
+    0.5 + 0.5 * (place - middle) / (1.0 - middle)
+}
+
+fn spherical_increasing(f: f32) -> f32
+    ensures { λ r. ⌜ r ≡ increasing f ⌝ }
+{
+    sqrt::root(1.0 - (f - 1.0) * (f - 1.0))
+}
+
+fn spherical_decreasing(f: f32) -> f32
+    ensures { λ r. ⌜ r ≡ decreasing f ⌝ }
+{
+    1.0 - sqrt::root(1.0 - f * f)
+}
+
+fn bend(blending: u8, f: f32) -> f32
+    ensures { λ r. ⌜ r ≡ bent blending f ⌝ }
+{
+    if blending == SPHERICAL_INCREASING {
+        return spherical_increasing(f);
+    }
+    if blending == SPHERICAL_DECREASING {
+        return spherical_decreasing(f);
+    }
+    f
+}
+
+fn blend(blending: u8, p: Rgba, q: Rgba, middle: f32, place: f32) -> Rgba
+    ensures { λ r. ⌜ r ≡ blended blending p q middle place ⌝ }
+{
+    if blending == STEP {
+        if place >= middle {
+            return q;
+        }
+        return p;
+    }
+    utils::interpolate_linear(p, q, bend(blending, calc_linear_factor(middle, place)))
+}
+
+// The colour of segment i at t, which need not lie in it.
+fn segment_colour(positions: &[f32], channels: &[f32], codes: &[u8], i: usize, t: f32) -> Rgba
+    requires { ⌜ i ≤ segments (now positions) ⌝ }
+    ensures { λ r. ⌜ r ≡ segmentColour (now (positions .entry)) (now (channels .entry)) (now (codes .entry)) i t ⌝ }
+{
+    let left = stops::item(positions, 3 * i);
+    let right = stops::item(positions, 3 * i + 2);
+    let middle = place_along(left, right, stops::item(positions, 3 * i + 1));
+    let place = place_along(left, right, t);
+    blend(
+        code(codes, 2 * i),
+        stops::colour(channels, 2 * i),
+        stops::colour(channels, 2 * i + 1),
+        middle,
+        place,
+    )
+}
+
+fn is_off_domain(t: f32) -> bool
+    ensures { λ r. ⌜ r ≡ offDomain t ⌝ }
+{
+    if t < 0.0 {
+        return true;
+    }
+    if t > 1.0 {
+        return true;
+    }
+    t != t
+}
+
+// The colour at t of any slices at all.
+pub fn colour_at(positions: &[f32], channels: &[f32], codes: &[u8], t: f32) -> Rgba
+    ensures { λ r. ⌜ r ≡ gimpColour (now (positions .entry)) (now (channels .entry)) (now (codes .entry)) t ⌝ }
+{
+    if is_off_domain(t) {
+        return Rgba {
+            r: 0.0,
+            g: 0.0,
+            b: 0.0,
+            a: 1.0,
+        };
+    }
+    segment_colour(positions, channels, codes, find_segment(positions, t), t)
+}

@@ -1,0 +1,109 @@
+// Colour ramps lent as slices: their check, and their colour at t.
+ghost use mathlib.Core.Path.{_≡_};
+ghost use Rattle.gradient.specs.Ramp.{isGimp, checkOf, anyColour, minOf, maxOf};
+
+pub mod basis;
+pub mod catmull_rom;
+pub mod gimp;
+pub mod linear;
+pub mod near;
+pub mod sharp;
+pub mod smoothstep;
+pub mod stops;
+pub mod utils;
+
+// Document 01's numbers of what a ramp is refused for.
+pub const MISSHAPEN: u8 = 1;
+
+pub const NOT_FINITE: u8 = 2;
+
+pub const FALLING: u8 = 3;
+
+#[repr(C)]
+pub struct Rgba {
+    pub r: f32,
+    pub g: f32,
+    pub b: f32,
+    pub a: f32,
+}
+
+pub struct Stop {
+    pub position: f32,
+    pub colour: Rgba,
+}
+
+// The kinds of ramp. Stops are n positions and 4n channels, with no codes. GIMP segments are 3n positions
+// (left, middle, right), 8n channels (left, then right) and 2n codes (blending, colouring).
+pub enum Kind {
+    Linear,
+    Smoothstep,
+    Sharp,
+    Basis,
+    CatmullRom,
+    Gimp,
+}
+
+// A ramp that may be used, or the number of the refusal.
+pub enum Checked {
+    Fine,
+    Refused(u8),
+}
+
+// Where t lies among stops: at an end, whose stop it names, nowhere, or between stop k - 1 and stop k.
+pub enum Place {
+    End(usize),
+    Nowhere,
+    Between(usize),
+}
+
+fn is_gimp(kind: Kind) -> bool
+    ensures { λ r. ⌜ r ≡ isGimp kind ⌝ }
+{
+    match kind {
+        Kind::Linear => false,
+        Kind::Smoothstep => false,
+        Kind::Sharp => false,
+        Kind::Basis => false,
+        Kind::CatmullRom => false,
+        Kind::Gimp => true,
+    }
+}
+
+// Refusals 1, then stop by stop 2 and 3.
+pub fn check(kind: Kind, positions: &[f32], channels: &[f32], codes: &[u8]) -> Checked
+    ensures { λ r. ⌜ r ≡ checkOf kind (now (positions .entry)) (now (channels .entry)) (now (codes .entry)) ⌝ }
+{
+    if is_gimp(kind) {
+        return gimp::check(positions, channels, codes);
+    }
+    stops::check(kind, positions, channels, codes)
+}
+
+// The ends of a ramp's domain.
+pub fn min_of(kind: Kind, positions: &[f32]) -> f32
+    ensures { λ r. ⌜ r ≡ minOf kind (now (positions .entry)) ⌝ }
+{
+    if is_gimp(kind) {
+        return 0.0;
+    }
+    stops::item(positions, 0)
+}
+
+pub fn max_of(kind: Kind, positions: &[f32]) -> f32
+    ensures { λ r. ⌜ r ≡ maxOf kind (now (positions .entry)) ⌝ }
+{
+    if is_gimp(kind) {
+        return 1.0;
+    }
+    stops::item(positions, stops::less(positions.len()))
+}
+
+// The colour at t of any slices at all; of a ramp that passes the check, the document's colour.
+pub fn colour_at(kind: Kind, positions: &[f32], channels: &[f32], codes: &[u8], t: f32) -> Rgba
+    ensures { λ r. ⌜ r ≡ anyColour kind (now (positions .entry)) (now (channels .entry)) (now (codes .entry)) t ⌝ }
+{
+    if is_gimp(kind) {
+        return gimp::colour_at(positions, channels, codes, t);
+    }
+    stops::colour_at(kind, positions, channels, t)
+}

@@ -1,0 +1,75 @@
+// Points taken one after the other: the pair of the last point is tried before the search, and a Catmull-Rom
+// segment is kept while the pair stays.
+use super::Place;
+use super::Rgba;
+use super::catmull_rom;
+use super::stops;
+ghost use mathlib.Core.Path.{_≡_};
+ghost use Rattle.gradient.specs.Near.{isBetween, placeNear, pairOr, segmentFor, segmentIn};
+
+// Two answers are added: one branch, which is seldom guessed wrong.
+fn is_between(positions: &[f32], t: f32, k: usize) -> bool
+    ensures { λ r. ⌜ r ≡ isBetween (now (positions .entry)) t k ⌝ }
+{
+    if k == 0 {
+        return false;
+    }
+    if positions.len() <= k {
+        return false;
+    }
+    stops::below(positions[k - 1], t) + stops::below(t, positions[k]) == 2
+}
+
+pub fn find_place(positions: &[f32], t: f32, k: usize) -> Place
+    ensures { λ r. ⌜ r ≡ placeNear (now (positions .entry)) t k ⌝ }
+{
+    if is_between(positions, t, k) {
+        return Place::Between(k);
+    }
+    stops::find_place(positions, t)
+}
+
+pub fn pair_or(place: Place, k: usize) -> usize
+    ensures { λ r. ⌜ r ≡ pairOr place k ⌝ }
+{
+    match place {
+        Place::End(_) => k,
+        Place::Nowhere => k,
+        Place::Between(j) => j,
+    }
+}
+
+pub fn segment_for(channels: &[f32], n: usize, k: usize) -> [[f32; 4]; 4]
+    ensures { λ r. ⌜ r ≡ segmentFor (now (channels .entry)) n k ⌝ }
+{
+    let p = stops::colour(channels, stops::less(k));
+    let q = stops::colour(channels, k);
+    let left = stops::left_of(channels, k, p, q);
+    let right = stops::right_of(channels, n, k, p, q);
+    catmull_rom::segment(left, p, q, right)
+}
+
+pub fn segment_colour(
+    positions: &[f32],
+    channels: &[f32],
+    s: [[f32; 4]; 4],
+    t: f32,
+    place: Place,
+) -> Rgba
+    ensures { λ r. ⌜ r ≡ segmentIn (now (positions .entry)) (now (channels .entry)) s t place ⌝ }
+{
+    match place {
+        Place::End(i) => stops::colour(channels, i),
+        Place::Nowhere => Rgba {
+            r: 0.0,
+            g: 0.0,
+            b: 0.0,
+            a: 1.0,
+        },
+        Place::Between(k) => {
+            let p = stops::stop(positions, channels, stops::less(k));
+            let q = stops::stop(positions, channels, k);
+            catmull_rom::segment_at(s, stops::share(p, q, t))
+        }
+    }
+}
