@@ -1,0 +1,78 @@
+// The three header lines: how many segments, or a refusal.
+use super::refusal::BAD_HEADER;
+use super::refusal::NO_SEGMENT;
+use super::refusal::TOO_MANY;
+use super::text::Count;
+use super::text::count_of;
+use super::text::is_same;
+use super::text::line_at;
+use super::text::marks;
+use super::text::starts_with;
+use gradient::gimp::MOST_SEGMENTS;
+ghost use lib.ListN.{drop};
+ghost use Rattle.ggr.specs.Text.{lines, textLines};
+ghost use Rattle.ggr.specs.File.{fromThird, fromSecond, fromLines};
+ghost use Rattle.ggr.specs.Steps.{LeadsTo};
+
+// Where the header leads: to so many segments, whose first line starts at a place, or to a refusal with its line.
+pub enum Lead {
+    Counted(usize, usize),
+    Refuse(u8, usize),
+}
+
+// Text that ends before line 3 has count 0.
+fn count_line(s: &[u8], at: usize, room: usize) -> Lead
+    ensures { λ r. ⌜ LeadsTo room (λ fg bg. fromThird room fg bg (lines (drop at (now (s .entry))))) r (now (s .entry)) ⌝ }
+{
+    if s.len() <= at {
+        return Lead::Refuse(NO_SEGMENT, 4);
+    }
+    let l = line_at(s, at);
+    let end = l.end;
+    let next = l.next;
+    let Count::Is(n) = count_of(&s[at..end]) else {
+        return Lead::Refuse(BAD_HEADER, 3);
+    };
+    let m = n as usize;
+    if MOST_SEGMENTS < m {
+        return Lead::Refuse(TOO_MANY, 3);
+    }
+    if room < m {
+        return Lead::Refuse(TOO_MANY, 3);
+    }
+    if m == 0 {
+        return Lead::Refuse(NO_SEGMENT, 4);
+    }
+    Lead::Counted(m, next)
+}
+
+fn name_line(s: &[u8], at: usize, room: usize) -> Lead
+    ensures { λ r. ⌜ LeadsTo room (λ fg bg. fromSecond room fg bg (lines (drop at (now (s .entry))))) r (now (s .entry)) ⌝ }
+{
+    if s.len() <= at {
+        return Lead::Refuse(NO_SEGMENT, 4);
+    }
+    let l = line_at(s, at);
+    let end = l.end;
+    let next = l.next;
+    if !starts_with(&s[at..end], b"Name:") {
+        return Lead::Refuse(BAD_HEADER, 2);
+    }
+    count_line(s, next, room)
+}
+
+pub fn header(s: &[u8], room: usize) -> Lead
+    ensures { λ r. ⌜ LeadsTo room (λ fg bg. fromLines room fg bg (textLines (now (s .entry)))) r (now (s .entry)) ⌝ }
+{
+    if s.len() == 0 {
+        return Lead::Refuse(NO_SEGMENT, 4);
+    }
+    let at = marks(s);
+    let l = line_at(s, at);
+    let end = l.end;
+    let next = l.next;
+    if !is_same(&s[at..end], b"GIMP Gradient") {
+        return Lead::Refuse(BAD_HEADER, 1);
+    }
+    name_line(s, next, room)
+}

@@ -1,0 +1,227 @@
+// A segment line: its numbers, and the segment that they make.
+use super::text::Class;
+use super::text::span_end;
+use decimal::Token;
+use gradient::Rgba;
+use gradient::gimp;
+ghost use mathlib.Core.Path.{_≡_};
+ghost use lib.ListN.{drop};
+ghost use Rattle.ggr.specs.Segment.{codeOf, validCodes, withoutAlpha, colourOf, build};
+ghost use Rattle.ggr.specs.Steps.{segmentLength, WordAt, RowAt, SegmentAt};
+
+// Blending codes that are not carried.
+const CURVED: u8 = 1;
+
+const SINUSOIDAL: u8 = 2;
+
+// The colouring code that is.
+const RGB: u8 = 0;
+
+pub struct Segment {
+    pub left: f32,
+    pub middle: f32,
+    pub right: f32,
+    pub lcolor: Rgba,
+    pub rcolor: Rgba,
+    pub blending: u8,
+    pub colouring: u8,
+}
+
+pub enum SegmentRead {
+    Valid(Segment),
+    Invalid,
+    NotCarried,
+}
+
+// The code in x; 6, which is no code, for every other number.
+fn code(x: f32) -> u8
+    ensures { λ r. ⌜ r ≡ codeOf x ⌝ }
+{
+    let z = float::whole(x);
+    match z {
+        0 => 0,
+        1 => 1,
+        2 => 2,
+        3 => 3,
+        4 => 4,
+        5 => 5,
+        _ => 6,
+    }
+}
+
+fn valid_codes(blending: u8, colouring: u8, left: u8, right: u8) -> bool
+    ensures { λ r. ⌜ r ≡ validCodes blending colouring left right ⌝ }
+{
+    if 5 < blending {
+        return false;
+    }
+    if 2 < colouring {
+        return false;
+    }
+    if 4 < left {
+        return false;
+    }
+    right <= 4
+}
+
+fn clear(c: Rgba) -> Rgba
+    ensures { λ r. ⌜ r ≡ withoutAlpha c ⌝ }
+{
+    Rgba {
+        r: c.r,
+        g: c.g,
+        b: c.b,
+        a: 0.0,
+    }
+}
+
+// The colour of a segment's end, by its code.
+fn colour(code: u8, own: Rgba, fg: Rgba, bg: Rgba) -> Rgba
+    ensures { λ r. ⌜ r ≡ colourOf code own fg bg ⌝ }
+{
+    if code == 0 {
+        return own;
+    }
+    if code == 1 {
+        return fg;
+    }
+    if code == 2 {
+        return clear(fg);
+    }
+    if code == 3 {
+        return bg;
+    }
+    clear(bg)
+}
+
+// The segment of 15 numbers.
+fn built(d: [f32; 15], fg: Rgba, bg: Rgba) -> SegmentRead
+    ensures { λ r. ⌜ r ≡ build fg bg d ⌝ }
+{
+    let blending = code(d[11]);
+    let colouring = code(d[12]);
+    let left = code(d[13]);
+    let right = code(d[14]);
+    if !valid_codes(blending, colouring, left, right) {
+        return SegmentRead::Invalid;
+    }
+    let own_left = Rgba {
+        r: d[3],
+        g: d[4],
+        b: d[5],
+        a: d[6],
+    };
+    let own_right = Rgba {
+        r: d[7],
+        g: d[8],
+        b: d[9],
+        a: d[10],
+    };
+    let lcolor = colour(left, own_left, fg, bg);
+    let rcolor = colour(right, own_right, fg, bg);
+    let g = Segment {
+        left: d[0],
+        middle: d[1],
+        right: d[2],
+        lcolor,
+        rcolor,
+        blending,
+        colouring,
+    };
+    if gimp::is_carried(blending, colouring) {
+        return SegmentRead::Valid(g);
+    }
+    SegmentRead::NotCarried
+}
+
+struct Word {
+    at: usize,
+    end: usize,
+}
+
+// The first word of the line that goes on at `from`. A CR is white space, so that one before the LF needs no test.
+fn word_at(s: &[u8], from: usize) -> Word
+    ensures { λ r. ⌜ WordAt (now (s .entry)) from (r .at) (r .end) ⌝ }
+{
+    let at = span_end(s, from, Class::Blank);
+    let end = span_end(s, at, Class::NotWhite);
+    Word { at, end }
+}
+
+// The place after that of an LF, or the end of the text.
+fn past(s: &[u8], at: usize) -> usize
+    ensures { λ r. ⌜ drop r (now (s .entry)) ≡ drop 1 (drop at (now (s .entry))) ⌝ }
+{
+    if at < s.len() {
+        return at + 1;
+    }
+    at
+}
+
+// The numbers of a segment line, n of them in d, and where the next line starts.
+struct Row {
+    d: [f32; 15],
+    n: usize,
+    next: usize,
+}
+
+// The numbers of the line at `at`, whose end is found word by word. A word that is no number, or one too many,
+// leaves n = 0: that is no segment either.
+fn row_at(s: &[u8], at: usize) -> Row
+    ensures { λ r. ⌜ RowAt (now (s .entry)) at (r .d) (r .n) (r .next) ⌝ }
+{
+    let mut d = [0.0f32; 15];
+    let mut n = 0;
+    let mut i = at;
+    loop {
+        let w = word_at(s, i);
+        let start = w.at;
+        let end = w.end;
+        if end <= start {
+            let next = past(s, start);
+            return Row { d, n, next };
+        }
+        if 15 <= n {
+            return Row { d, n: 0, next: end };
+        }
+        let Token::Number(x) = decimal::read(&s[start..end]) else {
+            return Row { d, n: 0, next: end };
+        };
+        d[n] = x;
+        n += 1;
+        i = end;
+    }
+}
+
+fn makes_segment(n: usize) -> bool
+    ensures { λ r. ⌜ r ≡ segmentLength n ⌝ }
+{
+    if n == 13 {
+        return true;
+    }
+    n == 15
+}
+
+// A segment line, and where the next line starts.
+pub struct SegmentLine {
+    pub read: SegmentRead,
+    pub next: usize,
+}
+
+// The segment of the line at `at`: 13 or 15 numbers, of which the last two are 0 where they are left out.
+pub fn segment_at(s: &[u8], at: usize, fg: Rgba, bg: Rgba) -> SegmentLine
+    ensures { λ r. ⌜ SegmentAt fg bg (now (s .entry)) at (r .read) (r .next) ⌝ }
+{
+    let row = row_at(s, at);
+    let n = row.n;
+    let next = row.next;
+    if !makes_segment(n) {
+        return SegmentLine {
+            read: SegmentRead::Invalid,
+            next,
+        };
+    }
+    let d = row.d;
+    let read = built(d, fg, bg);
+    SegmentLine { read, next }
+}
