@@ -1,0 +1,132 @@
+-- The calls' promises: how many evaluations and stops an answer can tell, and that any two results that a promise allows are the same. Assumes nothing.
+use mathlib.Core.Path.{_≡_, refl, sym, _∙_}
+use mathlib.Core.List.{List, [], _∷_}
+use Prim.Native.Nat.{ℕ, zero, suc, _+_, _≤_}
+use native.Mathlib.Omega.{arith}
+use lib.ListN.{length, getD}
+use lib.Ieee.{Float}
+use Rattle.float.specs.F32.{f0}
+use Rattle.gradient.specs.Ramp.{minOf, maxOf, colourOf}
+use Rattle.gradient.specs.declared.Kind.{Kind}
+use Rattle.gradient.specs.declared.Checked.{Checked}
+use Rattle.gradient.specs.declared.Checked.the-variants as checked
+use Rattle.linearize.specs.Cells.{rowsOf, countsOf}
+use Rattle.linearize.specs.Places.{listOf}
+use Rattle.linearize.specs.Midpoints.{Gradient, Far}
+use Rattle.linearize.specs.Kept.{keptOf, stopRefusal, firstRefusal, refusalFrom, refusalOf, roomOf, listEvaluations}
+use Rattle.linearize.specs.Desk.{evaluationsOfSampled, evaluationsOfListed, stopsOfListed, farOf, valueBy, sampleCheck, thinCheck, sampleEvaluations, freshList, flattenEvaluations}
+use Rattle.linearize.specs.Promises.{Samples, Thins, Flattens}
+use Rattle.linearize.specs.declared.Sampled.{Sampled}
+use Rattle.linearize.specs.declared.Listed.{Listed}
+use Rattle.linearize.proofs.Bounds.{sampling-bound, list-bound}
+use Rattle.linearize.proofs.Filling.{sampled-ready}
+use Rattle.linearize.proofs.Following.{list-some, list-most}
+use Rattle.linearize.proofs.Checks.{ready}
+use Rattle.linearize.proofs.Stops.{has-room}
+
+value-most : (check : Checked) (k n most : ℕ) → (check ≡ checked.Fine → n ≤ most) → valueBy check k n ≤ most
+value-most checked.Fine zero n most h = h refl
+value-most checked.Fine (suc k) n most h = omega arith
+value-most (checked.Refused r) k n most h = omega arith
+
+-- as many stops as are not refused have room
+both-zero : (a b : ℕ) → firstRefusal a b ≡ 0 → (a ≡ 0) × (b ≡ 0)
+both-zero zero b h = (refl, h)
+both-zero (suc a) b h = absurd (omega arith)
+
+stops-room : (g : Gradient) (room n : ℕ) (last : Float) (ts : List Float) → n ≤ room → refusalFrom g room n last ts ≡ 0 → n + length ts ≤ room
+unfolding refusalFrom
+stops-room g room n last [] h z = omega arith
+stops-room g room n last (t ∷ ts) h z =
+    let b = both-zero (stopRefusal room n last t (g t)) (refusalFrom g room (n + 1) t ts) z in
+    let k = has-room room n last t (g t) (b .0) in
+    omega (arith, stops-room g room (n + 1) t ts (omega arith) (b .1))
+
+pub kept-room : (g : Gradient) (far : Far) (room : ℕ) (ts : List Float) → refusalOf g far room ts ≡ 0 → length (keptOf g far ts) ≤ room
+unfolding refusalOf
+kept-room g far room ts z = omega (arith, stops-room g room 0 (getD ts 0 f0) (keptOf g far ts) (omega arith) z)
+
+value-room : (check : Checked) (k n room : ℕ) → (k ≡ 0 → n ≤ room) → valueBy check k n ≤ room
+value-room checked.Fine zero n room h = h refl
+value-room checked.Fine (suc k) n room h = omega arith
+value-room (checked.Refused r) k n room h = omega arith
+
+module _ (kind : Kind) (ps cs : List Float) (ks : List ℕ) (asked : Float) (rows : List Float) (counts : List ℕ) where
+  -- ---- sampling: 13,716 at most
+  sampling-most : sampleEvaluations kind ps cs ks asked rows counts ≤ 13716
+  unfolding sampleEvaluations
+  sampling-most = value-most (sampleCheck kind ps cs ks (length rows) (length counts)) 0 _ 13716 (λ e. sampling-bound (colourOf kind ps cs ks) (farOf asked) (minOf kind ps) (maxOf kind ps))
+
+  module _ (rows′ : List Float) (counts′ : List ℕ) (r : Sampled) (w : Samples kind ps cs ks asked rows rows′ counts counts′ r) where
+    pub sample-most : evaluationsOfSampled r ≤ 13716
+    sample-most = omega (arith, w .evaluations, sampling-most)
+
+    pub sample-pinned : (rows″ : List Float) (counts″ : List ℕ) (r″ : Sampled) → Samples kind ps cs ks asked rows rows″ counts counts″ r″
+        → (r ≡ r″) × (rows′ ≡ rows″) × (counts′ ≡ counts″)
+    sample-pinned rows″ counts″ r″ v = (w .answer ∙ sym (v .answer), w .written ∙ sym (v .written), w .counted ∙ sym (v .counted))
+
+  module _ (ops ops′ ocs ocs′ : List Float) (r : Listed) where
+    -- ---- thinning: 13,821 + 4,609 at most
+    module _ (w : Thins kind ps cs ks asked rows counts ops ops′ ocs ocs′ r) where
+      pub thin-most : evaluationsOfListed r ≤ 18430
+      thin-most =
+          omega (
+            arith,
+            w .told .evaluations,
+            value-most (thinCheck kind ps cs ks rows counts) (refusalOf (colourOf kind ps cs ks) (farOf asked) (roomOf ops ocs) (listOf rows counts (maxOf kind ps)))
+                (listEvaluations (colourOf kind ps cs ks) (farOf asked) (listOf rows counts (maxOf kind ps))) 18430
+                (λ e. let ok = ready kind ps cs ks rows counts e in
+                list-bound (colourOf kind ps cs ks) (farOf asked) (listOf rows counts (maxOf kind ps)) (omega (arith, list-some rows counts (maxOf kind ps) ok)) (list-most rows counts (maxOf kind ps) ok)),
+          )
+
+      pub thin-room : stopsOfListed r ≤ roomOf ops ocs
+      thin-room =
+          let ts = listOf rows counts (maxOf kind ps) in
+          omega (
+            arith,
+            w .told .stops,
+            value-room (thinCheck kind ps cs ks rows counts) (refusalOf (colourOf kind ps cs ks) (farOf asked) (roomOf ops ocs) ts)
+                (length (keptOf (colourOf kind ps cs ks) (farOf asked) ts)) (roomOf ops ocs) (kept-room (colourOf kind ps cs ks) (farOf asked) (roomOf ops ocs) ts),
+          )
+
+      pub thin-pinned : (ops″ ocs″ : List Float) (r″ : Listed) → Thins kind ps cs ks asked rows counts ops ops″ ocs ocs″ r″
+          → (r ≡ r″) × (ops′ ≡ ops″) × (ocs′ ≡ ocs″)
+      thin-pinned ops″ ocs″ r″ v = (w .told .answer ∙ sym (v .told .answer), w .positions ∙ sym (v .positions), w .channels ∙ sym (v .channels))
+
+    -- ---- both: 32,146 at most
+    module _ (rows′ : List Float) (counts′ : List ℕ) (w : Flattens kind ps cs ks asked rows rows′ counts counts′ ops ops′ ocs ocs′ r) where
+      flattening-most : flattenEvaluations kind ps cs ks asked ≤ 32146
+      unfolding flattenEvaluations freshList
+      flattening-most =
+          let g = colourOf kind ps cs ks in
+          let far = farOf asked in
+          let lo = minOf kind ps in
+          let hi = maxOf kind ps in
+          let ok = sampled-ready g far lo hi in
+          let ts = listOf (rowsOf g far lo hi) (countsOf g far lo hi) hi in
+          omega (arith, sampling-bound g far lo hi, list-bound g far ts (omega (arith, list-some (rowsOf g far lo hi) (countsOf g far lo hi) hi ok)) (list-most (rowsOf g far lo hi) (countsOf g far lo hi) hi ok))
+
+      pub flatten-most : evaluationsOfListed r ≤ 32146
+      flatten-most =
+          omega (
+            arith,
+            w .told .evaluations,
+            value-most (sampleCheck kind ps cs ks (length rows) (length counts)) (refusalOf (colourOf kind ps cs ks) (farOf asked) (roomOf ops ocs) (freshList kind ps cs ks asked))
+                (flattenEvaluations kind ps cs ks asked) 32146 (λ e. flattening-most),
+          )
+
+      pub flatten-room : stopsOfListed r ≤ roomOf ops ocs
+      flatten-room =
+          let ts = freshList kind ps cs ks asked in
+          omega (
+            arith,
+            w .told .stops,
+            value-room (sampleCheck kind ps cs ks (length rows) (length counts)) (refusalOf (colourOf kind ps cs ks) (farOf asked) (roomOf ops ocs) ts)
+                (length (keptOf (colourOf kind ps cs ks) (farOf asked) ts)) (roomOf ops ocs) (kept-room (colourOf kind ps cs ks) (farOf asked) (roomOf ops ocs) ts),
+          )
+
+      pub flatten-pinned : (rows″ : List Float) (counts″ : List ℕ) (ops″ ocs″ : List Float) (r″ : Listed)
+          → Flattens kind ps cs ks asked rows rows″ counts counts″ ops ops″ ocs ocs″ r″
+          → (r ≡ r″) × (rows′ ≡ rows″) × (counts′ ≡ counts″) × (ops′ ≡ ops″) × (ocs′ ≡ ocs″)
+      flatten-pinned rows″ counts″ ops″ ocs″ r″ v =
+          (w .told .answer ∙ sym (v .told .answer), w .written ∙ sym (v .written), w .counted ∙ sym (v .counted), w .positions ∙ sym (v .positions), w .channels ∙ sym (v .channels))

@@ -1,0 +1,164 @@
+-- Laws of the refusals 1 to 5. Assumes nothing.
+use mathlib.Core.Path.{_≡_, refl, sym, ap, _∙_}
+use mathlib.Core.Bool.{Bool, true, false, cond, _&&_, _||_}
+use mathlib.Core.List.{List, [], _∷_}
+use Prim.Native.Nat.{ℕ, zero, suc, _+_, _≤_, _<_}
+use native.Mathlib.Numerals.{add-one}
+use native.Mathlib.Omega.{arith}
+use borrow.Author.Tests.{eq-eqb, ne-eqb, eqb-true, le-leb, lt-leb, leb-true}
+use lib.Dec.{eqb, leb}
+use lib.ListN.{length, drop, getD, drop-of-length-le}
+use lib.Seq.{drop-cons}
+use lib.Ieee.{Float, neg, lt}
+use Rattle.float.proofs.Flags.{both-l, both-r}
+use Rattle.gradient.specs.declared.Checked.{Checked}
+use Rattle.gradient.specs.declared.Checked.the-variants as checked
+use Rattle.gradient.specs.declared.Kind.{Kind}
+use Rattle.gradient.specs.Ramp.{checkOf, minOf, maxOf}
+use Rattle.linearize.specs.Constants.{farthest}
+use Rattle.linearize.specs.Desk.{beyondOf, andThen, countsGood, shapeCheck, countsCheck, sampleCheck, thinCheck}
+use Rattle.linearize.specs.Promises.{Ready}
+
+-- a number below minus 1e38, or tested against 1e38
+pub beyond-low : (x : Float) → lt x (neg farthest) ≡ true → true ≡ beyondOf x
+unfolding beyondOf
+beyond-low x h = simp h
+
+pub beyond-high : (x : Float) → lt x (neg farthest) ≡ false → lt farthest x ≡ beyondOf x
+unfolding beyondOf
+beyond-high x h = simp h
+
+module _ (lo hi : Float) (n m : ℕ) where
+  pub low-beyond : beyondOf lo ≡ true → checked.Refused 4 ≡ shapeCheck lo hi n m
+  unfolding shapeCheck
+  low-beyond h = simp h
+
+  module _ (l : beyondOf lo ≡ false) where
+    pub high-beyond : beyondOf hi ≡ true → checked.Refused 4 ≡ shapeCheck lo hi n m
+    unfolding shapeCheck
+    high-beyond h = simp (l, h)
+
+    module _ (h : beyondOf hi ≡ false) where
+      pub rows-wrong : (n ≡ 4608 → ⊥) → checked.Refused 5 ≡ shapeCheck lo hi n m
+      unfolding shapeCheck
+      rows-wrong k = simp (l, h, ne-eqb n 4608 k)
+
+      pub counts-wrong : n ≡ 4608 → (m ≡ 36 → ⊥) → checked.Refused 5 ≡ shapeCheck lo hi n m
+      unfolding shapeCheck
+      counts-wrong e k = simp (l, h, eq-eqb n 4608 e, ne-eqb m 36 k)
+
+      pub shape-fine : n ≡ 4608 → m ≡ 36 → checked.Fine ≡ shapeCheck lo hi n m
+      unfolding shapeCheck
+      shape-fine e k = simp (l, h, eq-eqb n 4608 e, eq-eqb m 36 k)
+
+module _ (kind : Kind) (ps cs : List Float) (ks : List ℕ) (n m : ℕ) where
+  pub first-refuses : (k : ℕ) → checkOf kind ps cs ks ≡ checked.Refused k → checked.Refused k ≡ sampleCheck kind ps cs ks n m
+  unfolding sampleCheck
+  first-refuses k e = simp e
+
+  pub first-passes : (r : Checked) (lo hi : Float) → checkOf kind ps cs ks ≡ checked.Fine → lo ≡ minOf kind ps → hi ≡ maxOf kind ps → r ≡ shapeCheck lo hi n m
+      → r ≡ sampleCheck kind ps cs ks n m
+  unfolding sampleCheck
+  first-passes r lo hi e p q h = h ∙ rw (p, q, e)
+
+pub passes-both : (a b : Checked) → andThen a b ≡ checked.Fine → (a ≡ checked.Fine) × (b ≡ checked.Fine)
+passes-both checked.Fine b e = (refl, e)
+passes-both (checked.Refused k) b e = let z : _≡_ {A = ℕ} 0 1 = cc in absurd (omega arith)
+
+tested : (a b : Bool) → cond a (checked.Refused 4) (cond b checked.Fine (checked.Refused 5)) ≡ checked.Fine → b ≡ true
+tested true b h = let z : _≡_ {A = ℕ} 0 1 = cc in absurd (omega arith)
+tested false true h = refl
+tested false false h = let z : _≡_ {A = ℕ} 0 1 = cc in absurd (omega arith)
+
+shape-lengths : (lo hi : Float) (n m : ℕ) → shapeCheck lo hi n m ≡ checked.Fine → (n ≡ 4608) × (m ≡ 36)
+unfolding shapeCheck
+shape-lengths lo hi n m h =
+    let b = tested (beyondOf lo || beyondOf hi) (eqb n 4608 && eqb m 36) h in
+    (eqb-true n 4608 (both-l (eqb n 4608) (eqb m 36) b), eqb-true m 36 (both-r (eqb n 4608) (eqb m 36) b))
+
+-- what a check that is passed tells
+module _ (kind : Kind) (ps cs : List Float) (ks : List ℕ) (n m : ℕ) (h : sampleCheck kind ps cs ks n m ≡ checked.Fine) where
+  pub ramp-fine : checkOf kind ps cs ks ≡ checked.Fine
+  unfolding sampleCheck
+  ramp-fine = passes-both (checkOf kind ps cs ks) (shapeCheck (minOf kind ps) (maxOf kind ps) n m) h .0
+
+  pub record-lengths : (n ≡ 4608) × (m ≡ 36)
+  unfolding sampleCheck
+  record-lengths = shape-lengths (minOf kind ps) (maxOf kind ps) n m (passes-both (checkOf kind ps cs ks) (shapeCheck (minOf kind ps) (maxOf kind ps) n m) h .1)
+
+-- ---- the counts
+
+module _ (l : List ℕ) (i : ℕ) (h : i < length l) where
+  cons : countsGood (drop i l) ≡ (leb 1 (getD l i 0) && (leb (getD l i 0) 128 && countsGood (drop (i + 1) l)))
+  unfolding countsGood
+  cons = ap countsGood (drop-cons l i 0 h) ∙ rw add-one
+
+  pub too-small : getD l i 0 < 1 → countsGood (drop i l) ≡ false
+  too-small k = cons ∙ simp (lt-leb 1 (getD l i 0) k)
+
+  pub too-large : 1 ≤ getD l i 0 → 128 < getD l i 0 → countsGood (drop i l) ≡ false
+  too-large j k = cons ∙ simp (le-leb 1 (getD l i 0) j, lt-leb (getD l i 0) 128 k)
+
+  pub fitting : 1 ≤ getD l i 0 → getD l i 0 ≤ 128 → countsGood (drop (i + 1) l) ≡ countsGood (drop i l)
+  fitting j k = sym (cons ∙ simp (le-leb 1 (getD l i 0) j, le-leb (getD l i 0) 128 k))
+
+pub all-seen : (l : List ℕ) (i : ℕ) → length l ≤ i → countsGood (drop i l) ≡ true
+unfolding countsGood
+all-seen l i h = ap countsGood (drop-of-length-le l h)
+
+module _ (l : List ℕ) where
+  pub counts-fail : countsGood l ≡ false → checked.Refused 5 ≡ countsCheck l
+  unfolding countsCheck
+  counts-fail h = simp h
+
+  pub counts-pass : countsGood l ≡ true → checked.Fine ≡ countsCheck l
+  unfolding countsCheck
+  counts-pass h = simp h
+
+  good-by : (b : Bool) → cond b checked.Fine (checked.Refused 5) ≡ checked.Fine → b ≡ true
+  good-by true h = refl
+  good-by false h = let z : _≡_ {A = ℕ} 0 1 = cc in absurd (omega arith)
+
+  counts-good : countsCheck l ≡ checked.Fine → countsGood l ≡ true
+  unfolding countsCheck
+  counts-good h = good-by (countsGood l) h
+
+each-good : (l : List ℕ) → countsGood l ≡ true → (i : ℕ) → i < length l → (1 ≤ getD l i 0) × (getD l i 0 ≤ 128)
+unfolding countsGood
+each-good [] e i h = absurd (omega arith)
+each-good (n ∷ l) e zero h =
+    let r = both-r (leb 1 n) (leb n 128 && countsGood l) e in
+    (leb-true 1 n (both-l (leb 1 n) (leb n 128 && countsGood l) e), leb-true n 128 (both-l (leb n 128) (countsGood l) r))
+each-good (n ∷ l) e (suc i) h =
+    each-good l (both-r (leb n 128) (countsGood l) (both-r (leb 1 n) (leb n 128 && countsGood l) e)) i (omega arith)
+
+-- ---- the check before thinning
+
+module _ (kind : Kind) (ps cs : List Float) (ks : List ℕ) (rows : List Float) (counts : List ℕ) where
+  pub sample-refuses : (k : ℕ) → sampleCheck kind ps cs ks (length rows) (length counts) ≡ checked.Refused k → checked.Refused k ≡ thinCheck kind ps cs ks rows counts
+  unfolding thinCheck
+  sample-refuses k e = simp e
+
+  pub sample-passes : (r : Checked) → sampleCheck kind ps cs ks (length rows) (length counts) ≡ checked.Fine → r ≡ countsCheck counts → r ≡ thinCheck kind ps cs ks rows counts
+  unfolding thinCheck
+  sample-passes r e h = h ∙ rw e
+
+  module _ (h : thinCheck kind ps cs ks rows counts ≡ checked.Fine) where
+    pub sample-fine : sampleCheck kind ps cs ks (length rows) (length counts) ≡ checked.Fine
+    unfolding thinCheck
+    sample-fine = passes-both (sampleCheck kind ps cs ks (length rows) (length counts)) (countsCheck counts) h .0
+
+    counts-fine : countsGood counts ≡ true
+    unfolding thinCheck
+    counts-fine = counts-good counts (passes-both (sampleCheck kind ps cs ks (length rows) (length counts)) (countsCheck counts) h .1)
+
+    -- such a record may be thinned
+    pub ready : Ready rows counts
+    ready =
+        let l = record-lengths kind ps cs ks (length rows) (length counts) sample-fine in
+        record {
+          long = l .0;
+          many = l .1;
+          some = λ i k. each-good counts counts-fine i (omega (arith, l)) .0;
+          most = λ i k. each-good counts counts-fine i (omega (arith, l)) .1;
+        }

@@ -1,0 +1,179 @@
+-- `refresh_list` meets its contract: the record refreshed, then the list from the changed ramp; a refusal before that changes nothing. Assumes nothing.
+use mathlib.Core.Path.{sym, ap, _∙_}
+use native.Mathlib.Omega.{arith}
+use lib.ListN.{length, take}
+use lib.Seq.{length-take-le}
+use Rattle.gradient.specs.Ramp.{anyColour}
+use Rattle.linearize.specs.Difference.{differs}
+use Rattle.linearize.specs.Places.{listOf}
+use Rattle.linearize.specs.Kept.{roomOf}
+use Rattle.linearize.specs.Desk.{evaluationsOfListed}
+use Rattle.linearize.specs.Stretch.{reachOf, outsideOf}
+use Rattle.linearize.proofs.Bounds.{answer-bound}
+use Rattle.linearize.proofs.Following.{list-some, list-most}
+use Rattle.linearize.proofs.Checks.{ready}
+use Rattle.linearize.proofs.Renewing.{renewed-ready}
+use Rattle.linearize.proofs.EditChecks.{channels-there, edited, thin-fine}
+use Rattle.linearize.proofs.RefreshAnswers.{anew-bound, refresh-list-refused, refresh-list-done, domain-of}
+use borrow.Author.Needs.{needs}
+use Rattle.linearize.proofs.refreshing.refresh_list.Statement.{statement}
+use Rattle.linearize.proofs.refreshing.refresh_list.Tie as tie
+
+check-refresh-requires : tie.Need-check-refresh-requires
+check-refresh-requires c κs = search needs
+
+enum-known-n : tie.Need-enum-known-n
+enum-known-n c = search needs
+
+enum-told : tie.Need-enum-told
+enum-told c = search needs
+
+new-requires : tie.Need-new-requires
+new-requires c κs = search needs
+
+min-of-requires : tie.Need-min-of-requires
+min-of-requires c κs = search needs
+
+max-of-requires : tie.Need-max-of-requires
+max-of-requires c κs = search needs
+
+slice-aggregate-change : tie.Need-slice-aggregate-change
+slice-aggregate-change c = search needs
+
+change-requires : tie.Need-change-requires
+change-requires c κs =
+    let s = c .before .before .before .before .before .before .before .before .before .before .before .before .before .before .before .before in
+    let h = sym (c .before .before .before .before .before .before .check-refresh .ensures) ∙ c .before .before .before .before .enum-told .given .1 in
+    let there = channels-there (s .args .kind) (s .args .positions .now) (s .args .channels .now) (s .args .codes .now) (s .args .k) (s .args .colour) (edited (s .args .kind) (s .args .positions .now) (s .args .channels .now) (s .args .codes .now) (s .args .k) (s .args .colour) (s .args .rows .now) (s .args .counts .now) h) in
+    (there .0, there .1)
+
+array-share-prefix-copy : tie.Need-array-share-prefix-copy
+array-share-prefix-copy c =
+    let s = c .before .before .before .before .before .before .before .before .before .before .before .before .before .before .before .before .before .before in
+    let h = sym (c .before .before .before .before .before .before .before .before .check-refresh .ensures) ∙ c .before .before .before .before .before .before .enum-told .given .1 in
+    let there = channels-there (s .args .kind) (s .args .positions .now) (s .args .channels .now) (s .args .codes .now) (s .args .k) (s .args .colour) (edited (s .args .kind) (s .args .positions .now) (s .args .channels .now) (s .args .codes .now) (s .args .k) (s .args .colour) (s .args .rows .now) (s .args .counts .now) h) in
+    omega (arith, there .1, c .before .change .kept .1 .1 .1 .0)
+
+slice-aggregate-refresh-cells : tie.Need-slice-aggregate-refresh-cells
+slice-aggregate-refresh-cells c =
+    let s = c .before .before .before .before .before .before .before .before .before .before .before .before .before .before .before .before .before .before .before in
+    let h = sym (c .before .before .before .before .before .before .before .before .before .check-refresh .ensures) ∙ c .before .before .before .before .before .before .before .enum-told .given .1 in
+    let there = channels-there (s .args .kind) (s .args .positions .now) (s .args .channels .now) (s .args .codes .now) (s .args .k) (s .args .colour) (edited (s .args .kind) (s .args .positions .now) (s .args .channels .now) (s .args .codes .now) (s .args .k) (s .args .colour) (s .args .rows .now) (s .args .counts .now) h) in
+    sym (length-take-le _ (c .before .before .change .last .1 .1 .1 .0) (omega (arith, there .1, c .before .before .change .kept .1 .1 .1 .0)))
+
+refresh-cells-requires : tie.Need-refresh-cells-requires
+refresh-cells-requires c κs =
+    let s = c .before .before .before .before .before .before .before .before .before .before .before .before .before .before .before .before .before .before .before .before .before in
+    let h = sym (c .before .before .before .before .before .before .before .before .before .before .before .check-refresh .ensures) ∙ c .before .before .before .before .before .before .before .before .before .enum-told .given .1 in
+    let r = ready (s .args .kind) (s .args .positions .now) (s .args .channels .now) (s .args .codes .now) (s .args .rows .now) (s .args .counts .now) (thin-fine (s .args .kind) (s .args .positions .now) (s .args .channels .now) (s .args .codes .now) (s .args .k) (s .args .colour) (s .args .rows .now) (s .args .counts .now) h) in
+    ((r .long, r .many), (edited (s .args .kind) (s .args .positions .now) (s .args .channels .now) (s .args .codes .now) (s .args .k) (s .args .colour) (s .args .rows .now) (s .args .counts .now) h .stop, domain-of (s .args .kind) (s .args .positions .now) (s .args .channels .now) (s .args .codes .now) (s .args .k) (s .args .colour) (s .args .threshold) (s .args .rows .now) (s .args .counts .now) h _ _ (c .before .before .before .before .before .before .before .min-of .ensures) (c .before .before .before .before .before .before .max-of .ensures)))
+
+array-share-prefix-copy-2 : tie.Need-array-share-prefix-copy-2
+array-share-prefix-copy-2 c =
+    let s = c .before .before .before .before .before .before .before .before .before .before .before .before .before .before .before .before .before .before .before .before .before .before .before .before .before .before in
+    let h = sym (c .before .before .before .before .before .before .before .before .before .before .before .before .before .before .before .before .check-refresh .ensures) ∙ c .before .before .before .before .before .before .before .before .before .before .before .before .before .before .enum-told .given .1 in
+    let there = channels-there (s .args .kind) (s .args .positions .now) (s .args .channels .now) (s .args .codes .now) (s .args .k) (s .args .colour) (edited (s .args .kind) (s .args .positions .now) (s .args .channels .now) (s .args .codes .now) (s .args .k) (s .args .colour) (s .args .rows .now) (s .args .counts .now) h) in
+    omega (arith, there .1, c .before .before .before .before .before .before .before .before .before .change .kept .1 .1 .1 .0)
+
+slice-aggregate-thin-record : tie.Need-slice-aggregate-thin-record
+slice-aggregate-thin-record c =
+    let s = c .before .before .before .before .before .before .before .before .before .before .before .before .before .before .before .before .before .before .before .before .before .before .before .before .before .before .before in
+    let h = sym (c .before .before .before .before .before .before .before .before .before .before .before .before .before .before .before .before .before .check-refresh .ensures) ∙ c .before .before .before .before .before .before .before .before .before .before .before .before .before .before .before .enum-told .given .1 in
+    let there = channels-there (s .args .kind) (s .args .positions .now) (s .args .channels .now) (s .args .codes .now) (s .args .k) (s .args .colour) (edited (s .args .kind) (s .args .positions .now) (s .args .channels .now) (s .args .codes .now) (s .args .k) (s .args .colour) (s .args .rows .now) (s .args .counts .now) h) in
+    sym (length-take-le _ (c .before .before .before .before .before .before .before .before .before .before .change .last .1 .1 .1 .0) (omega (arith, there .1, c .before .before .before .before .before .before .before .before .before .before .change .kept .1 .1 .1 .0)))
+
+thin-record-requires : tie.Need-thin-record-requires
+thin-record-requires c κs =
+    let s = c .before .before .before .before .before .before .before .before .before .before .before .before .before .before .before .before .before .before .before .before .before .before .before .before .before .before .before .before .before .before .before in
+    let h = sym (c .before .before .before .before .before .before .before .before .before .before .before .before .before .before .before .before .before .before .before .before .before .check-refresh .ensures) ∙ c .before .before .before .before .before .before .before .before .before .before .before .before .before .before .before .before .before .before .before .enum-told .given .1 in
+    let k = c .before .before .before .before .before .before .before .before .before .refresh-cells in
+    let rows′ = k .last .1 .1 .1 .1 .1 .1 .1 .1 .0 in
+    let counts′ = k .last .1 .1 .1 .1 .1 .1 .1 .1 .1 .0 in
+    let max = c .before .before .before .before .before .before .before .before .before .before .before .before .before .before .before .before .max-of .result in
+    let cs′ = take (length (s .args .channels .now)) (c .before .before .before .before .before .before .before .before .before .before .before .before .before .before .change .last .1 .1 .1 .0) in
+    let g = anyColour (s .args .kind) (s .args .positions .now) cs′ (s .args .codes .now) in
+    let far = differs (c .before .before .before .before .before .before .before .before .before .before .before .before .before .before .before .before .before .before .new .result .threshold) in
+    let ok = renewed-ready g far (outsideOf (reachOf (s .args .kind)) (s .args .positions .now) (s .args .k)) (c .before .before .before .before .before .before .before .before .before .before .before .before .before .before .before .before .before .min-of .result) max (s .args .rows .now) (s .args .counts .now) (ready (s .args .kind) (s .args .positions .now) (s .args .channels .now) (s .args .codes .now) (s .args .rows .now) (s .args .counts .now) (thin-fine (s .args .kind) (s .args .positions .now) (s .args .channels .now) (s .args .codes .now) (s .args .k) (s .args .colour) (s .args .rows .now) (s .args .counts .now) h)) rows′ counts′ (k .result) (k .ensures) in
+    ok
+
+mul-evaluations : tie.Need-mul-evaluations
+mul-evaluations c = omega (arith, anew-bound _ _ _ _ _ _ _ _ _ _ (c .before .before .before .before .before .before .before .before .before .before .before .before .before .before .refresh-cells .ensures))
+
+with-sampling-requires : tie.Need-with-sampling-requires
+with-sampling-requires c κs =
+    let s = c .before .before .before .before .before .before .before .before .before .before .before .before .before .before .before .before .before .before .before .before .before .before .before .before .before .before .before .before .before .before .before .before .before .before .before .before in
+    let h = sym (c .before .before .before .before .before .before .before .before .before .before .before .before .before .before .before .before .before .before .before .before .before .before .before .before .before .before .check-refresh .ensures) ∙ c .before .before .before .before .before .before .before .before .before .before .before .before .before .before .before .before .before .before .before .before .before .before .before .before .enum-told .given .1 in
+    let k = c .before .before .before .before .before .before .before .before .before .before .before .before .before .before .refresh-cells in
+    let rows′ = k .last .1 .1 .1 .1 .1 .1 .1 .1 .0 in
+    let counts′ = k .last .1 .1 .1 .1 .1 .1 .1 .1 .1 .0 in
+    let max = c .before .before .before .before .before .before .before .before .before .before .before .before .before .before .before .before .before .before .before .before .before .max-of .result in
+    let cs′ = take (length (s .args .channels .now)) (c .before .before .before .before .before .before .before .before .before .before .before .before .before .before .before .before .before .before .before .change .last .1 .1 .1 .0) in
+    let g = anyColour (s .args .kind) (s .args .positions .now) cs′ (s .args .codes .now) in
+    let far = differs (c .before .before .before .before .before .before .before .before .before .before .before .before .before .before .before .before .before .before .before .before .before .before .before .new .result .threshold) in
+    let ok = renewed-ready g far (outsideOf (reachOf (s .args .kind)) (s .args .positions .now) (s .args .k)) (c .before .before .before .before .before .before .before .before .before .before .before .before .before .before .before .before .before .before .before .before .before .before .min-of .result) max (s .args .rows .now) (s .args .counts .now) (ready (s .args .kind) (s .args .positions .now) (s .args .channels .now) (s .args .codes .now) (s .args .rows .now) (s .args .counts .now) (thin-fine (s .args .kind) (s .args .positions .now) (s .args .channels .now) (s .args .codes .now) (s .args .k) (s .args .colour) (s .args .rows .now) (s .args .counts .now) h)) rows′ counts′ (k .result) (k .ensures) in
+    let ts = listOf rows′ counts′ max in
+    let some = list-some rows′ counts′ max ok in (
+      omega (arith, anew-bound _ _ _ _ _ _ _ _ _ _ (k .ensures)),
+      omega (arith, ap evaluationsOfListed (c .before .before .before .before .thin-record .ensures .answer), answer-bound g far ts (omega (arith, some)) (list-most rows′ counts′ max ok) (roomOf (s .args .out-positions .now) (s .args .out-channels .now))),
+    )
+
+same-length : tie.Need-same-length
+same-length c = search needs
+
+same-length-2 : tie.Need-same-length-2
+same-length-2 c = search needs
+
+returns : tie.Need-returns
+returns c =
+    let s = c .before .before .before .before .before .before .before .before .before .before .before .before .before in
+    refresh-list-refused (s .args .kind) (s .args .positions .now) (s .args .channels .now) (s .args .codes .now) (s .args .k) (s .args .colour) (s .args .threshold) (s .args .rows .now) (s .args .counts .now) (s .args .out-positions .now) (s .args .out-channels .now) _ (sym (c .before .before .before .check-refresh .ensures) ∙ c .before .n .given .1)
+
+same-length-3 : tie.Need-same-length-3
+same-length-3 c = search needs
+
+same-length-4 : tie.Need-same-length-4
+same-length-4 c = search needs
+
+same-length-5 : tie.Need-same-length-5
+same-length-5 c = search needs
+
+same-length-6 : tie.Need-same-length-6
+same-length-6 c = search needs
+
+returns-2 : tie.Need-returns-2
+returns-2 c =
+    let s = c .before .before .before .before .before .before .before .before .before .before .before .before .before .before .before .before .before .before .before .before .before .before .before .before .before .before .before .before .before .before .before .before .before .before .before .before .before in
+    let h = sym (c .before .before .before .before .before .before .before .before .before .before .before .before .before .before .before .before .before .before .before .before .before .before .before .before .before .before .before .check-refresh .ensures) ∙ c .before .before .before .before .before .before .before .before .before .before .before .before .before .before .before .before .before .before .before .before .before .before .before .before .before .enum-told .given .1 in
+    let k = c .before .before .before .before .before .before .before .before .before .before .before .before .before .before .before .refresh-cells in
+    let made = c .before .before .before .before .before .thin-record in
+    refresh-list-done (s .args .kind) (s .args .positions .now) (s .args .channels .now) (s .args .codes .now) (s .args .k) (s .args .colour) (s .args .threshold) (s .args .rows .now) (s .args .counts .now) (s .args .out-positions .now) (s .args .out-channels .now) h (c .before .before .before .before .before .before .before .before .before .before .before .before .before .before .before .before .before .before .before .before .before .before .before .before .new .result .threshold) (c .before .before .before .before .before .before .before .before .before .before .before .before .before .before .before .before .before .before .before .before .before .before .before .min-of .result) (c .before .before .before .before .before .before .before .before .before .before .before .before .before .before .before .before .before .before .before .before .before .before .max-of .result) (take (length (s .args .channels .now)) (c .before .before .before .before .before .before .before .before .before .before .before .before .before .before .before .before .before .before .before .before .change .last .1 .1 .1 .0)) (k .last .1 .1 .1 .1 .1 .1 .1 .1 .0) (k .last .1 .1 .1 .1 .1 .1 .1 .1 .1 .0) (k .result) (made .last .1 .1 .1 .1 .1 .1 .1 .1 .0) (made .last .1 .1 .1 .1 .1 .1 .1 .1 .1 .0) (made .result) (c .with-sampling .result)
+    (c .before .before .before .before .before .before .before .before .before .before .before .before .before .before .before .before .before .before .before .before .before .before .before .before .new .ensures) (c .before .before .before .before .before .before .before .before .before .before .before .before .before .before .before .before .before .before .before .before .before .before .before .min-of .ensures) (c .before .before .before .before .before .before .before .before .before .before .before .before .before .before .before .before .before .before .before .before .before .before .max-of .ensures) (c .before .before .before .before .before .before .before .before .before .before .before .before .before .before .before .before .before .before .before .before .change .ensures) (k .ensures) (made .ensures) (c .with-sampling .ensures)
+
+pub refresh-list-spec : {M : Type 1} → statement M
+refresh-list-spec =
+    tie.close
+    (tie.spec
+    check-refresh-requires
+    enum-known-n
+    enum-told
+    new-requires
+    min-of-requires
+    max-of-requires
+    slice-aggregate-change
+    change-requires
+    array-share-prefix-copy
+    slice-aggregate-refresh-cells
+    refresh-cells-requires
+    array-share-prefix-copy-2
+    slice-aggregate-thin-record
+    thin-record-requires
+    mul-evaluations
+    with-sampling-requires
+    same-length
+    same-length-2
+    returns
+    same-length-3
+    same-length-4
+    same-length-5
+    same-length-6
+    returns-2)

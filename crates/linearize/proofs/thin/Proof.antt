@@ -1,0 +1,57 @@
+-- `thin` meets its contract: a refusal before the list changes nothing; else the list of the record's points. Assumes nothing.
+use mathlib.Core.Path.{sym, ap, _∙_}
+use Rattle.linearize.proofs.Checks.{ready}
+use Rattle.linearize.proofs.Answers.{thin-refused, thin-done}
+use Rattle.linearize.specs.Difference.{differs}
+use borrow.Author.Needs.{needs}
+use Rattle.linearize.proofs.thin.Statement.{statement}
+use Rattle.linearize.proofs.thin.Tie as tie
+
+check-thin-requires : tie.Need-check-thin-requires
+check-thin-requires c κs = search needs
+
+enum-known-n : tie.Need-enum-known-n
+enum-known-n c = search needs
+
+enum-told : tie.Need-enum-told
+enum-told c = search needs
+
+new-requires : tie.Need-new-requires
+new-requires c κs = search needs
+
+max-of-requires : tie.Need-max-of-requires
+max-of-requires c κs = search needs
+
+thin-record-requires : tie.Need-thin-record-requires
+thin-record-requires c κs = ready _ _ _ _ _ _ (sym (c .before .before .before .before .before .before .check-thin .ensures) ∙ c .before .before .before .before .enum-told .given .1)
+
+returns : tie.Need-returns
+returns c = thin-refused _ _ _ _ _ _ _ _ _ _ (sym (c .before .before .before .check-thin .ensures) ∙ c .before .n .given .1)
+
+same-length : tie.Need-same-length
+same-length c = search needs
+
+same-length-2 : tie.Need-same-length-2
+same-length-2 c = search needs
+
+returns-2 : tie.Need-returns-2
+returns-2 c =
+    let a = c .before .before .before .before .before .before .before .before .before .before .before .before .before .before .before .before .before .before .before .args in
+    let h = (c .before .before .before .before .thin-record) in
+    thin-done (a .kind) (a .positions .now) (a .channels .now) (a .codes .now) (a .threshold) (a .rows .now) (a .counts .now) (a .out-positions .now) (a .out-channels .now) (differs (c .before .before .before .before .before .before .before .before .new .result .threshold)) (c .before .before .before .before .before .before .before .max-of .result)
+    (h .last .1 .1 .1 .1 .1 .1 .1 .1 .0) (h .last .1 .1 .1 .1 .1 .1 .1 .1 .1 .0) (h .result) (sym (c .before .before .before .before .before .before .before .before .before .before .before .check-thin .ensures) ∙ c .before .before .before .before .before .before .before .before .before .enum-told .given .1) (ap differs (c .before .before .before .before .before .before .before .before .new .ensures)) (c .before .before .before .before .before .before .before .max-of .ensures) (h .ensures)
+
+pub thin-spec : {M : Type 1} → statement M
+thin-spec =
+    tie.close
+    (tie.spec
+    check-thin-requires
+    enum-known-n
+    enum-told
+    new-requires
+    max-of-requires
+    thin-record-requires
+    returns
+    same-length
+    same-length-2
+    returns-2)

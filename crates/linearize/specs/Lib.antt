@@ -1,0 +1,13 @@
+pub mod Constants
+pub mod Difference
+pub mod Midpoints
+pub mod Cells
+pub mod Places
+pub mod Kept
+pub mod Walk
+pub mod Desk
+pub mod Promises
+pub mod Stretch
+pub mod Anew
+pub mod Edit
+pub mod RefreshDesk

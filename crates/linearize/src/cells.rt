@@ -1,0 +1,222 @@
+// Sampling: each cell is halved where its colours bend, and its points are written to its row.
+use crate::Halved;
+use crate::Point;
+use crate::Sampler;
+use crate::difference::stands_out;
+use gradient::Kind;
+use gradient::utils::interpolate_linear;
+ghost use mathlib.Core.Path.{_≡_};
+ghost use Prim.Native.Nat.{_+_, _≤_, _<_, _^_, _-_};
+ghost use lib.ListN.{length, replicate};
+ghost use lib.Seq.{sets};
+ghost use Rattle.float.specs.F32.{f0};
+ghost use Rattle.gradient.specs.Ramp.{anyColour};
+ghost use Rattle.linearize.specs.Constants.{cells, rowLength, recordLength};
+ghost use Rattle.linearize.specs.Difference.{differs};
+ghost use Rattle.linearize.specs.Cells.{edgeOf};
+ghost use Rattle.linearize.specs.Promises.{Coloured, HalvesTo, RowIs, CellAnew, RecordIs};
+
+pub(crate) fn evaluate(
+    kind: Kind,
+    positions: &[f32],
+    channels: &[f32],
+    codes: &[u8],
+    t: f32,
+) -> Point
+    ensures { λ r. ⌜ (r .t ≡ t) × Coloured (anyColour kind (now (positions .entry)) (now (channels .entry)) (now (codes .entry))) r ⌝ }
+{
+    Point {
+        t,
+        colour: gradient::colour_at(kind, positions, channels, codes, t),
+    }
+}
+
+// Writes the midpoints kept between p and q into the row from `at` on, in order, with `left` halvings left.
+fn halve(
+    kind: Kind,
+    positions: &[f32],
+    channels: &[f32],
+    codes: &[u8],
+    threshold: f32,
+    row: &mut [f32],
+    at: usize,
+    p: Point,
+    q: Point,
+    left: usize,
+) -> Halved
+    requires { ⌜ at + 2 ^ left ≤ length (now row) + 1 ⌝ }
+    requires { ⌜ Coloured (anyColour kind (now positions) (now channels) (now codes)) p × Coloured (anyColour kind (now positions) (now channels) (now codes)) q ⌝ }
+    ensures { λ r. ⌜ HalvesTo (anyColour kind (now (positions .entry)) (now (channels .entry)) (now (codes .entry))) (differs threshold) left (p .t) (q .t) at (now (row .entry)) (now (row .exit)) r ⌝ }
+{
+    if left == 0 {
+        return Halved { at, tries: 0 };
+    }
+    let m = evaluate(kind, positions, channels, codes, (p.t + q.t) / 2.0);
+    if !stands_out(
+        threshold,
+        m.colour,
+        interpolate_linear(p.colour, q.colour, 0.5),
+    ) {
+        return Halved { at, tries: 1 };
+    }
+    let n = left - 1;
+    let a = halve(
+        kind,
+        positions,
+        channels,
+        codes,
+        threshold,
+        row,
+        at,
+        p,
+        m,
+        n,
+    );
+    let k = a.at;
+    row[k] = m.t;
+    let b = halve(
+        kind,
+        positions,
+        channels,
+        codes,
+        threshold,
+        row,
+        k + 1,
+        m,
+        q,
+        n,
+    );
+    Halved {
+        at: b.at,
+        tries: a.tries + b.tries + 1,
+    }
+}
+
+// Writes +0 from `from` to the end.
+pub(crate) fn clear_from(row: &mut [f32], from: usize)
+    ensures { λ _. ⌜ now (row .exit) ≡ sets (now (row .entry)) from (replicate (length (now (row .entry)) - from) f0) ⌝ }
+{
+    let mut i = from;
+    while i < row.len() {
+        row[i] = 0.0;
+        i += 1;
+    }
+}
+
+// Writes the row of the cell from p to q.
+fn row_into(
+    kind: Kind,
+    positions: &[f32],
+    channels: &[f32],
+    codes: &[u8],
+    threshold: f32,
+    row: &mut [f32],
+    p: Point,
+    q: Point,
+) -> Halved
+    requires { ⌜ length (now row) ≡ rowLength ⌝ }
+    requires { ⌜ Coloured (anyColour kind (now positions) (now channels) (now codes)) p × Coloured (anyColour kind (now positions) (now channels) (now codes)) q ⌝ }
+    ensures { λ r. ⌜ RowIs (anyColour kind (now (positions .entry)) (now (channels .entry)) (now (codes .entry))) (differs threshold) (p .t) (q .t) (now (row .exit)) r ⌝ }
+{
+    row[0] = p.t;
+    let h = halve(
+        kind,
+        positions,
+        channels,
+        codes,
+        threshold,
+        row,
+        1,
+        p,
+        q,
+        Sampler::DEPTH,
+    );
+    let at = h.at;
+    clear_from(row, at);
+    h
+}
+
+// The end between cell i - 1 and cell i.
+pub(crate) fn edge(min: f32, max: f32, i: usize) -> f32
+    requires { ⌜ i ≤ cells ⌝ }
+    ensures { λ r. ⌜ r ≡ edgeOf min max i ⌝ }
+{
+    min + (max - min) * (i as f32 / Sampler::CELLS as f32)
+}
+
+// Samples cell i, from p to q, anew.
+pub(crate) fn cell_into(
+    kind: Kind,
+    positions: &[f32],
+    channels: &[f32],
+    codes: &[u8],
+    threshold: f32,
+    min: f32,
+    max: f32,
+    i: usize,
+    p: Point,
+    q: Point,
+    rows: &mut [f32],
+    counts: &mut [u8],
+) -> usize
+    requires { ⌜ (i < cells) × ((length (now rows) ≡ recordLength) × (length (now counts) ≡ cells)) ⌝ }
+    requires { ⌜ (p .t ≡ edgeOf min max i) × (q .t ≡ edgeOf min max (i + 1)) ⌝ }
+    requires { ⌜ Coloured (anyColour kind (now positions) (now channels) (now codes)) p × Coloured (anyColour kind (now positions) (now channels) (now codes)) q ⌝ }
+    ensures { λ r. ⌜ CellAnew (anyColour kind (now (positions .entry)) (now (channels .entry)) (now (codes .entry))) (differs threshold) min max i (now (rows .entry)) (now (rows .exit)) (now (counts .entry)) (now (counts .exit)) r ⌝ }
+{
+    let a = i * Sampler::ROW;
+    let e = a + Sampler::ROW;
+    let h = row_into(
+        kind,
+        positions,
+        channels,
+        codes,
+        threshold,
+        &mut rows[a..e],
+        p,
+        q,
+    );
+    counts[i] = h.at as u8;
+    h.tries
+}
+
+// Samples every cell; a cell's right end is the next one's left. Gives the tries.
+pub(crate) fn sample_cells(
+    kind: Kind,
+    positions: &[f32],
+    channels: &[f32],
+    codes: &[u8],
+    threshold: f32,
+    min: f32,
+    max: f32,
+    rows: &mut [f32],
+    counts: &mut [u8],
+) -> usize
+    requires { ⌜ (length (now rows) ≡ recordLength) × (length (now counts) ≡ cells) ⌝ }
+    ensures { λ r. ⌜ RecordIs (anyColour kind (now (positions .entry)) (now (channels .entry)) (now (codes .entry))) (differs threshold) min max (now (rows .exit)) (now (counts .exit)) r ⌝ }
+{
+    let mut n = 0;
+    let mut i = 0;
+    let mut p = evaluate(kind, positions, channels, codes, edge(min, max, 0));
+    while i < Sampler::CELLS {
+        let j = i + 1;
+        let q = evaluate(kind, positions, channels, codes, edge(min, max, j));
+        n += cell_into(
+            kind,
+            positions,
+            channels,
+            codes,
+            threshold,
+            min,
+            max,
+            i,
+            p,
+            q,
+            rows,
+            counts,
+        );
+        p = q;
+        i = j;
+    }
+    n
+}

@@ -1,0 +1,266 @@
+// Thinning: the points of a record one after the other, each kept or not, and the stops written out.
+use crate::Listed;
+use crate::Place;
+use crate::Point;
+use crate::Progress;
+use crate::Sampler;
+use crate::cells::clear_from;
+use crate::cells::evaluate;
+use crate::difference::stands_out;
+use gradient::Kind;
+use gradient::Rgba;
+use gradient::stops::is_finite_colour;
+use gradient::utils::interpolate_linear;
+ghost use mathlib.Core.Path.{_≡_};
+ghost use Prim.Native.Nat.{_+_, _*_, _/_, _≤_, _<_, min};
+ghost use lib.ListN.{length, drop};
+ghost use lib.Seq.{sets};
+ghost use Rattle.gradient.specs.Ramp.{anyColour};
+ghost use Rattle.linearize.specs.Constants.{cells, rowLength, recordLength};
+ghost use Rattle.linearize.specs.Difference.{differs};
+ghost use Rattle.linearize.specs.Places.{listOf, nextPlace, pointAt};
+ghost use Rattle.linearize.specs.Kept.{nearOf, stopRefusal, channelsOf, roomOf, writtenOf};
+ghost use Rattle.linearize.specs.Walk.{run, emitRun, stepRun, outcome};
+ghost use Rattle.linearize.specs.Desk.{listedOf};
+ghost use Rattle.linearize.specs.Promises.{Ready, Started, Thinned, ListMade};
+
+fn next_place(counts: &[u8], place: Place) -> Place
+    requires { ⌜ (length (now counts) ≡ cells) × ((place .row < cells) × (place .index < rowLength)) ⌝ }
+    ensures { λ r. ⌜ r ≡ nextPlace (now (counts .entry)) place ⌝ }
+{
+    let row = place.row;
+    let index = place.index + 1;
+    if index < counts[row] as usize {
+        return Place { row, index };
+    }
+    Place {
+        row: row + 1,
+        index: 0,
+    }
+}
+
+fn point_at(rows: &[f32], max: f32, place: Place) -> f32
+    requires { ⌜ (length (now rows) ≡ recordLength) × (place .index < rowLength) ⌝ }
+    ensures { λ r. ⌜ r ≡ pointAt (now (rows .entry)) max place ⌝ }
+{
+    let row = place.row;
+    if row < Sampler::CELLS {
+        let at = row * Sampler::ROW + place.index;
+        return rows[at];
+    }
+    max
+}
+
+// Nearer than 2^-23.
+fn near(last: f32, x: f32) -> bool
+    ensures { λ r. ⌜ r ≡ nearOf last x ⌝ }
+{
+    float::magnitude(last - x) < 0.00000011920928955078125
+}
+
+// 7, 8, 9, or 0 where the stop may be written.
+fn stop_refusal(room: usize, n: usize, last: f32, t: f32, c: Rgba) -> u8
+    ensures { λ r. ⌜ r ≡ stopRefusal room n last t c ⌝ }
+{
+    if room <= n {
+        return 7;
+    }
+    if !float::is_finite(t) {
+        return 8;
+    }
+    if !is_finite_colour(c) {
+        return 8;
+    }
+    if t < last {
+        return 9;
+    }
+    0
+}
+
+pub(crate) fn put_colour(out: &mut [f32], k: usize, c: Rgba)
+    requires { ⌜ k + 4 ≤ length (now out) ⌝ }
+    ensures { λ _. ⌜ now (out .exit) ≡ sets (now (out .entry)) k (channelsOf c) ⌝ }
+{
+    let green = k + 1;
+    let blue = k + 2;
+    let alpha = k + 3;
+    out[k] = c.r;
+    out[green] = c.g;
+    out[blue] = c.b;
+    out[alpha] = c.a;
+}
+
+// Writes a stop at p, unless it is refused.
+fn emit(
+    room: usize,
+    s: Progress,
+    p: Point,
+    out_positions: &mut [f32],
+    out_channels: &mut [f32],
+) -> Progress
+    requires { ⌜ (room ≤ length (now «out_positions»)) × (4 * room ≤ length (now «out_channels»)) ⌝ }
+    ensures { λ r. ⌜ run r (now («out_positions» .exit)) (now («out_channels» .exit)) ≡ emitRun room (run s (now («out_positions» .entry)) (now («out_channels» .entry))) p ⌝ }
+{
+    let n = s.stops;
+    let last = s.last;
+    let refusal = stop_refusal(room, n, last.t, p.t, p.colour);
+    if refusal != 0 {
+        return Progress {
+            last,
+            stops: n,
+            tried: s.tried,
+            refusal,
+        };
+    }
+    out_positions[n] = p.t;
+    put_colour(out_channels, 4 * n, p.colour);
+    Progress {
+        last: p,
+        stops: n + 1,
+        tried: s.tried,
+        refusal: 0,
+    }
+}
+
+// Weighs x between the last point kept and the next: it is skipped, dropped or kept.
+fn step(
+    threshold: f32,
+    room: usize,
+    s: Progress,
+    x: Point,
+    next: Point,
+    out_positions: &mut [f32],
+    out_channels: &mut [f32],
+) -> Progress
+    requires { ⌜ (room ≤ length (now «out_positions»)) × (4 * room ≤ length (now «out_channels»)) ⌝ }
+    requires { ⌜ s .tried < recordLength ⌝ }
+    ensures { λ r. ⌜ run r (now («out_positions» .exit)) (now («out_channels» .exit)) ≡ stepRun (differs threshold) room (run s (now («out_positions» .entry)) (now («out_channels» .entry))) x next ⌝ }
+{
+    let kept = s.last;
+    if near(kept.t, x.t) {
+        return s;
+    }
+    let weighed = Progress {
+        last: kept,
+        stops: s.stops,
+        tried: s.tried + 1,
+        refusal: s.refusal,
+    };
+    let foretold = interpolate_linear(kept.colour, next.colour, (x.t - kept.t) / (next.t - kept.t));
+    if !stands_out(threshold, x.colour, foretold) {
+        return weighed;
+    }
+    emit(room, weighed, x, out_positions, out_channels)
+}
+
+// Thins the points after the first, from place to place; the last is always kept.
+fn thin_points(
+    kind: Kind,
+    positions: &[f32],
+    channels: &[f32],
+    codes: &[u8],
+    threshold: f32,
+    max: f32,
+    room: usize,
+    start: Progress,
+    rows: &[f32],
+    counts: &[u8],
+    out_positions: &mut [f32],
+    out_channels: &mut [f32],
+) -> Progress
+    requires { ⌜ (room ≤ length (now «out_positions»)) × (4 * room ≤ length (now «out_channels»)) ⌝ }
+    requires { ⌜ Ready (now rows) (now counts) × Started (anyColour kind (now positions) (now channels) (now codes)) room start ⌝ }
+    ensures { λ r. ⌜ Thinned (outcome (anyColour kind (now (positions .entry)) (now (channels .entry)) (now (codes .entry))) (differs threshold) room (run start (now («out_positions» .entry)) (now («out_channels» .entry))) (drop 1 (listOf (now (rows .entry)) (now (counts .entry)) max))) room (run r (now («out_positions» .exit)) (now («out_channels» .exit))) ⌝ }
+{
+    let mut s = start;
+    let mut place = next_place(counts, Place { row: 0, index: 0 });
+    let mut x = evaluate(kind, positions, channels, codes, point_at(rows, max, place));
+    while place.row < Sampler::CELLS {
+        let after = next_place(counts, place);
+        let next = evaluate(kind, positions, channels, codes, point_at(rows, max, after));
+        s = step(threshold, room, s, x, next, out_positions, out_channels);
+        let refusal = s.refusal;
+        if refusal != 0 {
+            return s;
+        }
+        x = next;
+        place = after;
+    }
+    emit(room, s, x, out_positions, out_channels)
+}
+
+// The whole stops that both outputs hold.
+fn room_of(positions: usize, channels: usize) -> usize
+    ensures { λ r. ⌜ r ≡ min positions (channels / 4) ⌝ }
+{
+    let k = channels / 4;
+    if positions <= k {
+        return positions;
+    }
+    k
+}
+
+// The answer; a refusal sets both outputs to zero.
+fn finish(s: Progress, out_positions: &mut [f32], out_channels: &mut [f32]) -> Listed
+    requires { ⌜ (s .tried ≤ recordLength) × (s .stops ≤ length (now «out_positions»)) ⌝ }
+    ensures { λ r. ⌜ r ≡ listedOf (s .refusal) (s .stops) (3 * s .tried + s .stops) ⌝ }
+    ensures { λ _. ⌜ now («out_positions» .exit) ≡ writtenOf (s .refusal) (now («out_positions» .entry)) ⌝ }
+    ensures { λ _. ⌜ now («out_channels» .exit) ≡ writtenOf (s .refusal) (now («out_channels» .entry)) ⌝ }
+{
+    let refusal = s.refusal;
+    if refusal != 0 {
+        clear_from(out_positions, 0);
+        clear_from(out_channels, 0);
+        return Listed::Refused(refusal);
+    }
+    Listed::Done {
+        stops: s.stops,
+        evaluations: 3 * s.tried + s.stops,
+    }
+}
+
+// Thins a record's points, and writes the stops.
+pub(crate) fn thin_record(
+    kind: Kind,
+    positions: &[f32],
+    channels: &[f32],
+    codes: &[u8],
+    threshold: f32,
+    max: f32,
+    rows: &[f32],
+    counts: &[u8],
+    out_positions: &mut [f32],
+    out_channels: &mut [f32],
+) -> Listed
+    requires { ⌜ Ready (now rows) (now counts) ⌝ }
+    ensures { λ r. ⌜ ListMade (anyColour kind (now (positions .entry)) (now (channels .entry)) (now (codes .entry))) (differs threshold) (roomOf (now («out_positions» .entry)) (now («out_channels» .entry))) (listOf (now (rows .entry)) (now (counts .entry)) max) (now («out_positions» .entry)) (now («out_positions» .exit)) (now («out_channels» .entry)) (now («out_channels» .exit)) r ⌝ }
+{
+    let room = room_of(out_positions.len(), out_channels.len());
+    let first = evaluate(kind, positions, channels, codes, rows[0]);
+    let start = Progress {
+        last: first,
+        stops: 0,
+        tried: 0,
+        refusal: 0,
+    };
+    let s = emit(room, start, first, out_positions, out_channels);
+    let refusal = s.refusal;
+    if refusal != 0 {
+        return finish(s, out_positions, out_channels);
+    }
+    let e = thin_points(
+        kind,
+        positions,
+        channels,
+        codes,
+        threshold,
+        max,
+        room,
+        s,
+        rows,
+        counts,
+        out_positions,
+        out_channels,
+    );
+    finish(e, out_positions, out_channels)
+}
