@@ -1,0 +1,3 @@
+pub mod Filling
+pub mod Painting
+pub mod Refreshing

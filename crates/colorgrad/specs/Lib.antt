@@ -1,0 +1,4 @@
+pub mod Answers
+pub mod Canvas
+pub mod Promises
+pub mod Fresh

@@ -1,0 +1,30 @@
+-- What the calls promise, part by part: the number, the answer, and what the lent output holds at the end.
+use mathlib.Core.Path.{_≡_}
+use mathlib.Core.List.{List}
+use Prim.Native.Nat.{ℕ, _*_, _≤_}
+use lib.ListN.{length}
+use lib.Ieee.{Float}
+use Rattle.gradient.specs.Place.{Rising}
+use Rattle.gradient.specs.Ramp.{checkOf}
+use Rattle.gradient.specs.Answers.{numberOfChecked}
+use Rattle.gradient.specs.declared.Kind.{Kind}
+use Rattle.colorgrad.specs.Answers.{numberOfAnswer, numberOfPainted, atAnswer, paintCheck, paintAnswer}
+use Rattle.colorgrad.specs.Canvas.{roomOf, canvas}
+use Rattle.colorgrad.specs.declared.Answer.{Answer}
+use Rattle.colorgrad.specs.declared.Painted.{Painted}
+
+-- what painting asks of stops and of the room
+pub record Ready (ps ts out : List Float) : Type 0 where
+  pub two : 2 ≤ length ps
+  pub rising : Rising ps
+  pub room : 4 * length ts ≤ length out
+
+module _ (kind : Kind) (ps cs : List Float) (ks : List ℕ) where
+  pub record AtIs (t : Float) (r : Answer) : Type 0 where
+    pub number : numberOfAnswer r ≡ numberOfChecked (checkOf kind ps cs ks)
+    pub answer : r ≡ atAnswer kind ps cs ks t
+
+  pub record PaintIs (ts out out′ : List Float) (r : Painted) : Type 0 where
+    pub number : numberOfPainted r ≡ numberOfChecked (paintCheck kind ps cs ks (length ts) (roomOf out))
+    pub answer : r ≡ paintAnswer kind ps cs ks (length ts) (roomOf out)
+    pub contents : out′ ≡ canvas kind ps cs ks ts out
