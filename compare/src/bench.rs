@@ -1,0 +1,227 @@
+//! Times beside the Rust's: one run, the same buffers, medians of interleaved repetitions, processor time.
+
+use crate::clock;
+use crate::gimp_texts::tidy_text;
+use crate::lists::MOST_POINTS;
+use crate::options::Options;
+use crate::oracle::{self, Boxed, Record};
+use crate::ordinary;
+use crate::ours::{self, Edit};
+use crate::ramps::{Kind, Ramp, KINDS, MOST_SEGMENTS};
+use crate::random::Random;
+use crate::refresh::changed;
+use std::hint::black_box;
+
+const REPETITIONS: usize = 21;
+const POINTS: usize = 4096;
+
+/// Every table, or the one that is asked for by name.
+pub fn run(options: &Options) {
+    println!("| call | beside | ours, ns | Rust, ns | ratio |");
+    println!("|---|---|---|---|---|");
+    let tables: [(&str, fn(&mut Random)); 6] = [
+        ("root", roots),
+        ("token", tokens),
+        ("paint", paint),
+        ("read", reading),
+        ("flatten", flatten),
+        ("refresh", refresh),
+    ];
+    for (name, table) in tables {
+        if options.name.as_ref().is_none_or(|wanted| wanted == name) {
+            table(&mut Random::of_case(options.seed, 0));
+        }
+    }
+}
+
+/// Prints the medians of the two for one of `items`.
+fn beside(call: &str, other: &str, items: usize, ours: impl FnMut(), rust: impl FnMut()) {
+    let (a, b) = timed(REPETITIONS, ours, rust);
+    row(call, other, a / items as f64, b / items as f64);
+}
+
+fn row(call: &str, other: &str, ours: f64, rust: f64) {
+    println!("| {call} | {other} | {ours:.1} | {rust:.1} | {:.2} |", ours / rust);
+}
+
+/// Runs the two in turn, each long enough to be timed: the medians.
+fn timed(repetitions: usize, mut ours: impl FnMut(), mut rust: impl FnMut()) -> (f64, f64) {
+    let (turns, others) = (turns(&mut ours), turns(&mut rust));
+    let mut times = (Vec::new(), Vec::new());
+    for _ in 0..repetitions {
+        times.0.push(nanoseconds(&mut ours, turns));
+        times.1.push(nanoseconds(&mut rust, others));
+    }
+    (median(times.0), median(times.1))
+}
+
+/// As many calls as take about a millisecond.
+fn turns(call: &mut impl FnMut()) -> u32 {
+    let mut n = 1;
+    while nanoseconds(call, n) * (n as f64) < 1.0e6 {
+        n *= 2;
+    }
+    n
+}
+
+fn nanoseconds(call: &mut impl FnMut(), turns: u32) -> f64 {
+    let start = clock::nanoseconds();
+    for _ in 0..turns {
+        call();
+    }
+    (clock::nanoseconds() - start) as f64 / turns as f64
+}
+
+fn median(mut times: Vec<f64>) -> f64 {
+    times.sort_by(f64::total_cmp);
+    times[times.len() / 2]
+}
+
+#[inline(never)]
+fn hardware(x: f32) -> f32 {
+    x.sqrt()
+}
+
+#[inline(never)]
+fn libm(x: f32) -> f32 {
+    oracle::sqrtf(x)
+}
+
+fn each(numbers: &[f32], f: impl Fn(f32) -> f32) {
+    for x in numbers {
+        black_box(f(black_box(*x)));
+    }
+}
+
+fn roots(random: &mut Random) {
+    let unit: Vec<f32> = (0..POINTS).map(|_| random.unit() * 4.0).collect();
+    let any: Vec<f32> = (0..POINTS).map(|_| random.finite().abs()).collect();
+    for (name, numbers) in [("0 to 4", &unit), ("any", &any)] {
+        beside(
+            &format!("root, {name}"),
+            "sqrt behind a call",
+            POINTS,
+            || each(numbers, ours::root),
+            || each(numbers, hardware),
+        );
+        beside(&format!("root, {name}"), "libm sqrtf", POINTS, || each(numbers, ours::root), || each(numbers, libm));
+    }
+}
+
+fn tokens(random: &mut Random) {
+    for places in [1, 6, 17] {
+        let texts: Vec<String> = (0..1024).map(|_| format!("{:.places$}", random.unit() as f64)).collect();
+        let ours = || texts.iter().for_each(|t| drop(black_box(ours::token(black_box(t.as_bytes())))));
+        let rust = || texts.iter().for_each(|t| drop(black_box(black_box(t.as_str()).parse::<f32>())));
+        beside(&format!("token of {} digits", places + 1), "str::parse", texts.len(), ours, rust);
+    }
+}
+
+/// Evenly spaced stops or segments of random colours.
+fn even_ramp(random: &mut Random, kind: Kind, n: usize) -> Ramp {
+    if kind == Kind::Gimp {
+        let n = n.min(MOST_SEGMENTS);
+        let positions = (0..n).flat_map(|i| [i as f32, i as f32 + 0.5, i as f32 + 1.0]).map(|x| x / n as f32).collect();
+        let codes = (0..n).flat_map(|i| [[0, 3, 4, 5][i % 4], 0]).collect();
+        return Ramp { kind, positions, channels: (0..8 * n).map(|_| random.unit()).collect(), codes };
+    }
+    let positions = (0..n).map(|i| i as f32 / (n - 1) as f32).collect();
+    Ramp { kind, positions, channels: (0..4 * n).map(|_| random.unit()).collect(), codes: Vec::new() }
+}
+
+fn rust_paint(g: &Boxed, points: &[f32], out: &mut [f32]) {
+    for (t, colour) in points.iter().zip(out.chunks_exact_mut(4)) {
+        colour.copy_from_slice(&oracle::at(g, *t));
+    }
+}
+
+fn paint(random: &mut Random) {
+    let across: Vec<f32> = (0..POINTS).map(|i| i as f32 / (POINTS - 1) as f32).collect();
+    let anywhere: Vec<f32> = (0..POINTS).map(|_| random.unit()).collect();
+    for kind in KINDS {
+        for n in [2, 64, 512] {
+            let ramp = even_ramp(random, kind, n);
+            let g = oracle::gradient(&ramp);
+            for (name, points) in [("left to right", &across), ("random", &anywhere)] {
+                let mut out = (vec![0.0; 4 * POINTS], vec![0.0; 4 * POINTS]);
+                let call = format!("paint {}, {} items, {name}", kind.name(), items(&ramp));
+                let ours = || drop(black_box(ours::paint(&ramp, points, &mut out.0)));
+                let rust = || rust_paint(&g, black_box(points), black_box(&mut out.1));
+                beside(&call, "at", POINTS, ours, rust);
+            }
+        }
+    }
+}
+
+fn items(ramp: &Ramp) -> usize {
+    if ramp.kind == Kind::Gimp {
+        ramp.positions.len() / 3
+    } else {
+        ramp.positions.len()
+    }
+}
+
+fn reading(random: &mut Random) {
+    let text = tidy_text(random, 46);
+    let mut out = (vec![0.0; 3 * MOST_SEGMENTS], vec![0.0; 8 * MOST_SEGMENTS], vec![0; 2 * MOST_SEGMENTS]);
+    let (f, b) = ([0.0; 4], [1.0; 4]);
+    let ours = || drop(black_box(ours::read(black_box(&text), (f, b), &mut out.0, &mut out.1, &mut out.2)));
+    let rust = || drop(black_box(oracle::read_only(black_box(&text), f, b)));
+    beside("read, 46 segments", "GimpGradient::new", 1, ours, rust);
+}
+
+fn flatten(random: &mut Random) {
+    for kind in KINDS {
+        for n in [2, 16, 64, 512] {
+            let ramp = even_ramp(random, kind, n);
+            let g = oracle::gradient(&ramp);
+            for threshold in [0.007, 0.001] {
+                let mut record = Record::empty();
+                let mut out = (vec![0.0; MOST_POINTS], vec![0.0; 4 * MOST_POINTS]);
+                let call = format!("flatten {}, {} items, {threshold}", kind.name(), items(&ramp));
+                let ours = || drop(black_box(ours::flatten(&ramp, threshold, &mut record, &mut out.0, &mut out.1)));
+                let rust = || drop(black_box(oracle::linearize_only(&g, black_box(threshold))));
+                beside(&call, "linearize", 1, ours, rust);
+            }
+        }
+    }
+}
+
+/// Black and white in turn, one inner stop to mid grey: each of the 62 inner stops by itself, then medians over them.
+/// A refresh of a refreshed record does the same work again, so that it can be repeated.
+fn refresh(_: &mut Random) {
+    const STOPS: usize = 64;
+    const REPEATED: usize = 5;
+    let threshold = 0.007;
+    let positions = (0..STOPS).map(|i| i as f32 / (STOPS - 1) as f32).collect();
+    let channels = (0..STOPS).flat_map(|i| [(i % 2) as f32, (i % 2) as f32, (i % 2) as f32, 1.0]).collect();
+    let ramp = Ramp { kind: Kind::Linear, positions, channels, codes: Vec::new() };
+    let (mut record, mut spare) = (Record::empty(), Record::empty());
+    let mut out = (vec![0.0; MOST_POINTS], vec![0.0; 4 * MOST_POINTS]);
+    let mut others = (vec![0.0; MOST_POINTS], vec![0.0; 4 * MOST_POINTS]);
+    let (mut alone, mut whole, mut together, mut fresh) = (Vec::new(), Vec::new(), Vec::new(), Vec::new());
+    for stop in 1..STOPS - 1 {
+        let edit = Edit { stop, colour: [0.5, 0.5, 0.5, 1.0] };
+        let after = changed(&ramp, &edit);
+        ours::sample(&ramp, threshold, &mut record).expect("a ramp that is taken");
+        let made = ours::refresh_list(&ramp, &edit, threshold, &mut record, &mut out.0, &mut out.1);
+        let stops = ordinary::flatten(&after, threshold, &mut spare, &mut others.0, &mut others.1);
+        assert!(made.is_ok_and(|m| m.0 == stops) && out == others, "the ordinary Rust does the same job");
+        let times = timed(
+            REPEATED,
+            || drop(black_box(ours::refresh(&ramp, &edit, threshold, &mut record))),
+            || drop(black_box(ours::sample(&after, threshold, &mut spare))),
+        );
+        alone.push(times.0);
+        whole.push(times.1);
+        let times = timed(
+            REPEATED,
+            || drop(black_box(ours::refresh_list(&ramp, &edit, threshold, &mut record, &mut out.0, &mut out.1))),
+            || drop(black_box(ordinary::flatten(&after, threshold, &mut spare, &mut others.0, &mut others.1))),
+        );
+        together.push(times.0);
+        fresh.push(times.1);
+    }
+    row("refresh alone", "our own sampling", median(alone), median(whole));
+    row("refresh and thin", "sampling and thinning in ordinary Rust", median(together), median(fresh));
+}

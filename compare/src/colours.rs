@@ -1,0 +1,73 @@
+//! Colours of every kind: one by one, and many at once into a lent output.
+
+use crate::options::Options;
+use crate::ramps::{random_or_spoilt, random_points, Kind, Ramp, KINDS};
+use crate::random::Random;
+use crate::report::{all_same, Tally};
+use crate::{oracle, ours};
+
+/// How many points a ramp is asked for.
+const POINTS: usize = 48;
+
+/// What lent memory holds before a call.
+const RUBBISH: f32 = -7.5;
+
+pub fn run(options: &Options) -> Vec<Tally> {
+    KINDS.iter().map(|kind| one_kind(options, *kind)).collect()
+}
+
+fn one_kind(options: &Options, kind: Kind) -> Tally {
+    let mut tally = Tally::new(format!("colours: {}", kind.name()), options.seed);
+    let wanted = options.size;
+    let mut case = options.case.unwrap_or(0);
+    while tally.count() < wanted {
+        let mut random = Random::of_case(8 * options.seed + kind.code() as u64, case);
+        let ramp = random_or_spoilt(&mut random, kind);
+        let points = random_points(&mut random, &ramp, POINTS);
+        compare(&mut tally, case, &ramp, &points, random.one_in(16));
+        if options.case.is_some() {
+            break;
+        }
+        case += 1;
+        let count = tally.count();
+        tally.progress(count, wanted);
+    }
+    tally.done()
+}
+
+fn compare(tally: &mut Tally, case: u64, ramp: &Ramp, points: &[f32], cramped: bool) {
+    let refusal = ramp.refusal();
+    let want: Vec<f32> = match refusal {
+        0 => {
+            let g = oracle::gradient(ramp);
+            points.iter().flat_map(|t| oracle::at(&g, *t)).collect()
+        }
+        _ => Vec::new(),
+    };
+    tally.inputs(points.len() as u64);
+    for (i, t) in points.iter().enumerate() {
+        let got = ours::at(ramp, *t);
+        let right = match got {
+            Ok(colour) => refusal == 0 && all_same(&colour, &want[4 * i..4 * i + 4]),
+            Err(number) => refusal != 0 && number == refusal,
+        };
+        if !right {
+            tally.differs(case, || format!("at {t:?}: {got:?}, not {:?} of {ramp:?}", want.get(4 * i..4 * i + 4)));
+        }
+    }
+    painted(tally, case, ramp, points, (refusal, &want), cramped);
+}
+
+/// Many points at once, into an output with room to spare, or one number short.
+fn painted(tally: &mut Tally, case: u64, ramp: &Ramp, points: &[f32], want: (u32, &[f32]), cramped: bool) {
+    let mut out = vec![RUBBISH; if cramped { 4 * points.len() - 1 } else { 4 * points.len() + 3 }];
+    let got = ours::paint(ramp, points, &mut out);
+    let (number, left) = match want {
+        (0, _) if cramped => (7, vec![0.0; out.len()]),
+        (0, colours) => (0, [colours, &[RUBBISH; 3]].concat()),
+        (number, _) => (number, vec![RUBBISH; out.len()]),
+    };
+    if got != number || !all_same(&out, &left) {
+        tally.differs(case, || format!("painted with {got}, not {number}, of {ramp:?}"));
+    }
+}

@@ -1,0 +1,69 @@
+//! Real GIMP files: read or refused as the Rust's reader and document 01 have it, with the Rust's colours.
+
+use crate::options::Options;
+use crate::oracle;
+use crate::ours;
+use crate::ramps::{Kind, Ramp, MOST_SEGMENTS};
+use crate::report::{all_same, Tally};
+use crate::texts;
+use std::path::{Path, PathBuf};
+
+const POINTS: usize = 4096;
+
+pub fn run(options: &Options, folder: &Path) -> Vec<Tally> {
+    let mut files = Vec::new();
+    find(folder, &mut files);
+    files.sort();
+    let mut tally = Tally::new("files: read", options.seed);
+    let mut colours = Tally::new("files: colours", options.seed);
+    for (case, file) in files.iter().enumerate() {
+        match std::fs::read(file) {
+            Ok(text) => compare(&mut tally, &mut colours, case as u64, &text),
+            Err(e) => tally.differs(case as u64, || format!("{}: {e}", file.display())),
+        }
+    }
+    vec![tally.done(), colours.done()]
+}
+
+fn find(folder: &Path, files: &mut Vec<PathBuf>) {
+    for entry in std::fs::read_dir(folder).into_iter().flatten().flatten() {
+        let path = entry.path();
+        if path.is_dir() {
+            find(&path, files);
+        } else if path.extension().is_some_and(|e| e == "ggr") {
+            files.push(path);
+        }
+    }
+}
+
+fn compare(tally: &mut Tally, colours: &mut Tally, case: u64, text: &[u8]) {
+    let input = texts::Input { text: text.to_vec(), foreground: [0.0; 4], background: [1.0; 4], room: MOST_SEGMENTS };
+    texts::read(tally, case, &input);
+    let Some(ramp) = ramp(&input) else { return };
+    let Ok((g, _, _)) = oracle::read(text, input.foreground, input.background) else { return };
+    let g: oracle::Boxed = Box::new(g);
+    let points: Vec<f32> = (0..POINTS).map(|i| i as f32 / (POINTS - 1) as f32).collect();
+    let want: Vec<f32> = points.iter().flat_map(|t| oracle::at(&g, *t)).collect();
+    let mut got = vec![0.0; 4 * POINTS];
+    let refusal = ours::paint(&ramp, &points, &mut got);
+    colours.inputs(POINTS as u64);
+    if refusal != 0 || !all_same(&got, &want) {
+        colours.differs(case, || format!("painted with {refusal}"));
+    }
+}
+
+/// The segments as the library reads them.
+fn ramp(input: &texts::Input) -> Option<Ramp> {
+    let mut ramp = Ramp {
+        kind: Kind::Gimp,
+        positions: vec![0.0; 3 * MOST_SEGMENTS],
+        channels: vec![0.0; 8 * MOST_SEGMENTS],
+        codes: vec![0; 2 * MOST_SEGMENTS],
+    };
+    let colours = (input.foreground, input.background);
+    let n = ours::read(&input.text, colours, &mut ramp.positions, &mut ramp.channels, &mut ramp.codes).ok()?;
+    ramp.positions.truncate(3 * n);
+    ramp.channels.truncate(8 * n);
+    ramp.codes.truncate(2 * n);
+    Some(ramp)
+}

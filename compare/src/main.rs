@@ -1,0 +1,92 @@
+//! Compares the library with the published Rust, and times both.
+
+mod bench;
+mod clock;
+mod colours;
+mod files;
+mod gimp_texts;
+mod lists;
+mod options;
+mod oracle;
+mod ordinary;
+mod ours;
+mod ramps;
+mod random;
+mod refresh;
+mod report;
+mod roots;
+mod sample;
+mod sharp;
+mod texts;
+mod tokens;
+
+use options::Options;
+use report::Tally;
+use std::path::Path;
+use std::process::ExitCode;
+
+const USAGE: &str = "compare COMMAND [N] [--seed S] [--case I]
+  roots tokens colours sharp texts lists refresh   one comparison, of N inputs
+  all [PERCENT]      every comparison, at its full size or at that part of it
+  files FOLDER       the .ggr files in it, as compare/fetch gets them
+  bench [TABLE]      times beside the Rust's: root token paint read flatten refresh
+  sample FOLDER      the stored answers of the program replay, as FOLDER/stdin and FOLDER/stdout";
+
+type Comparison = (&'static str, fn(&Options) -> Vec<Tally>, u64);
+
+/// Each comparison with its full size.
+const COMPARISONS: [Comparison; 7] = [
+    ("roots", roots::run, 1 << 32),
+    ("tokens", tokens::run, 100_000_000),
+    ("colours", colours::run, 2_000_000),
+    ("sharp", sharp::run, 1_000_000),
+    ("texts", texts::run, 200_000),
+    ("lists", lists::run, 20_000),
+    ("refresh", refresh::run, 20_000),
+];
+
+fn main() -> ExitCode {
+    // a panic of the Rust is an answer that is expected now and then
+    std::panic::set_hook(Box::new(|_| {}));
+    let words: Vec<String> = std::env::args().skip(1).collect();
+    match run(&words) {
+        Ok(true) => ExitCode::SUCCESS,
+        Ok(false) => ExitCode::FAILURE,
+        Err(text) => {
+            eprintln!("{text}\n{USAGE}");
+            ExitCode::from(2)
+        }
+    }
+}
+
+/// Whether nothing differed.
+fn run(words: &[String]) -> Result<bool, String> {
+    let (command, rest) = words.split_first().ok_or("a command is missing")?;
+    if let Some((_, comparison, full)) = COMPARISONS.iter().find(|c| c.0 == command) {
+        return Ok(report::summary(&comparison(&Options::read(rest, *full)?)));
+    }
+    let options = Options::read(rest, 100)?;
+    match command.as_str() {
+        "all" => Ok(report::summary(&all(&options))),
+        "files" => {
+            let folder = options.name.as_ref().ok_or("a folder is missing")?;
+            Ok(report::summary(&files::run(&options, Path::new(folder))))
+        }
+        "bench" => {
+            bench::run(&options);
+            Ok(true)
+        }
+        "sample" => {
+            let folder = options.name.as_ref().ok_or("a folder is missing")?;
+            sample::run(&options, Path::new(folder)).map_err(|e| e.to_string())?;
+            Ok(true)
+        }
+        _ => Err(format!("no such command: {command}")),
+    }
+}
+
+/// Every comparison at so many hundredths of its full size.
+fn all(options: &Options) -> Vec<Tally> {
+    let part = |full: u64| (full * options.size / 100).max(1);
+    COMPARISONS.iter().flat_map(|(_, run, full)| run(&Options { size: part(*full), ..options.clone() })).collect()
+}

@@ -1,0 +1,437 @@
+//! The library under test: its C functions, wrapped. The only unsafe code of this package is here.
+
+use crate::oracle::Record;
+use crate::ramps::Ramp;
+
+#[repr(C)]
+struct TokenRead {
+    is_number: bool,
+    value: f32,
+}
+
+#[repr(C)]
+struct Shown {
+    refusal: u32,
+    colour: [f32; 4],
+}
+
+#[repr(C)]
+struct SharpBuilt {
+    refusal: u32,
+    stops: usize,
+}
+
+#[repr(C)]
+struct Rgba {
+    r: f32,
+    g: f32,
+    b: f32,
+    a: f32,
+}
+
+#[repr(C)]
+struct GimpRead {
+    refusal: u32,
+    line: usize,
+    segments: usize,
+}
+
+#[repr(C)]
+struct SampleMade {
+    refusal: u32,
+    evaluations: usize,
+}
+
+#[repr(C)]
+struct ListMade {
+    refusal: u32,
+    stops: usize,
+    evaluations: usize,
+}
+
+extern "C" {
+    fn colorgrad_root(x: f32) -> f32;
+    fn colorgrad_token(text: *const u8, length: usize) -> TokenRead;
+    fn colorgrad_at(
+        kind: u32,
+        positions: *const f32,
+        positions_length: usize,
+        channels: *const f32,
+        channels_length: usize,
+        codes: *const u8,
+        codes_length: usize,
+        t: f32,
+    ) -> Shown;
+    fn colorgrad_paint(
+        kind: u32,
+        positions: *const f32,
+        positions_length: usize,
+        channels: *const f32,
+        channels_length: usize,
+        codes: *const u8,
+        codes_length: usize,
+        ts: *const f32,
+        ts_length: usize,
+        out: *mut f32,
+        out_length: usize,
+    ) -> u32;
+    fn colorgrad_sharp(
+        colours: *const f32,
+        colours_length: usize,
+        min: f32,
+        max: f32,
+        softness: f32,
+        positions: *mut f32,
+        positions_length: usize,
+        channels: *mut f32,
+        channels_length: usize,
+    ) -> SharpBuilt;
+    fn colorgrad_read(
+        text: *const u8,
+        text_length: usize,
+        foreground: Rgba,
+        background: Rgba,
+        positions: *mut f32,
+        positions_length: usize,
+        channels: *mut f32,
+        channels_length: usize,
+        codes: *mut u8,
+        codes_length: usize,
+    ) -> GimpRead;
+    fn colorgrad_sample(
+        kind: u32,
+        positions: *const f32,
+        positions_length: usize,
+        channels: *const f32,
+        channels_length: usize,
+        codes: *const u8,
+        codes_length: usize,
+        threshold: f32,
+        rows: *mut f32,
+        rows_length: usize,
+        counts: *mut u8,
+        counts_length: usize,
+    ) -> SampleMade;
+    fn colorgrad_thin(
+        kind: u32,
+        positions: *const f32,
+        positions_length: usize,
+        channels: *const f32,
+        channels_length: usize,
+        codes: *const u8,
+        codes_length: usize,
+        threshold: f32,
+        rows: *const f32,
+        rows_length: usize,
+        counts: *const u8,
+        counts_length: usize,
+        places: *mut f32,
+        places_length: usize,
+        colours: *mut f32,
+        colours_length: usize,
+    ) -> ListMade;
+    fn colorgrad_flatten(
+        kind: u32,
+        positions: *const f32,
+        positions_length: usize,
+        channels: *const f32,
+        channels_length: usize,
+        codes: *const u8,
+        codes_length: usize,
+        threshold: f32,
+        rows: *mut f32,
+        rows_length: usize,
+        counts: *mut u8,
+        counts_length: usize,
+        places: *mut f32,
+        places_length: usize,
+        colours: *mut f32,
+        colours_length: usize,
+    ) -> ListMade;
+    fn colorgrad_refresh(
+        kind: u32,
+        positions: *const f32,
+        positions_length: usize,
+        channels: *const f32,
+        channels_length: usize,
+        codes: *const u8,
+        codes_length: usize,
+        stop: usize,
+        colour: Rgba,
+        threshold: f32,
+        rows: *mut f32,
+        rows_length: usize,
+        counts: *mut u8,
+        counts_length: usize,
+    ) -> SampleMade;
+    fn colorgrad_refresh_list(
+        kind: u32,
+        positions: *const f32,
+        positions_length: usize,
+        channels: *const f32,
+        channels_length: usize,
+        codes: *const u8,
+        codes_length: usize,
+        stop: usize,
+        colour: Rgba,
+        threshold: f32,
+        rows: *mut f32,
+        rows_length: usize,
+        counts: *mut u8,
+        counts_length: usize,
+        places: *mut f32,
+        places_length: usize,
+        colours: *mut f32,
+        colours_length: usize,
+    ) -> ListMade;
+    fn colorgrad_name(text: *const u8, text_length: usize, out: *mut u8, out_length: usize) -> usize;
+}
+
+pub fn root(x: f32) -> f32 {
+    unsafe { colorgrad_root(x) }
+}
+
+pub fn token(text: &[u8]) -> Option<f32> {
+    let read = unsafe { colorgrad_token(text.as_ptr(), text.len()) };
+    read.is_number.then_some(read.value)
+}
+
+/// The answer, or the number of the refusal.
+fn answer<T>(refusal: u32, value: T) -> Result<T, u32> {
+    match refusal {
+        0 => Ok(value),
+        number => Err(number),
+    }
+}
+
+pub fn at(ramp: &Ramp, t: f32) -> Result<[f32; 4], u32> {
+    let (p, c, k) = (&ramp.positions, &ramp.channels, &ramp.codes);
+    let shown =
+        unsafe { colorgrad_at(ramp.kind.code(), p.as_ptr(), p.len(), c.as_ptr(), c.len(), k.as_ptr(), k.len(), t) };
+    answer(shown.refusal, shown.colour)
+}
+
+/// 0, or the number of the refusal.
+pub fn paint(ramp: &Ramp, ts: &[f32], out: &mut [f32]) -> u32 {
+    let (p, c, k) = (&ramp.positions, &ramp.channels, &ramp.codes);
+    unsafe {
+        colorgrad_paint(
+            ramp.kind.code(),
+            p.as_ptr(),
+            p.len(),
+            c.as_ptr(),
+            c.len(),
+            k.as_ptr(),
+            k.len(),
+            ts.as_ptr(),
+            ts.len(),
+            out.as_mut_ptr(),
+            out.len(),
+        )
+    }
+}
+
+/// How many stops were built.
+pub fn build_sharp(
+    colours: &[f32],
+    (min, max): (f32, f32),
+    softness: f32,
+    positions: &mut [f32],
+    channels: &mut [f32],
+) -> Result<usize, u32> {
+    let built = unsafe {
+        colorgrad_sharp(
+            colours.as_ptr(),
+            colours.len(),
+            min,
+            max,
+            softness,
+            positions.as_mut_ptr(),
+            positions.len(),
+            channels.as_mut_ptr(),
+            channels.len(),
+        )
+    };
+    answer(built.refusal, built.stops)
+}
+
+fn rgba([r, g, b, a]: [f32; 4]) -> Rgba {
+    Rgba { r, g, b, a }
+}
+
+/// How many segments were read, or the number of the refusal and its line.
+pub fn read(
+    text: &[u8],
+    (foreground, background): ([f32; 4], [f32; 4]),
+    positions: &mut [f32],
+    channels: &mut [f32],
+    codes: &mut [u8],
+) -> Result<usize, (u32, usize)> {
+    let read = unsafe {
+        colorgrad_read(
+            text.as_ptr(),
+            text.len(),
+            rgba(foreground),
+            rgba(background),
+            positions.as_mut_ptr(),
+            positions.len(),
+            channels.as_mut_ptr(),
+            channels.len(),
+            codes.as_mut_ptr(),
+            codes.len(),
+        )
+    };
+    match read.refusal {
+        0 => Ok(read.segments),
+        number => Err((number, read.line)),
+    }
+}
+
+/// The name; an output that is too short must stay as it is.
+pub fn name(text: &[u8]) -> Vec<u8> {
+    let length = unsafe { colorgrad_name(text.as_ptr(), text.len(), [].as_mut_ptr(), 0) };
+    let mut out = vec![0; length];
+    let again = unsafe { colorgrad_name(text.as_ptr(), text.len(), out.as_mut_ptr(), out.len()) };
+    assert_eq!(length, again, "one text has one name");
+    out
+}
+
+/// The evaluations.
+pub fn sample(ramp: &Ramp, threshold: f32, record: &mut Record) -> Result<usize, u32> {
+    let (p, c, k) = (&ramp.positions, &ramp.channels, &ramp.codes);
+    let made = unsafe {
+        colorgrad_sample(
+            ramp.kind.code(),
+            p.as_ptr(),
+            p.len(),
+            c.as_ptr(),
+            c.len(),
+            k.as_ptr(),
+            k.len(),
+            threshold,
+            record.rows.as_mut_ptr(),
+            record.rows.len(),
+            record.counts.as_mut_ptr(),
+            record.counts.len(),
+        )
+    };
+    answer(made.refusal, made.evaluations)
+}
+
+/// The stops written and the evaluations, or the number of the refusal.
+pub type Listed = Result<(usize, usize), u32>;
+
+fn listed(made: ListMade) -> Listed {
+    answer(made.refusal, (made.stops, made.evaluations))
+}
+
+pub fn thin(ramp: &Ramp, threshold: f32, record: &Record, places: &mut [f32], colours: &mut [f32]) -> Listed {
+    let (p, c, k) = (&ramp.positions, &ramp.channels, &ramp.codes);
+    listed(unsafe {
+        colorgrad_thin(
+            ramp.kind.code(),
+            p.as_ptr(),
+            p.len(),
+            c.as_ptr(),
+            c.len(),
+            k.as_ptr(),
+            k.len(),
+            threshold,
+            record.rows.as_ptr(),
+            record.rows.len(),
+            record.counts.as_ptr(),
+            record.counts.len(),
+            places.as_mut_ptr(),
+            places.len(),
+            colours.as_mut_ptr(),
+            colours.len(),
+        )
+    })
+}
+
+pub fn flatten(ramp: &Ramp, threshold: f32, record: &mut Record, places: &mut [f32], colours: &mut [f32]) -> Listed {
+    let (p, c, k) = (&ramp.positions, &ramp.channels, &ramp.codes);
+    listed(unsafe {
+        colorgrad_flatten(
+            ramp.kind.code(),
+            p.as_ptr(),
+            p.len(),
+            c.as_ptr(),
+            c.len(),
+            k.as_ptr(),
+            k.len(),
+            threshold,
+            record.rows.as_mut_ptr(),
+            record.rows.len(),
+            record.counts.as_mut_ptr(),
+            record.counts.len(),
+            places.as_mut_ptr(),
+            places.len(),
+            colours.as_mut_ptr(),
+            colours.len(),
+        )
+    })
+}
+
+/// The new colour of a stop.
+pub struct Edit {
+    pub stop: usize,
+    pub colour: [f32; 4],
+}
+
+/// The evaluations.
+pub fn refresh(ramp: &Ramp, edit: &Edit, threshold: f32, record: &mut Record) -> Result<usize, u32> {
+    let (p, c, k) = (&ramp.positions, &ramp.channels, &ramp.codes);
+    let made = unsafe {
+        colorgrad_refresh(
+            ramp.kind.code(),
+            p.as_ptr(),
+            p.len(),
+            c.as_ptr(),
+            c.len(),
+            k.as_ptr(),
+            k.len(),
+            edit.stop,
+            rgba(edit.colour),
+            threshold,
+            record.rows.as_mut_ptr(),
+            record.rows.len(),
+            record.counts.as_mut_ptr(),
+            record.counts.len(),
+        )
+    };
+    answer(made.refusal, made.evaluations)
+}
+
+pub fn refresh_list(
+    ramp: &Ramp,
+    edit: &Edit,
+    threshold: f32,
+    record: &mut Record,
+    places: &mut [f32],
+    colours: &mut [f32],
+) -> Listed {
+    let (p, c, k) = (&ramp.positions, &ramp.channels, &ramp.codes);
+    listed(unsafe {
+        colorgrad_refresh_list(
+            ramp.kind.code(),
+            p.as_ptr(),
+            p.len(),
+            c.as_ptr(),
+            c.len(),
+            k.as_ptr(),
+            k.len(),
+            edit.stop,
+            rgba(edit.colour),
+            threshold,
+            record.rows.as_mut_ptr(),
+            record.rows.len(),
+            record.counts.as_mut_ptr(),
+            record.counts.len(),
+            places.as_mut_ptr(),
+            places.len(),
+            colours.as_mut_ptr(),
+            colours.len(),
+        )
+    })
+}

@@ -1,0 +1,167 @@
+//! Refreshed records: redone cells are the Rust's rows for the changed ramp, clear cells keep even rubbish,
+//! and the list made of a refreshed record is `linearize`'s of the changed ramp.
+
+use crate::lists::{agrees, early, random_record, random_threshold, MOST_POINTS, RUBBISH};
+use crate::options::Options;
+use crate::oracle::{self, Record, CELLS, ROW};
+use crate::ours::{self, Edit};
+use crate::ramps::{random_or_spoilt, Kind, Ramp, KINDS};
+use crate::random::Random;
+use crate::report::{all_same, Tally};
+
+pub fn run(options: &Options) -> Vec<Tally> {
+    let mut rubbish = Tally::new("refresh: clear rows kept", options.seed);
+    let mut fresh = Tally::new("refresh: refreshed is fresh", options.seed);
+    let cases = options.cases();
+    let of = cases.end;
+    for case in cases {
+        let mut random = Random::of_case(options.seed, case);
+        let kind = if random.one_in(12) { random.pick(&KINDS) } else { random.pick(&[Kind::Linear, Kind::Smoothstep]) };
+        let ramp = random_or_spoilt(&mut random, kind);
+        let edit = random_edit(&mut random, &ramp);
+        let threshold = random_threshold(&mut random);
+        let mut record = random_record(&mut random, &ramp);
+        if random.one_in(24) {
+            record.counts[random.below(CELLS)] = random.pick(&[0, 129, 255]);
+        }
+        kept(&mut rubbish, case, &ramp, &edit, threshold, record);
+        refreshed(&mut fresh, case, &ramp, &edit, threshold);
+        rubbish.progress(case, of);
+    }
+    vec![rubbish.done(), fresh.done()]
+}
+
+pub fn random_edit(random: &mut Random, ramp: &Ramp) -> Edit {
+    let n = ramp.positions.len();
+    let stop = match random.below(16) {
+        0 => n + random.below(2),
+        1 => random.next() as usize,
+        2..=4 => 0,
+        5..=7 => n.saturating_sub(1),
+        _ => random.below(n.max(1)),
+    };
+    let mut colour = [random.unit(), random.unit(), random.unit(), random.unit()];
+    match random.below(16) {
+        0 => colour[random.below(4)] = random.pick(&[f32::NAN, f32::INFINITY]),
+        1 => colour[random.below(4)] = random.finite(),
+        _ => {}
+    }
+    Edit { stop, colour }
+}
+
+pub fn refusal(ramp: &Ramp, edit: &Edit, counts: &[u8]) -> u32 {
+    let number = early(ramp);
+    if number != 0 {
+        return number;
+    }
+    if counts.iter().any(|n| *n == 0 || *n as usize > ROW) {
+        return 5;
+    }
+    let kind = matches!(ramp.kind, Kind::Linear | Kind::Smoothstep);
+    if !kind || edit.stop >= ramp.positions.len() || edit.colour.iter().any(|c| !c.is_finite()) {
+        return 6;
+    }
+    0
+}
+
+/// The ramp with the edit made.
+pub fn changed(ramp: &Ramp, edit: &Edit) -> Ramp {
+    let mut ramp = ramp.clone();
+    ramp.channels[4 * edit.stop..4 * edit.stop + 4].copy_from_slice(&edit.colour);
+    ramp
+}
+
+/// Document 01's 'outside the stretch'.
+fn outside(positions: &[f32], k: usize, t: f32) -> bool {
+    let last = positions.len() - 1;
+    if k == 0 {
+        t > positions[1]
+    } else if k == last {
+        t <= positions[k - 1] && t < positions[k]
+    } else {
+        t <= positions[k - 1] || t > positions[k + 1]
+    }
+}
+
+fn clear(ramp: &Ramp, k: usize, cell: usize) -> bool {
+    let (left, right) = (oracle::edge(ramp.domain(), cell), oracle::edge(ramp.domain(), cell + 1));
+    let out = |t| outside(&ramp.positions, k, t);
+    out(left) && out(right) && middles_clear(&out, left, right, 7)
+}
+
+fn middles_clear(out: &dyn Fn(f32) -> bool, t0: f32, t1: f32, depth: u32) -> bool {
+    if depth == 0 {
+        return true;
+    }
+    let middle = (t0 + t1) / 2.0;
+    out(middle) && middles_clear(out, t0, middle, depth - 1) && middles_clear(out, middle, t1, depth - 1)
+}
+
+/// The cells that are not clear, with the rows of the changed ramp and their evaluations.
+pub fn redone(ramp: &Ramp, edit: &Edit, threshold: f32) -> impl Iterator<Item = (usize, Vec<f32>, usize)> {
+    let after = changed(ramp, edit);
+    let g = oracle::gradient(&after);
+    let cells: Vec<usize> = (0..CELLS).filter(|cell| !clear(ramp, edit.stop, *cell)).collect();
+    cells.into_iter().map(move |cell| {
+        let (row, count) = oracle::row(&g, after.domain(), cell, threshold);
+        (cell, row, count)
+    })
+}
+
+/// A record of rubbish: only the cells that are not clear are written.
+fn kept(tally: &mut Tally, case: u64, ramp: &Ramp, edit: &Edit, threshold: f32, record: Record) {
+    tally.inputs(1);
+    let mut got = record.clone();
+    let answer = ours::refresh(ramp, edit, threshold, &mut got);
+    let number = refusal(ramp, edit, &record.counts);
+    let (mut want, mut evaluations) = (record, 0);
+    if number == 0 {
+        for (cell, row, count) in redone(ramp, edit, threshold) {
+            let whole = &mut want.rows[cell * ROW..(cell + 1) * ROW];
+            whole.fill(0.0);
+            whole[..row.len()].copy_from_slice(&row);
+            want.counts[cell] = row.len() as u8;
+            evaluations += count;
+        }
+    }
+    let right = match answer {
+        Ok(count) => number == 0 && count == evaluations,
+        Err(refused) => number == refused,
+    };
+    // every byte of a clear row stays, a not-a-number's too
+    let bits = |rows: &[f32]| rows.iter().map(|x| x.to_bits()).collect::<Vec<u32>>();
+    if !right || bits(&got.rows) != bits(&want.rows) || got.counts != want.counts {
+        tally.differs(case, || format!("{answer:?}, not {number} and {evaluations}, stop {} of {ramp:?}", edit.stop));
+    }
+}
+
+/// Sampled, refreshed and thinned, against the changed ramp flattened by the Rust; and the two last steps in one call.
+fn refreshed(tally: &mut Tally, case: u64, ramp: &Ramp, edit: &Edit, threshold: f32) {
+    if refusal(ramp, edit, &[]) != 0 {
+        return;
+    }
+    tally.inputs(1);
+    let after = changed(ramp, edit);
+    let g = oracle::gradient(&after);
+    let (want, _) = oracle::record(&g, after.domain(), threshold);
+    let mut list = oracle::thinned(&g, after.domain().1, threshold, &want);
+    let mut record = Record::empty();
+    let sampled = ours::sample(ramp, threshold, &mut record);
+    let mut again = record.clone();
+    let done = ours::refresh(ramp, edit, threshold, &mut record);
+    let room = (MOST_POINTS, 4 * MOST_POINTS);
+    let mut out = (vec![RUBBISH; room.0], vec![RUBBISH; room.1]);
+    let got = ours::thin(&after, threshold, &record, &mut out.0, &mut out.1);
+    let two_steps = sampled.is_ok() && is(&record, &want) && agrees(got, &list, room, (&out.0, &out.1));
+    let mut out = (vec![RUBBISH; room.0], vec![RUBBISH; room.1]);
+    let both = ours::refresh_list(ramp, edit, threshold, &mut again, &mut out.0, &mut out.1);
+    list.evaluations += done.unwrap_or_default();
+    let one_call = is(&again, &want) && agrees(both, &list, room, (&out.0, &out.1));
+    if !two_steps || !one_call || done.is_err() {
+        tally.differs(case, || format!("{done:?}, {got:?}, {both:?}, stop {} of {ramp:?}", edit.stop));
+    }
+}
+
+fn is(record: &Record, want: &Record) -> bool {
+    all_same(&record.rows, &want.rows) && record.counts == want.counts
+}
