@@ -72,6 +72,11 @@ fn nanoseconds(call: &mut impl FnMut(), turns: u32) -> f64 {
     (clock::nanoseconds() - start) as f64 / turns as f64
 }
 
+/// Keeps the compiler from leaving a call out.
+fn used<T>(value: T) {
+    black_box(value);
+}
+
 fn median(mut times: Vec<f64>) -> f64 {
     times.sort_by(f64::total_cmp);
     times[times.len() / 2]
@@ -111,8 +116,8 @@ fn roots(random: &mut Random) {
 fn tokens(random: &mut Random) {
     for places in [1, 6, 17] {
         let texts: Vec<String> = (0..1024).map(|_| format!("{:.places$}", random.unit() as f64)).collect();
-        let ours = || texts.iter().for_each(|t| drop(black_box(ours::token(black_box(t.as_bytes())))));
-        let rust = || texts.iter().for_each(|t| drop(black_box(black_box(t.as_str()).parse::<f32>())));
+        let ours = || texts.iter().for_each(|t| used(ours::token(black_box(t.as_bytes()))));
+        let rust = || texts.iter().for_each(|t| used(black_box(t.as_str()).parse::<f32>()));
         beside(&format!("token of {} digits", places + 1), "str::parse", texts.len(), ours, rust);
     }
 }
@@ -145,7 +150,7 @@ fn paint(random: &mut Random) {
             for (name, points) in [("left to right", &across), ("random", &anywhere)] {
                 let mut out = (vec![0.0; 4 * POINTS], vec![0.0; 4 * POINTS]);
                 let call = format!("paint {}, {} items, {name}", kind.name(), items(&ramp));
-                let ours = || drop(black_box(ours::paint(&ramp, points, &mut out.0)));
+                let ours = || used(ours::paint(&ramp, points, &mut out.0));
                 let rust = || rust_paint(&g, black_box(points), black_box(&mut out.1));
                 beside(&call, "at", POINTS, ours, rust);
             }
@@ -165,8 +170,8 @@ fn reading(random: &mut Random) {
     let text = tidy_text(random, 46);
     let mut out = (vec![0.0; 3 * MOST_SEGMENTS], vec![0.0; 8 * MOST_SEGMENTS], vec![0; 2 * MOST_SEGMENTS]);
     let (f, b) = ([0.0; 4], [1.0; 4]);
-    let ours = || drop(black_box(ours::read(black_box(&text), (f, b), &mut out.0, &mut out.1, &mut out.2)));
-    let rust = || drop(black_box(oracle::read_only(black_box(&text), f, b)));
+    let ours = || used(ours::read(black_box(&text), (f, b), &mut out.0, &mut out.1, &mut out.2));
+    let rust = || used(oracle::read_only(black_box(&text), f, b));
     beside("read, 46 segments", "GimpGradient::new", 1, ours, rust);
 }
 
@@ -179,8 +184,8 @@ fn flatten(random: &mut Random) {
                 let mut record = Record::empty();
                 let mut out = (vec![0.0; MOST_POINTS], vec![0.0; 4 * MOST_POINTS]);
                 let call = format!("flatten {}, {} items, {threshold}", kind.name(), items(&ramp));
-                let ours = || drop(black_box(ours::flatten(&ramp, threshold, &mut record, &mut out.0, &mut out.1)));
-                let rust = || drop(black_box(oracle::linearize_only(&g, black_box(threshold))));
+                let ours = || used(ours::flatten(&ramp, threshold, &mut record, &mut out.0, &mut out.1));
+                let rust = || used(oracle::linearize_only(&g, black_box(threshold)));
                 beside(&call, "linearize", 1, ours, rust);
             }
         }
@@ -209,15 +214,15 @@ fn refresh(_: &mut Random) {
         assert!(made.is_ok_and(|m| m.0 == stops) && out == others, "the ordinary Rust does the same job");
         let times = timed(
             REPEATED,
-            || drop(black_box(ours::refresh(&ramp, &edit, threshold, &mut record))),
-            || drop(black_box(ours::sample(&after, threshold, &mut spare))),
+            || used(ours::refresh(&ramp, &edit, threshold, &mut record)),
+            || used(ours::sample(&after, threshold, &mut spare)),
         );
         alone.push(times.0);
         whole.push(times.1);
         let times = timed(
             REPEATED,
-            || drop(black_box(ours::refresh_list(&ramp, &edit, threshold, &mut record, &mut out.0, &mut out.1))),
-            || drop(black_box(ordinary::flatten(&after, threshold, &mut spare, &mut others.0, &mut others.1))),
+            || used(ours::refresh_list(&ramp, &edit, threshold, &mut record, &mut out.0, &mut out.1)),
+            || used(ordinary::flatten(&after, threshold, &mut spare, &mut others.0, &mut others.1)),
         );
         together.push(times.0);
         fresh.push(times.1);

@@ -1,5 +1,6 @@
-//! Real GIMP files: read or refused as the Rust's reader and document 01 have it, with the Rust's colours.
+//! Real GIMP files: read or refused as the Rust's reader and document 01 have it, with the Rust's colours and lists.
 
+use crate::lists::{self, MOST_POINTS};
 use crate::options::Options;
 use crate::oracle;
 use crate::ours;
@@ -16,13 +17,14 @@ pub fn run(options: &Options, folder: &Path) -> Vec<Tally> {
     files.sort();
     let mut tally = Tally::new("files: read", options.seed);
     let mut colours = Tally::new("files: colours", options.seed);
+    let mut flat = Tally::new("files: lists", options.seed);
     for (case, file) in files.iter().enumerate() {
         match std::fs::read(file) {
-            Ok(text) => compare(&mut tally, &mut colours, case as u64, &text),
+            Ok(text) => compare([&mut tally, &mut colours, &mut flat], case as u64, &text),
             Err(e) => tally.differs(case as u64, || format!("{}: {e}", file.display())),
         }
     }
-    vec![tally.done(), colours.done()]
+    vec![tally.done(), colours.done(), flat.done()]
 }
 
 fn find(folder: &Path, files: &mut Vec<PathBuf>) {
@@ -36,7 +38,7 @@ fn find(folder: &Path, files: &mut Vec<PathBuf>) {
     }
 }
 
-fn compare(tally: &mut Tally, colours: &mut Tally, case: u64, text: &[u8]) {
+fn compare([tally, colours, flat]: [&mut Tally; 3], case: u64, text: &[u8]) {
     let input = texts::Input { text: text.to_vec(), foreground: [0.0; 4], background: [1.0; 4], room: MOST_SEGMENTS };
     texts::read(tally, case, &input);
     let Some(ramp) = ramp(&input) else { return };
@@ -49,6 +51,9 @@ fn compare(tally: &mut Tally, colours: &mut Tally, case: u64, text: &[u8]) {
     colours.inputs(POINTS as u64);
     if refusal != 0 || !all_same(&got, &want) {
         colours.differs(case, || format!("painted with {refusal}"));
+    }
+    for threshold in [0.001, 0.007] {
+        lists::flattened(flat, case, &ramp, threshold, (MOST_POINTS, 4 * MOST_POINTS));
     }
 }
 

@@ -99,7 +99,8 @@ pub fn agrees(got: ours::Listed, list: &List, room: (usize, usize), out: (&[f32]
     answer && all_same(out.0, &positions) && all_same(out.1, &channels)
 }
 
-fn flattened(tally: &mut Tally, case: u64, ramp: &Ramp, threshold: f32, room: (usize, usize)) {
+/// One ramp flattened: the answer, the record and the outputs.
+pub fn flattened(tally: &mut Tally, case: u64, ramp: &Ramp, threshold: f32, room: (usize, usize)) {
     tally.inputs(1);
     let mut positions = vec![RUBBISH; room.0];
     let mut channels = vec![RUBBISH; room.1];

@@ -8,6 +8,7 @@ use crate::ours::Edit;
 use crate::ramps::{random_or_spoilt, random_points, random_ramp, Kind, Ramp, KINDS, MOST_SEGMENTS};
 use crate::random::Random;
 use crate::refresh::{self, changed};
+use crate::sharp;
 use crate::texts;
 use std::fmt::Write;
 use std::path::Path;
@@ -18,12 +19,13 @@ const POINTS: usize = 14;
 /// Lists of each kind, and refreshed ones.
 const LISTS: u64 = 12;
 const REFRESHED: u64 = 24;
-const TEXTS: u64 = 60;
+const TEXTS: u64 = 48;
+const BUILT: u64 = 60;
 
 /// What is longer is left out, but for one ramp of each size that is the most.
 const LONG_RAMP: usize = 12;
 const LONG_LIST: usize = 40;
-const LONG_TEXT: usize = 700;
+const LONG_TEXT: usize = 420;
 
 #[derive(Default)]
 struct Words {
@@ -110,6 +112,7 @@ pub fn run(options: &Options, folder: &Path) -> std::io::Result<()> {
     lists(options, &mut words);
     refreshed(options, &mut words);
     gimp(options, &mut words);
+    built(options, &mut words);
     std::fs::write(folder.join("stdin"), &words.text)?;
     std::fs::write(folder.join("stdout"), &words.printed)
 }
@@ -230,6 +233,32 @@ fn refreshed_list(ramp: &Ramp, edit: &Edit, threshold: f32) -> List {
     let mut list = oracle::thinned(&g, after.domain().1, threshold, &record);
     list.evaluations += refresh::redone(ramp, edit, threshold).map(|(_, _, count)| count).sum::<usize>();
     list
+}
+
+fn built(options: &Options, words: &mut Words) {
+    words.size(BUILT as usize);
+    for case in 0..BUILT {
+        let mut random = Random::of_case(options.seed, case);
+        let input = loop {
+            // the program lends all the room there is
+            let input = sharp::Input { room: (2 * 256, 8 * 256), ..sharp::random_input(&mut random) };
+            if input.channels.len() <= 4 * LONG_RAMP {
+                break input;
+            }
+        };
+        let (refusal, stops, _) = sharp::expected(&input);
+        words.size(input.channels.len());
+        words.floats(&input.channels);
+        words.floats(&[input.min, input.max, input.softness]);
+        words.word(refusal);
+        words.size(stops.len());
+        words.size(stops.len());
+        stops.iter().for_each(|s| words.float(s.0));
+        words.size(4 * stops.len());
+        stops.iter().for_each(|s| words.floats(&s.1));
+        words.answers += 3;
+    }
+    words.printed("sharp");
 }
 
 fn gimp(options: &Options, words: &mut Words) {

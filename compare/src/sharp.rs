@@ -6,15 +6,18 @@ use crate::random::Random;
 use crate::report::{all_same, same, Tally};
 use crate::{oracle, ours};
 
+type Stop = (f32, [f32; 4]);
+
 const MOST_COLOURS: usize = 256;
 const RUBBISH: f32 = -7.5;
 
-struct Input {
-    channels: Vec<f32>,
-    min: f32,
-    max: f32,
-    softness: f32,
-    room: (usize, usize),
+pub struct Input {
+    pub channels: Vec<f32>,
+    pub min: f32,
+    pub max: f32,
+    pub softness: f32,
+    /// The lengths of the lent positions and channels.
+    pub room: (usize, usize),
 }
 
 pub fn run(options: &Options) -> Vec<Tally> {
@@ -23,7 +26,7 @@ pub fn run(options: &Options) -> Vec<Tally> {
     let of = cases.end;
     for case in cases {
         let mut random = Random::of_case(options.seed, case);
-        let input = input(&mut random);
+        let input = random_input(&mut random);
         compare(&mut tally, case, &input, &mut random);
         tally.progress(case, of);
     }
@@ -35,7 +38,10 @@ fn compare(tally: &mut Tally, case: u64, input: &Input, random: &mut Random) {
     let mut positions = vec![RUBBISH; input.room.0];
     let mut channels = vec![RUBBISH; input.room.1];
     let got = ours::build_sharp(&input.channels, (input.min, input.max), input.softness, &mut positions, &mut channels);
-    let (number, stops) = expected(tally, input);
+    let (number, stops, class) = expected(input);
+    if let Some(class) = class {
+        tally.listed(class);
+    }
     let n = 2 * (input.channels.len() / 4);
     let mut want = (vec![RUBBISH; input.room.0], vec![RUBBISH; input.room.1]);
     if number == 0 {
@@ -69,40 +75,37 @@ fn colours(tally: &mut Tally, case: u64, input: &Input, positions: Vec<f32>, cha
     }
 }
 
-/// Document 01's refusal of an input, or the Rust's stops.
-fn expected(tally: &mut Tally, input: &Input) -> (u32, Vec<(f32, [f32; 4])>) {
+/// Document 01's refusal of an input or 0, the Rust's stops, and the class where the Rust answers otherwise.
+pub fn expected(input: &Input) -> (u32, Vec<Stop>, Option<&'static str>) {
     let n = input.channels.len() / 4;
     let domain = (input.min, input.max);
     if !(1..=MOST_COLOURS).contains(&n) || !domain.0.is_finite() || !domain.1.is_finite() || domain.0 > domain.1 {
-        return (17, Vec::new());
+        return (17, Vec::new(), None);
     }
     let stops = oracle::sharp_stops(&input.channels, domain, input.softness);
-    if stops.iter().any(|s| !s.0.is_finite()) {
-        tally.listed("17: positions not finite");
-        return (17, Vec::new());
-    }
-    if stops.windows(2).any(|w| w[1].0 < w[0].0) {
-        tally.listed("17: positions fall");
-        return (17, Vec::new());
-    }
     let last = stops[stops.len() - 1].0;
-    if last != domain.1 {
-        tally.listed("17: positions do not end at max");
-        return (17, Vec::new());
+    let wrong = if stops.iter().any(|s| !s.0.is_finite()) {
+        Some("17: positions not finite")
+    } else if stops.windows(2).any(|w| w[1].0 < w[0].0) {
+        Some("17: positions fall")
+    } else if last != domain.1 {
+        Some("17: positions do not end at max")
+    } else {
+        None
+    };
+    if wrong.is_some() {
+        return (17, Vec::new(), wrong);
     }
     if input.channels.len() % 4 != 0 || input.room.0.min(input.room.1 / 4) < 2 * n {
-        return (1, Vec::new());
+        return (1, Vec::new(), None);
     }
     if input.channels.iter().any(|x| !x.is_finite()) {
-        return (2, Vec::new());
+        return (2, Vec::new(), None);
     }
-    if !same(last, domain.1) {
-        tally.listed("built to +0 where max is -0");
-    }
-    (0, stops)
+    (0, stops, if same(last, domain.1) { None } else { Some("built to +0 where max is -0") })
 }
 
-fn input(random: &mut Random) -> Input {
+pub fn random_input(random: &mut Random) -> Input {
     let n = match random.below(24) {
         0 => random.pick(&[0, MOST_COLOURS, MOST_COLOURS + 1]),
         1..=3 => random.from_to(1, MOST_COLOURS),

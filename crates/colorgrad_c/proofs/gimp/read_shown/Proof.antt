@@ -1,0 +1,25 @@
+-- `read_shown` meets its contract: each case of an answer is shown as its own struct. Assumes nothing.
+use mathlib.Core.Path.{sym, ap}
+use Rattle.colorgrad_c.specs.Gimp.{readShown}
+use borrow.Author.Needs.{needs}
+use Rattle.colorgrad_c.proofs.gimp.read_shown.Statement.{statement}
+use Rattle.colorgrad_c.proofs.gimp.read_shown.Tie as tie
+
+enum-known-answer : tie.Need-enum-known-answer
+enum-known-answer c = search needs
+
+enum-known-answer-2 : tie.Need-enum-known-answer-2
+enum-known-answer-2 c = search needs
+
+cast-t6 : tie.Need-cast-t6
+cast-t6 c = search needs
+
+returns : tie.Need-returns
+returns c = sym (ap readShown (c .before .answer .given .1))
+
+returns-2 : tie.Need-returns-2
+returns-2 c = sym (ap readShown (c .before .answer2 .given .1))
+
+pub read-shown-spec : {M : Type 1} → statement M
+read-shown-spec =
+    tie.close (tie.spec enum-known-answer enum-known-answer-2 cast-t6 returns returns-2)

@@ -1,0 +1,6 @@
+pub mod Leaves
+pub mod Kinds
+pub mod Ramps
+pub mod Gimp
+pub mod Lists
+pub mod Edits

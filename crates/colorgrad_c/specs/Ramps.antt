@@ -1,0 +1,41 @@
+-- The answers of the calls on ramps as structs of plain fields, for a kind given by its code.
+use Prim.Native.Nat.{ℕ}
+use mathlib.Core.List.{List}
+use lib.ListN.{length}
+use lib.Ieee.{Float}
+use Rattle.float.specs.F32.{f0}
+use Rattle.gradient.specs.declared.Kind.{Kind}
+use Rattle.gradient.specs.declared.sharp.Built.{Built}
+use Rattle.gradient.specs.declared.sharp.Built.the-variants as built
+use Rattle.colorgrad.specs.Answers.{atAnswer, paintAnswer}
+use Rattle.colorgrad.specs.Canvas.{roomOf, canvas}
+use Rattle.colorgrad.specs.declared.Answer.{Answer}
+use Rattle.colorgrad.specs.declared.Answer.the-variants as answer
+use Rattle.colorgrad.specs.declared.Painted.{Painted}
+use Rattle.colorgrad.specs.declared.Painted.the-variants as painted
+use Rattle.colorgrad_c.specs.Kinds.{onKind}
+use Rattle.colorgrad_c.specs.declared.kinds.Coded.{Coded}
+use Rattle.colorgrad_c.specs.declared.ramps.Shown.{Shown}
+use Rattle.colorgrad_c.specs.declared.ramps.SharpBuilt.{SharpBuilt}
+
+abbrev pub answerShown : Answer → Shown
+answerShown (answer.Colour c) = record { refusal = 0; colour = c }
+answerShown (answer.Refused n) = record { refusal = n; colour = record { r = f0; g = f0; b = f0; a = f0 } }
+
+abbrev pub paintedNumber : Painted → ℕ
+paintedNumber painted.Done = 0
+paintedNumber (painted.Refused n) = n
+
+abbrev pub builtShown : Built → SharpBuilt
+builtShown (built.Stops n) = record { refusal = 0; stops = n }
+builtShown (built.Refused n) = record { refusal = n; stops = 0 }
+
+-- the calls of `colorgrad`; a code that names no kind is 1 and changes nothing
+unfoldable pub codedAnswer : Coded → List Float → List Float → List ℕ → Float → Answer
+codedAnswer coded ps cs ks t = onKind coded (λ (kind : Kind). atAnswer kind ps cs ks t) (answer.Refused 1)
+
+unfoldable pub codedPainted : Coded → List Float → List Float → List ℕ → List Float → List Float → Painted
+codedPainted coded ps cs ks ts out = onKind coded (λ (kind : Kind). paintAnswer kind ps cs ks (length ts) (roomOf out)) (painted.Refused 1)
+
+unfoldable pub codedCanvas : Coded → List Float → List Float → List ℕ → List Float → List Float → List Float
+codedCanvas coded ps cs ks ts out = onKind coded (λ (kind : Kind). canvas kind ps cs ks ts out) out

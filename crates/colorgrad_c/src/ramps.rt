@@ -1,0 +1,137 @@
+// A ramp's colour at t, its colours at many points, and a sharp ramp built.
+use crate::kinds;
+use crate::kinds::Coded;
+use colorgrad::Answer;
+use colorgrad::Painted;
+use gradient::Rgba;
+use gradient::sharp::Built;
+ghost use mathlib.Core.Path.{_≡_};
+ghost use lib.ListN.{length};
+ghost use Rattle.gradient.specs.Sharp.{buildOf, after, bands, sharpPositions, sharpChannels};
+ghost use Rattle.colorgrad_c.specs.Kinds.{kindOf};
+ghost use Rattle.colorgrad_c.specs.Ramps.{codedAnswer, answerShown, codedPainted, paintedNumber, codedCanvas, builtShown};
+
+const WRONG_SHAPE: u8 = 1;
+
+// The refusal, or 0 and the colour.
+#[repr(C)]
+pub struct Shown {
+    pub refusal: u32,
+    pub colour: Rgba,
+}
+
+// The refusal, or 0 and how many stops were written.
+#[repr(C)]
+pub struct SharpBuilt {
+    pub refusal: u32,
+    pub stops: usize,
+}
+
+fn answer_shown(answer: Answer) -> Shown
+    ensures { λ r. ⌜ r ≡ answerShown answer ⌝ }
+{
+    match answer {
+        Answer::Colour(colour) => Shown { refusal: 0, colour },
+        Answer::Refused(n) => Shown {
+            refusal: n as u32,
+            colour: Rgba {
+                r: 0.0,
+                g: 0.0,
+                b: 0.0,
+                a: 0.0,
+            },
+        },
+    }
+}
+
+fn coded_answer(coded: Coded, positions: &[f32], channels: &[f32], codes: &[u8], t: f32) -> Answer
+    ensures { λ r. ⌜ r ≡ codedAnswer coded (now (positions .entry)) (now (channels .entry)) (now (codes .entry)) t ⌝ }
+{
+    match coded {
+        Coded::Of(kind) => colorgrad::at(kind, positions, channels, codes, t),
+        Coded::Unknown => Answer::Refused(WRONG_SHAPE),
+    }
+}
+
+#[no_mangle]
+pub extern "C" fn colorgrad_at(
+    kind: u32,
+    positions: &[f32],
+    channels: &[f32],
+    codes: &[u8],
+    t: f32,
+) -> Shown
+    ensures { λ r. ⌜ r ≡ answerShown (codedAnswer (kindOf kind) (now (positions .entry)) (now (channels .entry)) (now (codes .entry)) t) ⌝ }
+{
+    answer_shown(coded_answer(kinds::kind_of(kind), positions, channels, codes, t))
+}
+
+fn painted_number(painted: Painted) -> u32
+    ensures { λ r. ⌜ r ≡ paintedNumber painted ⌝ }
+{
+    match painted {
+        Painted::Done => 0,
+        Painted::Refused(n) => n as u32,
+    }
+}
+
+fn coded_paint(
+    coded: Coded,
+    positions: &[f32],
+    channels: &[f32],
+    codes: &[u8],
+    ts: &[f32],
+    out: &mut [f32],
+) -> Painted
+    ensures { λ r. ⌜ r ≡ codedPainted coded (now (positions .entry)) (now (channels .entry)) (now (codes .entry)) (now (ts .entry)) (now (out .entry)) ⌝ }
+    ensures { λ r. ⌜ now (out .exit) ≡ codedCanvas coded (now (positions .entry)) (now (channels .entry)) (now (codes .entry)) (now (ts .entry)) (now (out .entry)) ⌝ }
+{
+    match coded {
+        Coded::Of(kind) => colorgrad::paint(kind, positions, channels, codes, ts, out),
+        Coded::Unknown => Painted::Refused(WRONG_SHAPE),
+    }
+}
+
+// 0, or the refusal.
+#[no_mangle]
+pub extern "C" fn colorgrad_paint(
+    kind: u32,
+    positions: &[f32],
+    channels: &[f32],
+    codes: &[u8],
+    ts: &[f32],
+    out: &mut [f32],
+) -> u32
+    ensures { λ r. ⌜ r ≡ paintedNumber (codedPainted (kindOf kind) (now (positions .entry)) (now (channels .entry)) (now (codes .entry)) (now (ts .entry)) (now (out .entry))) ⌝ }
+    ensures { λ r. ⌜ now (out .exit) ≡ codedCanvas (kindOf kind) (now (positions .entry)) (now (channels .entry)) (now (codes .entry)) (now (ts .entry)) (now (out .entry)) ⌝ }
+{
+    painted_number(coded_paint(kinds::kind_of(kind), positions, channels, codes, ts, out))
+}
+
+fn built_shown(built: Built) -> SharpBuilt
+    ensures { λ r. ⌜ r ≡ builtShown built ⌝ }
+{
+    match built {
+        Built::Stops(stops) => SharpBuilt { refusal: 0, stops },
+        Built::Refused(n) => SharpBuilt {
+            refusal: n as u32,
+            stops: 0,
+        },
+    }
+}
+
+#[no_mangle]
+pub extern "C" fn colorgrad_sharp(
+    colours: &[f32],
+    min: f32,
+    max: f32,
+    softness: f32,
+    positions: &mut [f32],
+    channels: &mut [f32],
+) -> SharpBuilt
+    ensures { λ r. ⌜ r ≡ builtShown (buildOf (now (colours .entry)) min max softness (length (now (positions .entry))) (length (now (channels .entry)))) ⌝ }
+    ensures { λ r. ⌜ now (positions .exit) ≡ after (buildOf (now (colours .entry)) min max softness (length (now (positions .entry))) (length (now (channels .entry)))) (sharpPositions min max softness (bands (now (colours .entry)))) (now (positions .entry)) ⌝ }
+    ensures { λ r. ⌜ now (channels .exit) ≡ after (buildOf (now (colours .entry)) min max softness (length (now (positions .entry))) (length (now (channels .entry)))) (sharpChannels (now (colours .entry)) (bands (now (colours .entry)))) (now (channels .entry)) ⌝ }
+{
+    built_shown(gradient::sharp::build(colours, min, max, softness, positions, channels))
+}

@@ -1,0 +1,310 @@
+-- The input, line by line: each part read is the front of what is left to read. Assumes nothing.
+use Prim.Native.Nat.{ℕ, suc, _+_, _-_, _*_, _≤_, _<_}
+use native.Mathlib.Omega.{arith}
+use mathlib.Core.Path.{_≡_, refl, sym, ap, ap₂, _∙_}
+use mathlib.Core.Bool.{Bool, true, false, cond, _&&_}
+use mathlib.Core.List.{List, [], _∷_, _++_, append-assoc, append-nil}
+use lib.ListN.{length, take, drop, set, length-append, length-drop, length-set, drop-of-length-le}
+use lib.Seq.{sets, length-sets, set-out}
+use lib.Dec.{eqb}
+use lib.Ieee.{Float}
+use borrow.Author.Tests.{le-leb, lt-leb}
+use types.Run.{OneOf, miss}
+use denote.Enum.Declared.{tagOf}
+use Rattle.gradient.specs.declared.Stop.{Stop}
+use Rattle.gradient.specs.declared.Kind.{Kind}
+use Rattle.ggr.specs.Text.{lines, atLf, onFirst, firstOf, restOf}
+use Rattle.ggr.specs.Steps.{LineAt}
+use Rattle.linearize.specs.Constants.{defaultThreshold}
+use Rattle.linearize.specs.Kept.{channelsOf}
+use Rattle.linearize.proofs.Stores.{sets-append}
+use Rattle.desk.specs.Entries.{entryOf}
+use Rattle.desk.specs.Input.{unread, mostBytes, ifRamp, ifThreshold, ifStop, ifChange, fromEnd, fromEdit, stopsOf, afterStops, fromStops, fromThreshold, fromKind, inputOf, positionsIn, channelsIn}
+use Rattle.desk.specs.Steps.{StepAt, StartAt, BlockAt, endingOf, EndsAs, Ready}
+use Rattle.desk.specs.declared.fields.Edit.{Edit}
+use Rattle.desk.specs.declared.fields.Entry.{Entry}
+use Rattle.desk.specs.declared.fields.Entry.the-variants as entry
+use Rattle.desk.proofs.fields.Entry.{the-type}
+use Rattle.desk.specs.declared.reading.Edited.{Edited}
+use Rattle.desk.specs.declared.reading.Edited.the-variants as edited
+use Rattle.desk.specs.declared.reading.Ending.{Ending}
+use Rattle.desk.specs.declared.reading.Ending.the-variants as ending
+
+-- ---- an entry of another form, by its tag
+not-ramp : {A : Type 0} (e : Entry) (f : Kind → A) (z : A) → OneOf (1 ∷ 2 ∷ 3 ∷ 4 ∷ []) (tagOf the-type e) → ifRamp e f z ≡ z
+not-ramp (entry.Ramp k) f z h = absurd (miss (1 ∷ 2 ∷ 3 ∷ 4 ∷ []) 0 tt h)
+not-ramp (entry.Threshold x) f z h = refl
+not-ramp (entry.Stop s) f z h = refl
+not-ramp (entry.Change e) f z h = refl
+not-ramp entry.Unread f z h = refl
+
+not-threshold : {A : Type 0} (e : Entry) (f : Float → A) (z : A) → OneOf (0 ∷ 2 ∷ 3 ∷ 4 ∷ []) (tagOf the-type e) → ifThreshold e f z ≡ z
+not-threshold (entry.Ramp k) f z h = refl
+not-threshold (entry.Threshold x) f z h = absurd (miss (0 ∷ 2 ∷ 3 ∷ 4 ∷ []) 1 tt h)
+not-threshold (entry.Stop s) f z h = refl
+not-threshold (entry.Change e) f z h = refl
+not-threshold entry.Unread f z h = refl
+
+not-stop : {A : Type 0} (e : Entry) (f : Stop → A) (z : A) → OneOf (0 ∷ 1 ∷ 3 ∷ 4 ∷ []) (tagOf the-type e) → ifStop e f z ≡ z
+not-stop (entry.Ramp k) f z h = refl
+not-stop (entry.Threshold x) f z h = refl
+not-stop (entry.Stop s) f z h = absurd (miss (0 ∷ 1 ∷ 3 ∷ 4 ∷ []) 2 tt h)
+not-stop (entry.Change e) f z h = refl
+not-stop entry.Unread f z h = refl
+
+not-change : {A : Type 0} (e : Entry) (f : Edit → A) (z : A) → OneOf (0 ∷ 1 ∷ 2 ∷ 4 ∷ []) (tagOf the-type e) → ifChange e f z ≡ z
+not-change (entry.Ramp k) f z h = refl
+not-change (entry.Threshold x) f z h = refl
+not-change (entry.Stop s) f z h = refl
+not-change (entry.Change e) f z h = absurd (miss (0 ∷ 1 ∷ 2 ∷ 4 ∷ []) 3 tt h)
+not-change entry.Unread f z h = refl
+
+-- ---- lines
+some-first : (b : ℕ) (t u : Bool) (ls : List (List ℕ)) → ls ≡ firstOf ls ∷ restOf ls → cond t ([] ∷ ls) (cond u ls (onFirst b ls)) ≡ firstOf (cond t ([] ∷ ls) (cond u ls (onFirst b ls))) ∷ restOf (cond t ([] ∷ ls) (cond u ls (onFirst b ls)))
+unfolding onFirst firstOf restOf
+some-first b true u ls e = refl
+some-first b false true ls e = e
+some-first b false false [] e = refl
+some-first b false false (l ∷ ls) e = refl
+
+lines-some : (s : List ℕ) → 0 < length s → lines s ≡ firstOf (lines s) ∷ restOf (lines s)
+unfolding lines onFirst firstOf restOf atLf
+lines-some [] h = absurd (omega arith)
+lines-some (b ∷ []) h = elim (eqb b 10) as (λ t. cond t ([] ∷ []) ((b ∷ []) ∷ []) ≡ firstOf (cond t ([] ∷ []) ((b ∷ []) ∷ [])) ∷ restOf (cond t ([] ∷ []) ((b ∷ []) ∷ []))) [ true ↦ refl | false ↦ refl ]
+lines-some (b ∷ c ∷ s) h = some-first b (eqb b 10) (atLf (c ∷ s) && eqb b 13) (lines (c ∷ s)) (lines-some (c ∷ s) (omega arith))
+
+few-first : (b n : ℕ) (t u : Bool) (ls : List (List ℕ)) → length ls ≤ n → length (cond t ([] ∷ ls) (cond u ls (onFirst b ls))) ≤ suc n
+unfolding onFirst
+few-first b n true u ls h = omega arith
+few-first b n false true ls h = omega arith
+few-first b n false false [] h = omega arith
+few-first b n false false (l ∷ ls) h = omega arith
+
+few-lines : (s : List ℕ) → length (lines s) ≤ length s
+unfolding lines
+few-lines [] = omega arith
+few-lines (b ∷ s) = few-first b (length s) (eqb b 10) (atLf s && eqb b 13) (lines s) (few-lines s)
+
+few-stops : (ls : List (List ℕ)) → length (stopsOf ls) ≤ length ls
+unfolding stopsOf
+few-stops [] = omega arith
+few-stops (l ∷ ls) = go (entryOf l) (few-stops ls) where
+  go : (e : Entry) → length (stopsOf ls) ≤ length ls → length (ifStop e (λ s. s ∷ stopsOf ls) []) ≤ suc (length ls)
+  go (entry.Ramp k) h = omega arith
+  go (entry.Threshold x) h = omega arith
+  go (entry.Stop s) h = omega arith
+  go (entry.Change e) h = omega arith
+  go entry.Unread h = omega arith
+
+-- no line, and a line
+module _ (s : List ℕ) (at : ℕ) where
+  pub no-line : length s ≤ at → lines (drop at s) ≡ []
+  unfolding lines
+  no-line h = ap lines (drop-of-length-le s h)
+
+  pub step-found : {end next : ℕ} {e : Entry} → at ≤ length s → LineAt s at end next → e ≡ entryOf (take (end - at) (drop at s)) → StepAt s at e next
+  step-found h l i = record { within = l .beyond h; is = i ∙ ap entryOf (l .first); rest = l .rest }
+
+  module _ (h : at < length s) {e : Entry} {next : ℕ} (w : StepAt s at e next) where
+    opened : lines (drop at s) ≡ firstOf (lines (drop at s)) ∷ lines (drop next s)
+    opened = lines-some (drop at s) (omega (arith, length-drop at s)) ∙ ap (λ (ls : List (List ℕ)). firstOf (lines (drop at s)) ∷ ls) (sym (w .rest))
+
+    pub shorter : length (lines (drop next s)) < length (lines (drop at s))
+    shorter = omega (arith, ap length opened)
+
+-- ---- the threshold
+module _ (s : List ℕ) (at : ℕ) where
+  pub start-none : length s ≤ at → at ≤ length s → StartAt s at defaultThreshold at 2
+  unfolding fromThreshold
+  start-none h i = record { within = i; few = omega arith; is = λ k. ap (fromThreshold k) (no-line s at h) ∙ ap (fromStops k defaultThreshold 2) (sym (no-line s at h)) }
+
+  module _ (h : at < length s) {e : Entry} {next : ℕ} (w : StepAt s at e next) where
+    first-threshold : (k : Kind) → fromThreshold k (lines (drop at s)) ≡ ifThreshold e (λ x. fromStops k x 3 (lines (drop next s))) (fromStops k defaultThreshold 2 (lines (drop at s)))
+    unfolding fromThreshold
+    first-threshold k =
+        ap (fromThreshold k) (opened s at h w)
+        ∙ ap (λ (d : Entry). ifThreshold d (λ x. fromStops k x 3 (lines (drop next s))) (fromStops k defaultThreshold 2 (firstOf (lines (drop at s)) ∷ lines (drop next s)))) (sym (w .is))
+        ∙ ap (λ (ls : List (List ℕ)). ifThreshold e (λ x. fromStops k x 3 (lines (drop next s))) (fromStops k defaultThreshold 2 ls)) (sym (opened s at h w))
+
+    pub start-some : {x : Float} → e ≡ entry.Threshold x → StartAt s at x next 3
+    start-some i = record { within = w .within; few = omega arith; is = λ k. first-threshold k ∙ ap (λ (d : Entry). ifThreshold d (λ x. fromStops k x 3 (lines (drop next s))) (fromStops k defaultThreshold 2 (lines (drop at s)))) i }
+
+    pub start-other : OneOf (0 ∷ 2 ∷ 3 ∷ 4 ∷ []) (tagOf the-type e) → StartAt s at defaultThreshold at 2
+    start-other o = record { within = omega arith; few = omega arith; is = λ k. first-threshold k ∙ not-threshold e _ _ o }
+
+-- ---- the stops
+positions-append : (xs ys : List Stop) → positionsIn (xs ++ ys) ≡ positionsIn xs ++ positionsIn ys
+unfolding positionsIn
+positions-append [] ys = refl
+positions-append (x ∷ xs) ys = ap (λ (l : List Float). x .position ∷ l) (positions-append xs ys)
+
+channels-append : (xs ys : List Stop) → channelsIn (xs ++ ys) ≡ channelsIn xs ++ channelsIn ys
+unfolding channelsIn
+channels-append [] ys = refl
+channels-append (x ∷ xs) ys = ap (λ (l : List Float). channelsOf (x .colour) ++ l) (channels-append xs ys)
+
+pub length-positions : (xs : List Stop) → length (positionsIn xs) ≡ length xs
+unfolding positionsIn
+length-positions [] = refl
+length-positions (x ∷ xs) = ap suc (length-positions xs)
+
+pub length-channels : (xs : List Stop) → length (channelsIn xs) ≡ 4 * length xs
+unfolding channelsIn
+length-channels [] = refl
+length-channels (x ∷ xs) = let h = length-channels xs in omega arith
+
+-- four stores in a row, and stores past the end
+pub sets-four : (l : List Float) (i : ℕ) (x y z w : Float) → set (set (set (set l i x) (i + 1) y) (i + 2) z) (i + 3) w ≡ sets l i (x ∷ y ∷ z ∷ w ∷ [])
+sets-four l i x y z w =
+    let a : i + 1 ≡ suc i = omega arith in
+    let b : i + 2 ≡ suc (suc i) = omega arith in
+    let c : i + 3 ≡ suc (suc (suc i)) = omega arith in
+    rw (a, b, c)
+
+pub sets-out : (l : List Float) (i : ℕ) (vs : List Float) → length l ≤ i → sets l i vs ≡ l
+sets-out l i [] h = refl
+sets-out l i (v ∷ vs) h = ap (λ (k : List Float). sets k (suc i) vs) (set-out l i v h) ∙ sets-out l (suc i) vs (omega arith)
+
+-- one more stop
+store-position : (ps ps′ ps″ : List Float) (xs : List Stop) (x : Stop) (n : ℕ) → length xs ≡ n → ps′ ≡ sets ps 0 (positionsIn xs) → ps″ ≡ set ps′ n (x .position) → ps″ ≡ sets ps 0 (positionsIn (xs ++ x ∷ []))
+unfolding positionsIn
+store-position ps ps′ ps″ xs x n e f g =
+    let m : 0 + length (positionsIn xs) ≡ n = omega (arith, length-positions xs) in
+    g ∙ ap (λ (l : List Float). set l n (x .position)) f
+    ∙ sym (ap (sets ps 0) (positions-append xs (x ∷ [])) ∙ sets-append ps 0 (positionsIn xs) (x .position ∷ []) ∙ ap (λ (i : ℕ). set (sets ps 0 (positionsIn xs)) i (x .position)) m)
+
+store-channels : (cs cs′ cs″ : List Float) (xs : List Stop) (x : Stop) (n : ℕ) → length xs ≡ n → cs′ ≡ sets cs 0 (channelsIn xs) → cs″ ≡ sets cs′ (4 * n) (channelsOf (x .colour)) → cs″ ≡ sets cs 0 (channelsIn (xs ++ x ∷ []))
+unfolding channelsIn
+store-channels cs cs′ cs″ xs x n e f g =
+    let m : 0 + length (channelsIn xs) ≡ 4 * n = omega (arith, length-channels xs) in
+    g ∙ ap (λ (l : List Float). sets l (4 * n) (channelsOf (x .colour))) f
+    ∙ sym (ap (sets cs 0) (channels-append xs (x ∷ [])) ∙ sets-append cs 0 (channelsIn xs) (channelsOf (x .colour)) ∙ ap (λ (i : ℕ). sets (sets cs 0 (channelsIn xs)) i (channelsOf (x .colour))) m)
+
+-- what the loop keeps
+pub record Taken (s : List ℕ) (from : ℕ) (ps ps′ cs cs′ : List Float) (n at : ℕ) : Type 0 where
+  pub inside : at ≤ length s
+  pub taken : List Stop
+  pub count : length taken ≡ n
+  pub left : stopsOf (lines (drop from s)) ≡ taken ++ stopsOf (lines (drop at s))
+  pub after : afterStops (lines (drop from s)) ≡ afterStops (lines (drop at s))
+  pub long : length ps′ ≡ length ps
+  pub wide : length cs′ ≡ length cs
+  pub positions : ps′ ≡ sets ps 0 (positionsIn taken)
+  pub channels : cs′ ≡ sets cs 0 (channelsIn taken)
+
+pub taken-none : (s : List ℕ) (from : ℕ) (ps cs : List Float) → from ≤ length s → Taken s from ps ps cs cs 0 from
+unfolding positionsIn channelsIn
+taken-none s from ps cs h = record { inside = h; taken = []; count = refl; left = refl; after = refl; long = refl; wide = refl; positions = refl; channels = refl }
+
+pub taken-few : {s : List ℕ} {from n at : ℕ} {ps ps′ cs cs′ : List Float} → Taken s from ps ps′ cs cs′ n at → n ≤ length s
+taken-few {s} {from} {n} {at} w =
+    omega (arith, few-stops (lines (drop from s)), few-lines (drop from s), length-drop from s, ap length (w .left), length-append (w .taken) (stopsOf (lines (drop at s))), w .count)
+
+module _ {s : List ℕ} {from n at : ℕ} {ps ps′ cs cs′ : List Float} (w : Taken s from ps ps′ cs cs′ n at) where
+  pub taken-next : {next : ℕ} {e : Entry} {x : Stop} {ps″ cs″ : List Float} → at < length s → StepAt s at e next → e ≡ entry.Stop x → ps″ ≡ set ps′ n (x .position) → cs″ ≡ sets cs′ (4 * n) (channelsOf (x .colour)) → Taken s from ps ps″ cs cs″ (n + 1) next
+  unfolding stopsOf afterStops
+  taken-next {next} {e} {x} {ps″} {cs″} h v i p c =
+      let here : entryOf (firstOf (lines (drop at s))) ≡ entry.Stop x = sym (v .is) ∙ i in
+      record {
+        inside = v .within;
+        taken = w .taken ++ x ∷ [];
+        count = length-append (w .taken) (x ∷ []) ∙ ap (λ (m : ℕ). m + 1) (w .count);
+        left = w .left ∙ ap (λ (ls : List (List ℕ)). w .taken ++ stopsOf ls) (opened s at h v)
+            ∙ ap (λ (d : Entry). w .taken ++ ifStop d (λ y. y ∷ stopsOf (lines (drop next s))) []) here
+            ∙ sym (append-assoc (w .taken) (x ∷ []) (stopsOf (lines (drop next s))));
+        after = w .after ∙ ap afterStops (opened s at h v) ∙ ap (λ (d : Entry). ifStop d (λ y. afterStops (lines (drop next s))) (firstOf (lines (drop at s)) ∷ lines (drop next s))) here;
+        long = ap length p ∙ length-set ps′ n (x .position) ∙ w .long;
+        wide = ap length c ∙ length-sets cs′ (4 * n) (channelsOf (x .colour)) ∙ w .wide;
+        positions = store-position ps ps′ ps″ (w .taken) x n (w .count) (w .positions) p;
+        channels = store-channels cs cs′ cs″ (w .taken) x n (w .count) (w .channels) c;
+      }
+
+  -- no stop comes next
+  block-from : stopsOf (lines (drop at s)) ≡ [] → afterStops (lines (drop at s)) ≡ lines (drop at s) → BlockAt s from n at ps ps′ cs cs′
+  block-from e f =
+      let all : w .taken ≡ stopsOf (lines (drop from s)) = sym (w .left ∙ ap (λ (l : List Stop). w .taken ++ l) e ∙ append-nil (w .taken)) in
+      record {
+        within = w .inside;
+        few = taken-few w;
+        count = sym (w .count) ∙ ap length all;
+        rest = sym f ∙ sym (w .after);
+        positions = w .positions ∙ ap (λ (l : List Stop). sets ps 0 (positionsIn l)) all;
+        channels = w .channels ∙ ap (λ (l : List Stop). sets cs 0 (channelsIn l)) all;
+      }
+
+  pub block-done : length s ≤ at → BlockAt s from n at ps ps′ cs cs′
+  unfolding stopsOf afterStops
+  block-done h = block-from (ap stopsOf (no-line s at h)) (ap afterStops (no-line s at h) ∙ sym (no-line s at h))
+
+  pub block-other : {next : ℕ} {e : Entry} → at < length s → StepAt s at e next → OneOf (0 ∷ 1 ∷ 3 ∷ 4 ∷ []) (tagOf the-type e) → BlockAt s from n at ps ps′ cs cs′
+  unfolding stopsOf afterStops
+  block-other {next} {e} h v o =
+      let l = firstOf (lines (drop at s)) in
+      let ls = lines (drop next s) in
+      block-from
+      (ap stopsOf (opened s at h v) ∙ ap (λ (d : Entry). ifStop d (λ y. y ∷ stopsOf ls) []) (sym (v .is)) ∙ not-stop e (λ y. y ∷ stopsOf ls) [] o)
+      (ap afterStops (opened s at h v) ∙ ap (λ (d : Entry). ifStop d (λ y. afterStops ls) (l ∷ ls)) (sym (v .is)) ∙ not-stop e (λ y. afterStops ls) (l ∷ ls) o ∙ sym (opened s at h v))
+
+-- ---- the end
+module _ (s : List ℕ) (at line : ℕ) where
+  pub ending-none : length s ≤ at → EndsAs s at line (ending.Whole edited.Not)
+  unfolding fromEdit endingOf
+  ending-none h = record { is = λ k x stops. ap (fromEdit k x stops line) (no-line s at h) }
+
+  module _ (h : at < length s) {e : Entry} {next : ℕ} (w : StepAt s at e next) where
+    first-edit : (k : Kind) (x : Float) (stops : List Stop) → fromEdit k x stops line (lines (drop at s)) ≡ ifChange e (λ d. fromEnd k x stops d (line + 1) (lines (drop next s))) (unread line)
+    unfolding fromEdit
+    first-edit k x stops =
+        ap (fromEdit k x stops line) (opened s at h w)
+        ∙ ap (λ (d : Entry). ifChange d (λ y. fromEnd k x stops y (line + 1) (lines (drop next s))) (unread line)) (sym (w .is))
+
+    pub ending-other : OneOf (0 ∷ 1 ∷ 2 ∷ 4 ∷ []) (tagOf the-type e) → EndsAs s at line (ending.Unread line)
+    unfolding endingOf
+    ending-other o = record { is = λ k x stops. first-edit k x stops ∙ not-change e _ _ o }
+
+    module _ {d : Edit} (i : e ≡ entry.Change d) where
+      to-end : (k : Kind) (x : Float) (stops : List Stop) → fromEdit k x stops line (lines (drop at s)) ≡ fromEnd k x stops d (line + 1) (lines (drop next s))
+      to-end k x stops = first-edit k x stops ∙ ap (λ (f : Entry). ifChange f (λ y. fromEnd k x stops y (line + 1) (lines (drop next s))) (unread line)) i
+
+      pub ending-more : next < length s → EndsAs s at line (ending.Unread (line + 1))
+      unfolding fromEnd endingOf
+      ending-more l = record { is = λ k x stops. to-end k x stops ∙ ap (fromEnd k x stops d (line + 1)) (lines-some (drop next s) (omega (arith, length-drop next s))) }
+
+      pub ending-last : length s ≤ next → EndsAs s at line (ending.Whole (edited.By d))
+      unfolding fromEnd endingOf
+      ending-last l = record { is = λ k x stops. to-end k x stops ∙ ap (fromEnd k x stops d (line + 1)) (no-line s next l) }
+
+-- ---- the whole
+module _ (s : List ℕ) where
+  pub many-bytes : mostBytes < length s → inputOf s ≡ unread 0
+  unfolding inputOf
+  many-bytes h = rw (lt-leb (length s) mostBytes h)
+
+  pub no-bytes : length s ≡ 0 → inputOf s ≡ unread 1
+  unfolding inputOf fromKind
+  no-bytes h = rw (le-leb (length s) mostBytes (omega arith)) (ap fromKind (no-line s 0 (omega arith)))
+
+  module _ (h : 0 < length s) (m : length s ≤ mostBytes) {e : Entry} {next : ℕ} (w : StepAt s 0 e next) where
+    first-kind : inputOf s ≡ ifRamp e (λ k. fromThreshold k (lines (drop next s))) (unread 1)
+    unfolding inputOf fromKind
+    first-kind = rw (le-leb (length s) mostBytes m)
+        (ap fromKind (opened s 0 h w) ∙ ap (λ (d : Entry). ifRamp d (λ k. fromThreshold k (lines (drop next s))) (unread 1)) (sym (w .is)))
+
+    pub no-kind : OneOf (1 ∷ 2 ∷ 3 ∷ 4 ∷ []) (tagOf the-type e) → inputOf s ≡ unread 1
+    no-kind o = first-kind ∙ not-ramp e _ _ o
+
+    module _ {k : Kind} (i : e ≡ entry.Ramp k) {x : Float} {from line : ℕ} (t : StartAt s next x from line) {n at : ℕ} {ps ps′ cs cs′ : List Float} (b : BlockAt s from n at ps ps′ cs cs′) {r : Ending} (z : EndsAs s at (line + n) r) where
+      pub whole : inputOf s ≡ endingOf k x (stopsOf (lines (drop from s))) r
+      unfolding fromStops
+      whole =
+          first-kind ∙ ap (λ (d : Entry). ifRamp d (λ y. fromThreshold y (lines (drop next s))) (unread 1)) i ∙ t .is k
+          ∙ ap₂ (λ (c : ℕ) (ls : List (List ℕ)). fromEdit k x (stopsOf (lines (drop from s))) (line + c) ls) (sym (b .count)) (sym (b .rest))
+          ∙ z .is k x (stopsOf (lines (drop from s)))
+
+      pub whole-unread : {l : ℕ} → r ≡ ending.Unread l → inputOf s ≡ unread l
+      unfolding endingOf
+      whole-unread j = whole ∙ ap (endingOf k x (stopsOf (lines (drop from s)))) j
+
+      pub whole-ready : {d : Edited} → r ≡ ending.Whole d → Ready s ps ps′ cs cs′ k x n d
+      unfolding endingOf
+      whole-ready j = record { stops = stopsOf (lines (drop from s)); is = whole ∙ ap (endingOf k x (stopsOf (lines (drop from s)))) j; count = b .count; positions = b .positions; channels = b .channels }

@@ -1,0 +1,88 @@
+-- `entry_of` meets its contract: a case for each word. Assumes nothing.
+use borrow.Author.Needs.{needs}
+use mathlib.Core.Path.{sym, _∙_}
+use Rattle.desk.specs.Entries.{stopTag, thresholdTag, editTag}
+use Rattle.desk.proofs.Rows.{starts-long, says-stop, says-linear, says-smoothstep, says-threshold, says-edit, says-nothing}
+use Rattle.desk.proofs.fields.entry_of.Statement.{statement}
+use Rattle.desk.proofs.fields.entry_of.Tie as tie
+
+slice-aggregate-starts-with : tie.Need-slice-aggregate-starts-with
+slice-aggregate-starts-with c = search needs
+
+starts-with-requires : tie.Need-starts-with-requires
+starts-with-requires c κs = search needs
+
+stop-entry-requires : tie.Need-stop-entry-requires
+stop-entry-requires c κs = starts-long stopTag (c .before .before .before .before .args .l .now) (sym (c .before .starts-with .ensures) ∙ c .if1 .taken)
+
+returns : tie.Need-returns
+returns c = says-stop (c .before .before .before .before .before .args .l .now) (sym (c .before .before .starts-with .ensures) ∙ c .before .if1 .taken) (c .stop-entry .ensures)
+
+slice-aggregate-is-same : tie.Need-slice-aggregate-is-same
+slice-aggregate-is-same c = search needs
+
+is-same-requires : tie.Need-is-same-requires
+is-same-requires c κs = search needs
+
+returns-2 : tie.Need-returns-2
+returns-2 c = says-linear (c .before .before .before .before .before .before .before .args .l .now) (sym (c .before .before .before .before .starts-with .ensures) ∙ c .before .before .before .if1 .left) (sym (c .before .is-same .ensures) ∙ c .if2 .taken)
+
+slice-aggregate-is-same-2 : tie.Need-slice-aggregate-is-same-2
+slice-aggregate-is-same-2 c = search needs
+
+is-same-requires-2 : tie.Need-is-same-requires-2
+is-same-requires-2 c κs = search needs
+
+returns-3 : tie.Need-returns-3
+returns-3 c = says-smoothstep (c .before .before .before .before .before .before .before .before .before .before .args .l .now) (sym (c .before .before .before .before .before .before .before .starts-with .ensures) ∙ c .before .before .before .before .before .before .if1 .left) (sym (c .before .before .before .before .is-same .ensures) ∙ c .before .before .before .if2 .left) (sym (c .before .is-same2 .ensures) ∙ c .if3 .taken)
+
+slice-aggregate-starts-with-2 : tie.Need-slice-aggregate-starts-with-2
+slice-aggregate-starts-with-2 c = search needs
+
+starts-with-requires-2 : tie.Need-starts-with-requires-2
+starts-with-requires-2 c κs = search needs
+
+threshold-entry-requires : tie.Need-threshold-entry-requires
+threshold-entry-requires c κs = starts-long thresholdTag (c .before .before .before .before .before .before .before .before .before .before .before .before .before .args .l .now) (sym (c .before .starts-with2 .ensures) ∙ c .if4 .taken)
+
+returns-4 : tie.Need-returns-4
+returns-4 c = says-threshold (c .before .before .before .before .before .before .before .before .before .before .before .before .before .before .args .l .now) (sym (c .before .before .before .before .before .before .before .before .before .before .before .starts-with .ensures) ∙ c .before .before .before .before .before .before .before .before .before .before .if1 .left) (sym (c .before .before .before .before .before .before .before .before .is-same .ensures) ∙ c .before .before .before .before .before .before .before .if2 .left) (sym (c .before .before .before .before .before .is-same2 .ensures) ∙ c .before .before .before .before .if3 .left) (sym (c .before .before .starts-with2 .ensures) ∙ c .before .if4 .taken) (c .threshold-entry .ensures)
+
+slice-aggregate-starts-with-3 : tie.Need-slice-aggregate-starts-with-3
+slice-aggregate-starts-with-3 c = search needs
+
+starts-with-requires-3 : tie.Need-starts-with-requires-3
+starts-with-requires-3 c κs = search needs
+
+edit-entry-requires : tie.Need-edit-entry-requires
+edit-entry-requires c κs = starts-long editTag (c .before .before .before .before .before .before .before .before .before .before .before .before .before .before .before .before .args .l .now) (sym (c .before .starts-with3 .ensures) ∙ c .if5 .taken)
+
+returns-5 : tie.Need-returns-5
+returns-5 c = says-edit (c .before .before .before .before .before .before .before .before .before .before .before .before .before .before .before .before .before .args .l .now) (sym (c .before .before .before .before .before .before .before .before .before .before .before .before .before .before .starts-with .ensures) ∙ c .before .before .before .before .before .before .before .before .before .before .before .before .before .if1 .left) (sym (c .before .before .before .before .before .before .before .before .before .before .before .is-same .ensures) ∙ c .before .before .before .before .before .before .before .before .before .before .if2 .left) (sym (c .before .before .before .before .before .before .before .before .is-same2 .ensures) ∙ c .before .before .before .before .before .before .before .if3 .left) (sym (c .before .before .before .before .before .starts-with2 .ensures) ∙ c .before .before .before .before .if4 .left) (sym (c .before .before .starts-with3 .ensures) ∙ c .before .if5 .taken) (c .edit-entry .ensures)
+
+returns-6 : tie.Need-returns-6
+returns-6 c = says-nothing (c .before .before .before .before .before .before .before .before .before .before .before .before .before .before .before .before .args .l .now) (sym (c .before .before .before .before .before .before .before .before .before .before .before .before .before .starts-with .ensures) ∙ c .before .before .before .before .before .before .before .before .before .before .before .before .if1 .left) (sym (c .before .before .before .before .before .before .before .before .before .before .is-same .ensures) ∙ c .before .before .before .before .before .before .before .before .before .if2 .left) (sym (c .before .before .before .before .before .before .before .is-same2 .ensures) ∙ c .before .before .before .before .before .before .if3 .left) (sym (c .before .before .before .before .starts-with2 .ensures) ∙ c .before .before .before .if4 .left) (sym (c .before .starts-with3 .ensures) ∙ c .if5 .left)
+
+pub entry-of-spec : {M : Type 1} → statement M
+entry-of-spec =
+    tie.close
+    (tie.spec
+    slice-aggregate-starts-with
+    starts-with-requires
+    stop-entry-requires
+    returns
+    slice-aggregate-is-same
+    is-same-requires
+    returns-2
+    slice-aggregate-is-same-2
+    is-same-requires-2
+    returns-3
+    slice-aggregate-starts-with-2
+    starts-with-requires-2
+    threshold-entry-requires
+    returns-4
+    slice-aggregate-starts-with-3
+    starts-with-requires-3
+    edit-entry-requires
+    returns-5
+    returns-6)

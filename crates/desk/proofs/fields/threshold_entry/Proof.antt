@@ -1,0 +1,26 @@
+-- `threshold_entry` meets its contract: a row of 1 makes the entry, and no other. Assumes nothing.
+use borrow.Author.Needs.{needs}
+use Rattle.desk.proofs.Rows.{threshold-not, threshold-is}
+use Rattle.desk.proofs.fields.threshold_entry.Statement.{statement}
+use Rattle.desk.proofs.fields.threshold_entry.Tie as tie
+
+row-at-requires : tie.Need-row-at-requires
+row-at-requires c κs = search needs
+
+returns : tie.Need-returns
+returns c = threshold-not (c .before .before .before .before .before .args .l .now) (c .before .before .before .before .before .args .from) (c .before .before .before .row-at .result .d) (c .before .before .before .row-at .result .n) (c .before .before .before .row-at .ensures) (c .if1 .taken)
+
+array-read-t8 : tie.Need-array-read-t8
+array-read-t8 c = search needs
+
+returns-2 : tie.Need-returns-2
+returns-2 c = threshold-is (c .before .before .before .before .before .args .l .now) (c .before .before .before .before .before .args .from) (c .before .before .before .row-at .result .d) (c .before .before .before .row-at .result .n) (c .before .before .before .row-at .ensures) (c .if1 .left)
+
+pub threshold-entry-spec : {M : Type 1} → statement M
+threshold-entry-spec =
+    tie.close
+    (tie.spec
+    row-at-requires
+    returns
+    array-read-t8
+    returns-2)

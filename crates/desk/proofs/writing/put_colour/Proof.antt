@@ -1,0 +1,37 @@
+-- `put_colour` meets its contract: one field after the other. Assumes nothing.
+use borrow.Author.Needs.{needs}
+use native.Mathlib.Omega.{arith}
+use Rattle.desk.specs.Printed.{colourText}
+use Rattle.desk.proofs.Texts.{puts-then, puts-size, length-field}
+use Rattle.desk.proofs.writing.put_colour.Statement.{statement}
+use Rattle.desk.proofs.writing.put_colour.Tie as tie
+
+put-field-requires : tie.Need-put-field-requires
+put-field-requires c κs = search needs
+
+put-field-requires-2 : tie.Need-put-field-requires-2
+put-field-requires-2 c κs = omega (arith, c .before .before .before .put-field .ensures .next, length-field (c .before .before .before .before .before .before .args .c .r))
+
+put-field-requires-3 : tie.Need-put-field-requires-3
+put-field-requires-3 c κs = omega (arith, c .before .before .before .before .before .before .before .put-field .ensures .next, length-field (c .before .before .before .before .before .before .before .before .before .before .args .c .r), c .before .before .before .put-field2 .ensures .next, length-field (c .before .before .before .before .before .before .before .before .before .before .args .c .g))
+
+put-field-requires-4 : tie.Need-put-field-requires-4
+put-field-requires-4 c κs = omega (arith, c .before .before .before .before .before .before .before .before .before .before .before .put-field .ensures .next, length-field (c .before .before .before .before .before .before .before .before .before .before .before .before .before .before .args .c .r), c .before .before .before .before .before .before .before .put-field2 .ensures .next, length-field (c .before .before .before .before .before .before .before .before .before .before .before .before .before .before .args .c .g), c .before .before .before .put-field3 .ensures .next, length-field (c .before .before .before .before .before .before .before .before .before .before .before .before .before .before .args .c .b))
+
+same-length : tie.Need-same-length
+same-length c = puts-size (puts-then (c .before .before .before .before .before .before .before .before .before .before .before .before .before .before .put-field .ensures) (puts-then (c .before .before .before .before .before .before .before .before .before .before .put-field2 .ensures) (puts-then (c .before .before .before .before .before .before .put-field3 .ensures) (c .before .before .put-field4 .ensures))))
+
+returns : tie.Need-returns
+unfolding colourText
+returns c = puts-then (c .before .before .before .before .before .before .before .before .before .before .before .before .before .before .put-field .ensures) (puts-then (c .before .before .before .before .before .before .before .before .before .before .put-field2 .ensures) (puts-then (c .before .before .before .before .before .before .put-field3 .ensures) (c .before .before .put-field4 .ensures)))
+
+pub put-colour-spec : {M : Type 1} → statement M
+put-colour-spec =
+    tie.close
+    (tie.spec
+    put-field-requires
+    put-field-requires-2
+    put-field-requires-3
+    put-field-requires-4
+    same-length
+    returns)

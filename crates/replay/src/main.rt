@@ -1,0 +1,63 @@
+// Runs the answers that the published Rust gave, as `compare/` stored them, and counts those that are equal here.
+mod bands;
+mod colours;
+mod lists;
+mod ramps;
+mod texts;
+mod words;
+
+// How many answers were compared, and how many of them were equal.
+pub struct Tally {
+    pub asked: u64,
+    pub equal: u64,
+}
+
+impl Tally {
+    pub fn with(self, is_equal: bool) -> Tally {
+        Tally {
+            asked: std::num::wrapping_add_u64(self.asked, 1),
+            equal: std::num::wrapping_add_u64(self.equal, is_equal as u64),
+        }
+    }
+}
+
+fn print(name: &[u8], tally: Tally) {
+    io::write_all(libc::STDOUT_FILENO, name);
+    io::print_decimal(libc::STDOUT_FILENO, tally.asked);
+    io::write_all(libc::STDOUT_FILENO, b" equal ");
+    io::print_decimal(libc::STDOUT_FILENO, tally.equal);
+    io::write_all(libc::STDOUT_FILENO, b"\n");
+}
+
+fn none() -> Tally {
+    Tally { asked: 0, equal: 0 }
+}
+
+fn next(sort: u32, before: Tally) -> Tally {
+    if sort == ramps::TEXTS {
+        return texts::run(before);
+    }
+    if sort == ramps::BANDS {
+        return bands::run(before);
+    }
+    ramps::run(sort, before)
+}
+
+// As many records of one sort as the next word says.
+fn records(sort: u32) -> Tally {
+    let mut tally = none();
+    let mut left = words::word();
+    while left > 0 {
+        tally = next(sort, tally);
+        left -= 1;
+    }
+    tally
+}
+
+fn main() {
+    print(b"colours ", records(ramps::COLOURS));
+    print(b"lists ", records(ramps::LISTS));
+    print(b"refreshed ", records(ramps::REFRESHED));
+    print(b"texts ", records(ramps::TEXTS));
+    print(b"sharp ", records(ramps::BANDS));
+}

@@ -1,0 +1,84 @@
+// A stored ramp, of any kind, and what was asked of it.
+use crate::Tally;
+use crate::colours;
+use crate::lists;
+use crate::words;
+use gradient::Kind;
+
+pub const COLOURS: u32 = 1;
+
+pub const LISTS: u32 = 2;
+
+pub const REFRESHED: u32 = 3;
+
+pub const TEXTS: u32 = 4;
+
+pub const BANDS: u32 = 5;
+
+// One more than a ramp may have, so that the refusal of it is stored too.
+const MOST_POSITIONS: usize = 3 * 257;
+
+const MOST_CHANNELS: usize = 8 * 257;
+
+const MOST_CODES: usize = 2 * 257;
+
+fn kind_of(code: u32) -> Kind {
+    match code {
+        0 => Kind::Linear,
+        1 => Kind::Smoothstep,
+        2 => Kind::Sharp,
+        3 => Kind::Basis,
+        4 => Kind::CatmullRom,
+        _ => Kind::Gimp,
+    }
+}
+
+fn answers(
+    sort: u32,
+    kind: Kind,
+    positions: &[f32],
+    channels: &[f32],
+    codes: &[u8],
+    before: Tally,
+) -> Tally {
+    if sort == COLOURS {
+        return colours::answers(kind, positions, channels, codes, before);
+    }
+    if sort == LISTS {
+        return lists::flattened(kind, positions, channels, codes, before);
+    }
+    lists::refreshed(kind, positions, channels, codes, before)
+}
+
+// The next ramp, into the start of the space.
+fn read(
+    sort: u32,
+    positions: &mut [f32],
+    channels: &mut [f32],
+    codes: &mut [u8],
+    before: Tally,
+) -> Tally {
+    let kind = kind_of(words::word());
+    let p = words::word() as usize;
+    let c = words::word() as usize;
+    let k = words::word() as usize;
+    words::floats(positions, p);
+    words::floats(channels, c);
+    words::bytes(codes, k);
+    answers(
+        sort,
+        kind,
+        words::cut(positions, p),
+        words::cut(channels, c),
+        words::cut_bytes(codes, k),
+        before,
+    )
+}
+
+// The next record of this sort.
+pub fn run(sort: u32, before: Tally) -> Tally {
+    let mut positions = [0.0f32; MOST_POSITIONS];
+    let mut channels = [0.0f32; MOST_CHANNELS];
+    let mut codes = [0u8; MOST_CODES];
+    read(sort, &mut positions, &mut channels, &mut codes, before)
+}
