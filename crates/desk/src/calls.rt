@@ -199,7 +199,7 @@ fn put_edited(
 }
 
 // The record and the list are this function's own.
-pub fn put_ramp(
+pub(crate) fn put_ramp(
     out: &mut [u8],
     kind: Kind,
     threshold: f32,

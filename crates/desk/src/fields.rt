@@ -142,7 +142,7 @@ fn edit_entry(l: &[u8], from: usize) -> Entry
 }
 
 // What a line says.
-pub fn entry_of(l: &[u8]) -> Entry
+pub(crate) fn entry_of(l: &[u8]) -> Entry
     ensures { λ r. ⌜ r ≡ entryOf (now (l .entry)) ⌝ }
 {
     if starts_with(l, b"stop\t") {

@@ -88,7 +88,7 @@ fn start_at(s: &[u8], at: usize) -> Start
     }
 }
 
-pub fn put_colour(channels: &mut [f32], at: usize, c: Rgba)
+pub(crate) fn put_colour(channels: &mut [f32], at: usize, c: Rgba)
     requires { ⌜ at + 4 ≤ length (now channels) ⌝ }
     ensures { λ _. ⌜ now (channels .exit) ≡ sets (now (channels .entry)) at (channelsOf c) ⌝ }
 {
@@ -161,7 +161,7 @@ fn ending_at(s: &[u8], at: usize, line: usize) -> Ending
 }
 
 // Reads the input, with its stops into the lent slices.
-pub fn read(s: &[u8], positions: &mut [f32], channels: &mut [f32]) -> Asked
+pub(crate) fn read(s: &[u8], positions: &mut [f32], channels: &mut [f32]) -> Asked
     requires { ⌜ (length (now positions) ≡ keptStops) × (length (now channels) ≡ 4 * keptStops) ⌝ }
     ensures { λ r. ⌜ Reads (now (s .entry)) (now (positions .entry)) (now (positions .exit)) (now (channels .entry)) (now (channels .exit)) r ⌝ }
 {

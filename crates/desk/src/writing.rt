@@ -132,20 +132,20 @@ fn put_line(out: &mut [u8], word: &[u8], n: usize) -> usize
     put(out, end, LF)
 }
 
-pub fn put_unread(out: &mut [u8], line: usize) -> usize
+pub(crate) fn put_unread(out: &mut [u8], line: usize) -> usize
     ensures { λ r. ⌜ Puts (now (out .entry)) (now (out .exit)) 0 (unreadText line) r ⌝ }
 {
     put_line(out, b"unread\t", line)
 }
 
-pub fn put_refused(out: &mut [u8], number: usize) -> usize
+pub(crate) fn put_refused(out: &mut [u8], number: usize) -> usize
     ensures { λ r. ⌜ Puts (now (out .entry)) (now (out .exit)) 0 (refusedText number) r ⌝ }
 {
     put_line(out, b"refused\t", number)
 }
 
 // A list of n stops, made with so many evaluations.
-pub fn put_list(
+pub(crate) fn put_list(
     out: &mut [u8],
     n: usize,
     evaluations: usize,
