@@ -44,6 +44,7 @@ pub fn random_edit(random: &mut Random, ramp: &Ramp) -> Edit {
     match random.below(16) {
         0 => colour[random.below(4)] = random.pick(&[f32::NAN, f32::INFINITY]),
         1 => colour[random.below(4)] = random.finite(),
+        2 if stop < n && ramp.channels.len() >= 4 * n => colour.copy_from_slice(&ramp.channels[4 * stop..4 * stop + 4]),
         _ => {}
     }
     Edit { stop, colour }
