@@ -17,6 +17,9 @@ ghost use Rattle.gradient.specs.declared.Checked.the-variants.{Fine};
 ghost use Rattle.colorgrad.specs.Canvas.{channelsOf, paintedOver, stopColour};
 ghost use Rattle.colorgrad.specs.Promises.{Ready, AtIs, PaintIs};
 
+pub mod edits;
+pub mod lists;
+
 const NO_ROOM: u8 = 7;
 
 // The colour at t, or the number of the refusal.
