@@ -1,5 +1,6 @@
 //! Colours of every kind: one by one, and many at once into a lent output.
 
+use crate::limits;
 use crate::options::Options;
 use crate::ramps::{random_or_spoilt, random_points, Kind, Ramp, KINDS};
 use crate::random::Random;
@@ -13,7 +14,19 @@ const POINTS: usize = 48;
 const RUBBISH: f32 = -7.5;
 
 pub fn run(options: &Options) -> Vec<Tally> {
-    KINDS.iter().map(|kind| one_kind(options, *kind)).collect()
+    let kinds = KINDS.iter().map(|kind| one_kind(options, *kind));
+    std::iter::once(at_limits(options)).chain(kinds).collect()
+}
+
+/// The fixed ramps, at every position and beside it.
+fn at_limits(options: &Options) -> Tally {
+    let mut tally = Tally::new("colours: limits", options.seed);
+    for (case, ramp) in (0..).zip(limits::all()) {
+        let points = limits::turns(&ramp);
+        compare(&mut tally, case, &ramp, &points, false);
+        compare(&mut tally, case, &ramp, &points, true);
+    }
+    tally.done()
 }
 
 fn one_kind(options: &Options, kind: Kind) -> Tally {

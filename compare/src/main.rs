@@ -5,6 +5,7 @@ mod clock;
 mod colours;
 mod files;
 mod gimp_texts;
+mod limits;
 mod lists;
 mod options;
 mod oracle;

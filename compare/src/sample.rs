@@ -1,11 +1,12 @@
 //! The stored answers that the program `replay` runs: all of them the Rust's, or document 01's refusals.
 //! A word is eight hexadecimal digits and a line end; README.md has the records.
 
+use crate::limits;
 use crate::lists::{early, emitted, random_threshold, MOST_POINTS};
 use crate::options::Options;
 use crate::oracle::{self, List};
 use crate::ours::Edit;
-use crate::ramps::{random_or_spoilt, random_points, random_ramp, Kind, Ramp, KINDS, MOST_SEGMENTS};
+use crate::ramps::{random_or_spoilt, random_points, Kind, Ramp, KINDS, MOST_SEGMENTS};
 use crate::random::Random;
 use crate::refresh::{self, changed};
 use crate::sharp;
@@ -16,6 +17,8 @@ use std::path::Path;
 /// Ramps of each kind, and points of each ramp.
 const RAMPS: u64 = 34;
 const POINTS: usize = 14;
+/// Points of each ramp at a limit.
+const MOST_TURNS: usize = 24;
 /// Lists of each kind, and refreshed ones.
 const LISTS: u64 = 12;
 const REFRESHED: u64 = 24;
@@ -135,8 +138,8 @@ fn short(random: &mut Random, kind: Kind) -> Ramp {
 }
 
 fn colours(options: &Options, words: &mut Words) {
-    let long = [(Kind::CatmullRom, 512), (Kind::Linear, 513), (Kind::Gimp, MOST_SEGMENTS)];
-    words.size(KINDS.len() * RAMPS as usize + long.len());
+    let fixed = fixed();
+    words.size(KINDS.len() * RAMPS as usize + fixed.len());
     for kind in KINDS {
         for case in 0..RAMPS {
             let mut random = Random::of_case(8 * options.seed + kind.code() as u64, case);
@@ -145,29 +148,19 @@ fn colours(options: &Options, words: &mut Words) {
             words.colours(&ramp, &points);
         }
     }
-    for (kind, n) in long {
-        let mut random = Random::of_case(options.seed, n as u64);
-        let ramp = long_ramp(&mut random, kind, n);
-        let points = random_points(&mut random, &ramp, POINTS);
-        words.colours(&ramp, &points);
+    for ramp in &fixed {
+        let turns = limits::turns(ramp);
+        let points: Vec<f32> = turns.iter().step_by(turns.len().div_ceil(MOST_TURNS)).copied().collect();
+        words.colours(ramp, &points);
     }
     words.printed("colours");
 }
 
-/// The largest ramp that is taken, or one stop more.
-fn long_ramp(random: &mut Random, kind: Kind, n: usize) -> Ramp {
-    let most = if kind == Kind::Gimp { MOST_SEGMENTS } else { 512 };
-    let mut ramp = loop {
-        let ramp = random_ramp(random, kind);
-        if items(&ramp) == most {
-            break ramp;
-        }
-    };
-    if n > most {
-        ramp.positions.push(ramp.positions[most - 1]);
-        ramp.channels.extend([0.5; 4]);
-    }
-    ramp
+/// The short ramps at the limits, the most stops, one more, and the most segments.
+fn fixed() -> Vec<Ramp> {
+    let [stops, more] = limits::full(Kind::CatmullRom);
+    let [segments, _] = limits::full(Kind::Gimp);
+    KINDS.iter().flat_map(|kind| limits::short(*kind)).chain([stops, more, segments]).collect()
 }
 
 /// The Rust's list of a ramp; empty where the ramp is refused.
