@@ -165,4 +165,5 @@ def main():
         file.write("".join(f"{line}\t{answer}\n" for line, answer in jobs))
 
 
-main()
+if __name__ == "__main__":
+    main()

@@ -1,0 +1,226 @@
+#!/usr/bin/env python3
+"""Reads the tool's input as document 01 says, beside the tool itself: random texts, every byte of the answers compared.
+
+    compare/desk.py [N]                    N texts (100,000) through target/bin/flatten, which `rt check flatten` builds
+    compare/desk.py --case SEED            one of them alone
+    compare/desk.py --answer FILE          what this reading prints for a file
+
+Written from document 01 alone; it knows nothing of the Rattle code. Texts are sound, damaged (a line or a byte lost,
+doubled, moved, changed), with and without an edit; the status is 1 where an answer differs."""
+import argparse
+import random
+import subprocess
+import sys
+from collections import Counter
+from pathlib import Path
+
+from document import DEFAULT, Ramp, Refusal, bits_of, number, refresh, sample, thin, threshold_of
+
+PROGRAM = Path(__file__).resolve().parent.parent / "target/bin/flatten"
+MOST_BYTES, ROOM = 16384, 1000
+
+
+class Unread(Exception):
+    """The number of the first line that fits nothing."""
+
+
+def lines_of(data):
+    *ended, last = data.split(b"\n")
+    return [line[:-1] if line.endswith(b"\r") else line for line in ended] + ([last] if last else [])
+
+
+def numbers(fields, count):
+    found = [number(field.decode("latin-1")) for field in fields]
+    return found if len(found) == count and None not in found else None
+
+
+def read(data):
+    """The kind, the threshold, the stops (five numbers each) and the edit (index and colour), or None for that."""
+    if len(data) > MOST_BYTES:
+        raise Unread(0)
+    lines = [line.split(b"\t") for line in lines_of(data)]
+    at = 0
+
+    def next_word():
+        return lines[at][0] if at < len(lines) else b""
+
+    if next_word() != b"kind" or lines[0][1:] not in ([b"linear"], [b"smoothstep"]):
+        raise Unread(1)
+    kind, threshold, stops, edit = lines[0][1].decode(), DEFAULT, [], None
+    at = 1
+    if next_word() == b"threshold" and numbers(lines[at][1:], 1):
+        threshold = numbers(lines[at][1:], 1)[0]
+        at += 1
+    while next_word() == b"stop" and numbers(lines[at][1:], 5):
+        stops.append(numbers(lines[at][1:], 5))
+        at += 1
+    if next_word() == b"edit" and len(lines[at]) == 6:
+        index, colour = lines[at][1], numbers(lines[at][2:], 4)
+        if 1 <= len(index) <= 18 and all(48 <= b <= 57 for b in index) and colour:
+            edit = int(index), tuple(colour)
+            at += 1
+    if at < len(lines):
+        raise Unread(at + 1)
+    return kind, threshold, stops, edit
+
+
+def flattened(kind, asked, stops, edit):
+    """The positions and colours of the list, and the evaluations of all calls made."""
+    ramp = Ramp(kind, [s[0] for s in stops], [tuple(s[1:]) for s in stops])
+    ramp.check()
+    threshold = threshold_of(asked)
+    rows, evaluations = sample(ramp, threshold)
+    if edit:
+        index, colour = edit
+        if index >= len(stops):
+            raise Refusal(6)
+        rows, spent = refresh(ramp, index, colour, threshold, rows)
+        ramp = ramp.with_colour(index, colour)
+        evaluations += spent
+    positions, colours, spent = thin(ramp, threshold, rows, ROOM)
+    return positions, colours, evaluations + spent
+
+
+def answer(data):
+    try:
+        positions, colours, evaluations = flattened(*read(data))
+    except Unread as line:
+        return f"unread\t{line}\n".encode()
+    except Refusal as refusal:
+        return f"refused\t{refusal}\n".encode()
+    out = [f"stops\t{len(positions)}\tevaluations\t{evaluations}\n"]
+    for t, colour in zip(positions, colours):
+        out.append("stop" + "".join(f"\t{bits_of(x):08x}" for x in (t, *colour)) + "\n")
+    return "".join(out).encode()
+
+
+# ---- random texts
+
+PLAIN = ["0", "1", ".5", "0.25", "0.1", "1.", "+0.75", "-0", "-0.5", "2", "0.003", "0.9999999"]
+ODD = ["", ".", "+", "-", "1e5", "nan", "inf", "--1", "1.2.3", " 1", "1 ", "0x1", "1,5", "123456789012345678", "1234567890123456789",
+       "0.00000000000000001", "0.000000000000000001", "-999999999999999999", "000000000000000000", "\xe9", "1\r", "16777217"]
+WORDS = [b"kind", b"threshold", b"stop", b"edit", b"Kind", b"stops", b"", b"\xef\xbb\xbfkind"]
+
+
+def a_number(rng):
+    pick = rng.random()
+    if pick < 0.6:
+        return rng.choice(PLAIN)
+    if pick < 0.997:
+        return f"{rng.uniform(0, 1):.{rng.randrange(1, 9)}f}"
+    return rng.choice(ODD)
+
+
+def positions(rng, n):
+    style = rng.random()
+    if style < 0.6:
+        chosen = sorted(rng.randrange(0, 101) for _ in range(n))
+    elif style < 0.9:
+        first = rng.randrange(-50, 50)
+        chosen = [first + i * rng.choice([0, 7, 7, 20]) for i in range(n)]
+    else:
+        chosen = [rng.randrange(0, 101) for _ in range(n)]
+    scale = rng.choice([100, 100, 100, 1, 1000000000])
+    return [f"{x / scale:.9f}" if scale > 100 else str(x / scale) for x in chosen]
+
+
+def sound(rng):
+    """The lines of a text that is read."""
+    lines = [["kind", rng.choice(["linear", "linear", "smoothstep"])]]
+    if rng.random() < 0.5:
+        lines.append(["threshold", rng.choice(["0.035", "0.02", "0.007", "0", "-1", "99", "0.0350000001", a_number(rng)])])
+    n = rng.choice([0, 1, 2, 2, 2, 2, 3, 3, 4, 5])
+    flat = rng.random() < 0.4
+    colour = [a_number(rng) for _ in range(4)]
+    for position in positions(rng, n):
+        if not flat or rng.random() < 0.2:
+            colour = [a_number(rng) for _ in range(4)]
+        lines.append(["stop", position, *colour])
+    if rng.random() < 0.4:
+        index = str(rng.randrange(0, n + 1)) if rng.random() < 0.9 else rng.choice(["", "-1", "+0", "0x0", "1" * 18, "1" * 19, "0" * 18, "0" * 19, "00", "1."])
+        lines.append(["edit", index, *[a_number(rng) for _ in range(4)]])
+    return [[field.encode("latin-1") for field in line] for line in lines]
+
+
+def damage_lines(rng, lines):
+    """One line lost, doubled, moved, or with a field too many, too few or changed."""
+    i, j = rng.randrange(len(lines)), rng.randrange(len(lines))
+    how = rng.randrange(7)
+    if how == 0:
+        del lines[i]
+    elif how == 1:
+        lines.insert(j, list(lines[i]))
+    elif how == 2:
+        lines[i], lines[j] = lines[j], lines[i]
+    elif how == 3:
+        lines[i].insert(rng.randrange(len(lines[i]) + 1), rng.choice([b"", b"0", b"stop"]))
+    elif how == 4:
+        del lines[i][rng.randrange(len(lines[i]))]
+    elif how == 5:
+        lines[i][rng.randrange(len(lines[i]))] = rng.choice(ODD).encode("latin-1")
+    else:
+        lines[i][0] = rng.choice(WORDS)
+
+
+def damage_bytes(rng, data):
+    """One byte lost, changed or put in."""
+    i = rng.randrange(len(data) + 1)
+    put = rng.choice([b"\t", b"\n", b"\r", b" ", b".", b"0", b"-", b"\x00", b"\xff", b"\r\n", b"e"])
+    return data[:i] + (b"" if rng.random() < 0.3 else put) + data[i + rng.randrange(2):]
+
+
+def text(seed):
+    rng = random.Random(seed)
+    if rng.random() < 0.001:
+        # Around the most bytes, with more stops than a ramp may have.
+        end = b"\n" if rng.random() < 0.5 else b""
+        lines = [b"kind\tlinear"] + [b"stop\t0\t0\t0\t0\t1"] * rng.choice([511, 512, 513, 600])
+        data = b"\n".join(lines) + end
+        return data + b"\n" * (rng.choice([16383, 16384, 16385]) - len(data)) if rng.random() < 0.5 else data
+    lines = sound(rng)
+    pick = rng.random()
+    if pick < 0.3:
+        for _ in range(rng.choice([1, 1, 2])):
+            if lines:
+                damage_lines(rng, lines)
+    end = rng.choice([b"\n", b"\n", b"\n", b"\r\n"])
+    data = end.join(b"\t".join(line) for line in lines) + rng.choice([end] * 8 + [b"", b"", b"\r", end + end])
+    return damage_bytes(rng, data) if 0.3 <= pick < 0.5 else data
+
+
+# ---- the comparison
+
+def printed(data):
+    return subprocess.run([str(PROGRAM)], input=data, stdout=subprocess.PIPE, check=True).stdout
+
+
+def compare(seeds):
+    classes, differences = Counter(), 0
+    for seed in seeds:
+        data = text(seed)
+        here, there = answer(data), printed(data)
+        classes[here.split(b"\t")[0].decode() + (" " + here.split(b"\t")[1].strip().decode() if here.startswith(b"refused") else "")] += 1
+        if here != there:
+            differences += 1
+            if differences <= 10:
+                print(f"--case {seed}\ninput:    {data[:600]!r}\nexpected: {here[:300]!r}\nprinted:  {there[:300]!r}")
+    for name, count in sorted(classes.items()):
+        print(f"{name:12} {count:8}")
+    print(f"{len(seeds)} texts, {differences} differences")
+    return differences
+
+
+def main():
+    parser = argparse.ArgumentParser(description="The tool beside document 01.")
+    parser.add_argument("texts", nargs="?", type=int, default=100000)
+    parser.add_argument("--case", type=int)
+    parser.add_argument("--answer", metavar="FILE")
+    options = parser.parse_args()
+    if options.answer:
+        sys.stdout.buffer.write(answer(Path(options.answer).read_bytes()))
+        return
+    sys.exit(1 if compare(range(options.texts) if options.case is None else [options.case]) else 0)
+
+
+if __name__ == "__main__":
+    main()
