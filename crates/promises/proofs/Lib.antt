@@ -1,0 +1,10 @@
+-- For each public call, that any two results that its contract allows coincide. The claims are of the contracts themselves: `Learnt κs a r e` is what the
+-- contract of a call says of its arguments a, its answer r and what its parameters hold at the end, e, in their order.
+pub mod Float
+pub mod Sqrt
+pub mod Decimal
+pub mod Gradient
+pub mod Ggr
+pub mod Linearize
+pub mod Colorgrad
+pub mod Desk

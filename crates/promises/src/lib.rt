@@ -1,0 +1,1 @@
+// What the contracts of the public calls come to: any two results that one allows coincide. There is no code here.
