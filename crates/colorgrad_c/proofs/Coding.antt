@@ -5,6 +5,10 @@ use Prim.Native.Nat.{ℕ}
 use borrow.Author.Tests.{ne-eqb}
 use lib.ListN.{length}
 use lib.Ieee.{Float}
+use Rattle.float.specs.F32.{f0}
+use Rattle.gradient.specs.Ramp.{checkOf, minOf, maxOf}
+use Rattle.gradient.specs.declared.Checked.{Checked}
+use Rattle.gradient.specs.declared.Checked.the-variants as checked
 use Rattle.gradient.specs.declared.Kind.{Kind}
 use Rattle.gradient.specs.declared.Kind.the-variants.{Linear, Smoothstep, Sharp, Basis, CatmullRom, Gimp}
 use Rattle.gradient.specs.Sharp.{after}
@@ -16,9 +20,10 @@ use Rattle.colorgrad.specs.declared.Answer.the-variants as answer
 use Rattle.colorgrad.specs.declared.Painted.{Painted}
 use Rattle.colorgrad.specs.declared.Painted.the-variants as painted
 use Rattle.colorgrad_c.specs.Kinds.{kindOf}
-use Rattle.colorgrad_c.specs.Ramps.{codedAnswer, codedPainted, codedCanvas}
+use Rattle.colorgrad_c.specs.Ramps.{domainBy, codedCheck, codedDomain, codedAnswer, codedPainted, codedCanvas}
 use Rattle.colorgrad_c.specs.declared.kinds.Coded.{Coded}
 use Rattle.colorgrad_c.specs.declared.kinds.Coded.the-variants.{Of, Unknown}
+use Rattle.colorgrad_c.specs.declared.ramps.Domain.{Domain}
 
 -- the codes, each to its kind
 pub code-0 : {n : ℕ} → n ≡ 0 → Of Linear ≡ kindOf n
@@ -50,6 +55,26 @@ unfolding kindOf
 no-code n h0 h1 h2 h3 h4 h5 = simp (ne-eqb n 0 h0, ne-eqb n 1 h1, ne-eqb n 2 h2, ne-eqb n 3 h3, ne-eqb n 4 h4, ne-eqb n 5 h5)
 
 module _ (ps cs : List Float) (ks : List ℕ) where
+  pub check-of : {x : Coded} {kind : Kind} {r : Checked} → x ≡ Of kind → r ≡ checkOf kind ps cs ks → r ≡ codedCheck x ps cs ks
+  unfolding codedCheck
+  check-of h e = e ∙ sym (ap (λ (z : Coded). codedCheck z ps cs ks) h)
+
+  pub check-none : {x : Coded} → x ≡ Unknown → checked.Refused 1 ≡ codedCheck x ps cs ks
+  unfolding codedCheck
+  check-none h = sym (ap (λ (z : Coded). codedCheck z ps cs ks) h)
+
+  pub domain-of : {x : Coded} {kind : Kind} {a : Checked} {lo hi : Float} {r : Domain} → x ≡ Of kind → r ≡ domainBy a lo hi → a ≡ checkOf kind ps cs ks → lo ≡ minOf kind ps → hi ≡ maxOf kind ps → r ≡ codedDomain x ps cs ks
+  unfolding codedDomain
+  domain-of {kind = kind} {a = a} {lo = lo} {hi = hi} h e ha hl hh =
+      e ∙ ap (λ (z : Checked). domainBy z lo hi) ha
+      ∙ ap (λ (z : Float). domainBy (checkOf kind ps cs ks) z hi) hl
+      ∙ ap (λ (z : Float). domainBy (checkOf kind ps cs ks) (minOf kind ps) z) hh
+      ∙ sym (ap (λ (z : Coded). codedDomain z ps cs ks) h)
+
+  pub domain-none : {x : Coded} {r : Domain} → x ≡ Unknown → r ≡ domainBy (checked.Refused 1) f0 f0 → r ≡ codedDomain x ps cs ks
+  unfolding codedDomain
+  domain-none h e = e ∙ sym (ap (λ (z : Coded). codedDomain z ps cs ks) h)
+
   pub answer-of : {x : Coded} {kind : Kind} {r : Answer} (t : Float) → x ≡ Of kind → r ≡ atAnswer kind ps cs ks t → r ≡ codedAnswer x ps cs ks t
   unfolding codedAnswer
   answer-of t h e = e ∙ sym (ap (λ (z : Coded). codedAnswer z ps cs ks t) h)

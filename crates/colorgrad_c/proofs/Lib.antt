@@ -1,3 +1,4 @@
 pub mod Coding
 pub mod Naming
 pub mod Listing
+pub mod Printing

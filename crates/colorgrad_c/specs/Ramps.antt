@@ -4,7 +4,10 @@ use mathlib.Core.List.{List}
 use lib.ListN.{length}
 use lib.Ieee.{Float}
 use Rattle.float.specs.F32.{f0}
+use Rattle.gradient.specs.Ramp.{checkOf, minOf, maxOf}
 use Rattle.gradient.specs.declared.Kind.{Kind}
+use Rattle.gradient.specs.declared.Checked.{Checked}
+use Rattle.gradient.specs.declared.Checked.the-variants as checked
 use Rattle.gradient.specs.declared.sharp.Built.{Built}
 use Rattle.gradient.specs.declared.sharp.Built.the-variants as built
 use Rattle.colorgrad.specs.Answers.{atAnswer, paintAnswer}
@@ -15,8 +18,18 @@ use Rattle.colorgrad.specs.declared.Painted.{Painted}
 use Rattle.colorgrad.specs.declared.Painted.the-variants as painted
 use Rattle.colorgrad_c.specs.Kinds.{onKind}
 use Rattle.colorgrad_c.specs.declared.kinds.Coded.{Coded}
+use Rattle.colorgrad_c.specs.declared.ramps.Domain.{Domain}
 use Rattle.colorgrad_c.specs.declared.ramps.Shown.{Shown}
 use Rattle.colorgrad_c.specs.declared.ramps.SharpBuilt.{SharpBuilt}
+
+abbrev pub checkedNumber : Checked → ℕ
+checkedNumber checked.Fine = 0
+checkedNumber (checked.Refused n) = n
+
+-- the ends of a domain, where the ramp passes its check
+abbrev pub domainBy : Checked → Float → Float → Domain
+domainBy checked.Fine lo hi = record { refusal = 0; min = lo; max = hi }
+domainBy (checked.Refused n) lo hi = record { refusal = n; min = f0; max = f0 }
 
 abbrev pub answerShown : Answer → Shown
 answerShown (answer.Colour c) = record { refusal = 0; colour = c }
@@ -30,7 +43,16 @@ abbrev pub builtShown : Built → SharpBuilt
 builtShown (built.Stops n) = record { refusal = 0; stops = n }
 builtShown (built.Refused n) = record { refusal = n; stops = 0 }
 
--- the calls of `colorgrad`; a code that names no kind is 1 and changes nothing
+-- the calls on a ramp; a code that names no kind is 1 and changes nothing
+unfoldable pub codedCheck : Coded → List Float → List Float → List ℕ → Checked
+codedCheck coded ps cs ks = onKind coded (λ (kind : Kind). checkOf kind ps cs ks) (checked.Refused 1)
+
+unfoldable pub codedDomain : Coded → List Float → List Float → List ℕ → Domain
+codedDomain coded ps cs ks =
+    onKind coded
+    (λ (kind : Kind). domainBy (checkOf kind ps cs ks) (minOf kind ps) (maxOf kind ps))
+    (domainBy (checked.Refused 1) f0 f0)
+
 unfoldable pub codedAnswer : Coded → List Float → List Float → List ℕ → Float → Answer
 codedAnswer coded ps cs ks t = onKind coded (λ (kind : Kind). atAnswer kind ps cs ks t) (answer.Refused 1)
 

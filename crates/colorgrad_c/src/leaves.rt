@@ -1,9 +1,12 @@
-// The leaves that a host compares by themselves: the square root, and a token as a number.
+// The leaves that a host compares by themselves: the square root, a cutoff, a threshold, and a token as a number.
 ghost use mathlib.Core.Path.{_≡_};
 ghost use Rattle.sqrt.specs.Root.{rootOf};
+ghost use Rattle.sqrt.specs.Cutoff.{IsCutoff};
 ghost use Rattle.decimal.specs.Decimal.{readOf};
+ghost use Rattle.linearize.specs.Constants.{thresholdOf};
 ghost use Rattle.colorgrad_c.specs.Leaves.{tokenShown};
 use decimal::Token;
+use linearize::Sampler;
 
 // value is 0 where the token is no number.
 #[repr(C)]
@@ -32,6 +35,23 @@ pub extern "C" fn colorgrad_root(x: f32) -> f32
     ensures { λ r. ⌜ r ≡ rootOf x ⌝ }
 {
     sqrt::root(x)
+}
+
+// For every f32 s: half the root of s is above t exactly when s is above the result.
+#[no_mangle]
+pub extern "C" fn colorgrad_cutoff(t: f32) -> f32
+    ensures { λ r. ⌜ IsCutoff t r ⌝ }
+{
+    sqrt::half_root::cutoff(t)
+}
+
+// The threshold that the calls on records and lists work with where this one is asked for.
+#[no_mangle]
+pub extern "C" fn colorgrad_threshold(asked: f32) -> f32
+    ensures { λ r. ⌜ r ≡ thresholdOf asked ⌝ }
+{
+    let sampler = Sampler::new(asked);
+    sampler.threshold
 }
 
 #[no_mangle]

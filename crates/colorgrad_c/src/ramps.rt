@@ -1,17 +1,26 @@
-// A ramp's colour at t, its colours at many points, and a sharp ramp built.
+// A ramp's check, its domain, its colour at t, its colours at many points, and a sharp ramp built.
 use crate::kinds;
 use crate::kinds::Coded;
 use colorgrad::Answer;
 use colorgrad::Painted;
+use gradient::Checked;
 use gradient::Rgba;
 use gradient::sharp::Built;
 ghost use mathlib.Core.Path.{_≡_};
 ghost use lib.ListN.{length};
 ghost use Rattle.gradient.specs.Sharp.{buildOf, after, bands, sharpPositions, sharpChannels};
 ghost use Rattle.colorgrad_c.specs.Kinds.{kindOf};
-ghost use Rattle.colorgrad_c.specs.Ramps.{codedAnswer, answerShown, codedPainted, paintedNumber, codedCanvas, builtShown};
+ghost use Rattle.colorgrad_c.specs.Ramps.{checkedNumber, codedCheck, domainBy, codedDomain, codedAnswer, answerShown, codedPainted, paintedNumber, codedCanvas, builtShown};
 
 const WRONG_SHAPE: u8 = 1;
+
+// The refusal, or 0 and the ends of the domain.
+#[repr(C)]
+pub struct Domain {
+    pub refusal: u32,
+    pub min: f32,
+    pub max: f32,
+}
 
 // The refusal, or 0 and the colour.
 #[repr(C)]
@@ -25,6 +34,81 @@ pub struct Shown {
 pub struct SharpBuilt {
     pub refusal: u32,
     pub stops: usize,
+}
+
+fn checked_number(checked: Checked) -> u32
+    ensures { λ r. ⌜ r ≡ checkedNumber checked ⌝ }
+{
+    match checked {
+        Checked::Fine => 0,
+        Checked::Refused(n) => n as u32,
+    }
+}
+
+fn coded_check(coded: Coded, positions: &[f32], channels: &[f32], codes: &[u8]) -> Checked
+    ensures { λ r. ⌜ r ≡ codedCheck coded (now (positions .entry)) (now (channels .entry)) (now (codes .entry)) ⌝ }
+{
+    match coded {
+        Coded::Of(kind) => gradient::check(kind, positions, channels, codes),
+        Coded::Unknown => Checked::Refused(WRONG_SHAPE),
+    }
+}
+
+// 0, or the refusal.
+#[no_mangle]
+pub extern "C" fn colorgrad_check(
+    kind: u32,
+    positions: &[f32],
+    channels: &[f32],
+    codes: &[u8],
+) -> u32
+    ensures { λ r. ⌜ r ≡ checkedNumber (codedCheck (kindOf kind) (now (positions .entry)) (now (channels .entry)) (now (codes .entry))) ⌝ }
+{
+    checked_number(coded_check(kinds::kind_of(kind), positions, channels, codes))
+}
+
+fn domain_by(checked: Checked, min: f32, max: f32) -> Domain
+    ensures { λ r. ⌜ r ≡ domainBy checked min max ⌝ }
+{
+    match checked {
+        Checked::Fine => Domain {
+            refusal: 0,
+            min,
+            max,
+        },
+        Checked::Refused(n) => Domain {
+            refusal: n as u32,
+            min: 0.0,
+            max: 0.0,
+        },
+    }
+}
+
+fn coded_domain(coded: Coded, positions: &[f32], channels: &[f32], codes: &[u8]) -> Domain
+    ensures { λ r. ⌜ r ≡ codedDomain coded (now (positions .entry)) (now (channels .entry)) (now (codes .entry)) ⌝ }
+{
+    match coded {
+        Coded::Of(kind) => {
+            domain_by(
+                gradient::check(kind, positions, channels, codes),
+                gradient::min_of(kind, positions),
+                gradient::max_of(kind, positions),
+            )
+        }
+        Coded::Unknown => domain_by(Checked::Refused(WRONG_SHAPE), 0.0, 0.0),
+    }
+}
+
+#[no_mangle]
+pub extern "C" fn colorgrad_domain(
+    kind: u32,
+    positions: &[f32],
+    channels: &[f32],
+    codes: &[u8],
+) -> Domain
+    ensures { λ r. ⌜ r ≡ codedDomain (kindOf kind) (now (positions .entry)) (now (channels .entry)) (now (codes .entry)) ⌝ }
+{
+    coded_domain(kinds::kind_of(kind), positions, channels, codes)
 }
 
 fn answer_shown(answer: Answer) -> Shown
