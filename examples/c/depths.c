@@ -1,0 +1,182 @@
+/* A sea-depth ramp through the C face: its colours, its list, an edit and a refresh, and a refusal with its message.
+ * Each answer is checked; the exit status is 0 where all are as they must be. */
+#include "colorgrad.h"
+#include <stdio.h>
+#include <string.h>
+
+#define STOPS 4
+
+static const float positions[STOPS] = {0.0f, 0.25f, 0.5f, 1.0f};
+static const float channels[4 * STOPS] = {
+    0.03f, 0.05f, 0.17f, 1.0f, 0.04f, 0.22f, 0.45f, 1.0f, 0.08f, 0.32f, 0.57f, 1.0f, 0.85f, 0.94f, 0.97f, 1.0f,
+};
+
+/* A record, and the list made of it. */
+typedef struct {
+    float rows[COLORGRAD_ROWS];
+    uint8_t counts[COLORGRAD_CELLS];
+    float places[COLORGRAD_MOST_POINTS];
+    float colours[4 * COLORGRAD_MOST_POINTS];
+} Sheet;
+
+static Sheet sheet, fresh;
+static int wrong;
+
+static void expect(bool is_so, const char *what)
+{
+    if (!is_so) {
+        printf("WRONG: %s\n", what);
+        wrong = 1;
+    }
+}
+
+static void print_stop(float place, const float *colour)
+{
+    printf("  %-8g  %.4f %.4f %.4f %.4f\n", place, colour[0], colour[1], colour[2], colour[3]);
+}
+
+static void colours(void)
+{
+    const float ts[3] = {0.0f, 0.125f, 2.0f};
+    float out[13] = {[12] = 7.0f};
+    ColorgradDomain domain =
+        colorgrad_domain(COLORGRAD_LINEAR, positions, STOPS, channels, 4 * STOPS, NULL, 0);
+    uint32_t refusal =
+        colorgrad_paint(COLORGRAD_LINEAR, positions, STOPS, channels, 4 * STOPS, NULL, 0, ts, 3, out, 13);
+    ColorgradColour last =
+        colorgrad_at(COLORGRAD_LINEAR, positions, STOPS, channels, 4 * STOPS, NULL, 0, 2.0f);
+    printf("colours on %g..%g\n", domain.min, domain.max);
+    for (int i = 0; i < 3; i++)
+        print_stop(ts[i], out + 4 * i);
+    expect(domain.refusal == COLORGRAD_FINE && domain.min == 0.0f && domain.max == 1.0f, "the domain");
+    expect(refusal == COLORGRAD_FINE, "painting");
+    expect(memcmp(out, channels, 4 * sizeof *out) == 0, "the first colour is the first stop's");
+    expect(memcmp(out + 8, channels + 12, 4 * sizeof *out) == 0, "past the last stop is the last stop's");
+    expect(last.refusal == COLORGRAD_FINE && last.colour.r == 0.85f, "one colour by itself");
+    expect(out[12] == 7.0f, "what lies past the colours stays");
+}
+
+static ColorgradListed flatten(const float *of, Sheet *into)
+{
+    return colorgrad_flatten(COLORGRAD_LINEAR, positions, STOPS, of, 4 * STOPS, NULL, 0, COLORGRAD_THRESHOLD,
+                             into->rows, COLORGRAD_ROWS, into->counts, COLORGRAD_CELLS, into->places,
+                             COLORGRAD_MOST_POINTS, into->colours, 4 * COLORGRAD_MOST_POINTS);
+}
+
+/* Whether the two sheets have the same record, and the same list of so many stops. */
+static bool is_same(size_t stops)
+{
+    return memcmp(sheet.rows, fresh.rows, sizeof sheet.rows) == 0 &&
+           memcmp(sheet.counts, fresh.counts, sizeof sheet.counts) == 0 &&
+           memcmp(sheet.places, fresh.places, stops * sizeof *sheet.places) == 0 &&
+           memcmp(sheet.colours, fresh.colours, 4 * stops * sizeof *sheet.colours) == 0;
+}
+
+static void lists(void)
+{
+    const ColorgradRgba brighter = {0.1f, 0.38f, 0.6f, 1.0f};
+    float changed[4 * STOPS];
+    ColorgradListed made = flatten(channels, &sheet), redone, again;
+    printf("flattened: %zu stops, %zu evaluations\n", made.stops, made.evaluations);
+    for (size_t i = 0; i < made.stops; i++)
+        print_stop(sheet.places[i], sheet.colours + 4 * i);
+    expect(made.refusal == COLORGRAD_FINE && made.stops == STOPS, "the list has the ramp's own stops");
+
+    redone = colorgrad_refresh_list(COLORGRAD_LINEAR, positions, STOPS, channels, 4 * STOPS, NULL, 0, 2, brighter,
+                                    COLORGRAD_THRESHOLD, sheet.rows, COLORGRAD_ROWS, sheet.counts, COLORGRAD_CELLS,
+                                    sheet.places, COLORGRAD_MOST_POINTS, sheet.colours, 4 * COLORGRAD_MOST_POINTS);
+    printf("stop 2 changed, refreshed: %zu stops, %zu evaluations\n", redone.stops, redone.evaluations);
+    for (size_t i = 0; i < redone.stops; i++)
+        print_stop(sheet.places[i], sheet.colours + 4 * i);
+
+    memcpy(changed, channels, sizeof changed);
+    memcpy(changed + 8, &brighter, sizeof brighter);
+    again = flatten(changed, &fresh);
+    expect(redone.refusal == COLORGRAD_FINE && redone.stops == again.stops, "as many stops as afresh");
+    expect(is_same(again.stops), "the refreshed record and list are the fresh ones");
+    expect(redone.evaluations < again.evaluations, "a refresh asks for fewer colours");
+}
+
+static void refusals(void)
+{
+    const float falling[STOPS] = {0.0f, 0.5f, 0.25f, 1.0f};
+    float few[4] = {7.0f, 7.0f, 7.0f, 7.0f};
+    uint8_t name[8];
+    uint32_t refusal = colorgrad_check(COLORGRAD_LINEAR, falling, STOPS, channels, 4 * STOPS, NULL, 0);
+    ColorgradListed short_of_room =
+        colorgrad_flatten(COLORGRAD_LINEAR, positions, STOPS, channels, 4 * STOPS, NULL, 0, COLORGRAD_THRESHOLD,
+                          sheet.rows, COLORGRAD_ROWS, sheet.counts, COLORGRAD_CELLS, few, 1, few + 1, 3);
+    printf("stops out of order: refused %u, %s\n", (unsigned)refusal, colorgrad_message(refusal));
+    expect(refusal == COLORGRAD_FALLING, "stops out of order");
+    expect(short_of_room.refusal == COLORGRAD_NO_ROOM && short_of_room.stops == 0, "no room for a list");
+    expect(few[0] == 0.0f && few[1] == 0.0f && few[2] == 0.0f && few[3] == 0.0f, "7 sets both outputs to zero");
+    expect(colorgrad_check(6, NULL, 0, NULL, 0, NULL, 0) == COLORGRAD_MISSHAPEN, "a kind that there is not");
+    expect(colorgrad_paint(COLORGRAD_LINEAR, NULL, 0, NULL, 0, NULL, 0, NULL, 0, NULL, 0) == COLORGRAD_MISSHAPEN,
+           "nothing but null pointers");
+    expect(colorgrad_flatten(COLORGRAD_BASIS, positions, STOPS, channels, 3, NULL, 0, 0.0f, NULL, 0, NULL, 0, NULL, 0,
+                             NULL, 0).refusal == COLORGRAD_MISSHAPEN, "lengths that disagree");
+    expect(colorgrad_sample(COLORGRAD_LINEAR, positions, STOPS, channels, 4 * STOPS, NULL, 0, 0.0f, NULL, 0, NULL, 0)
+               .refusal == COLORGRAD_BAD_RECORD, "no record");
+    expect(colorgrad_name(NULL, 0, name, sizeof name) == 0 && !colorgrad_token(NULL, 0).is_number, "empty texts");
+}
+
+static void gimp(void)
+{
+    static const char text[] = "GIMP Gradient\nName: Shelf\n2\n"
+                               "0 0.125 0.25 0 0 0 1 0 0.5 1 1 0 0\n0.25 0.5 1 0 0.5 1 1 1 1 1 1 0 0\n";
+    const ColorgradRgba black = {0.0f, 0.0f, 0.0f, 1.0f}, white = {1.0f, 1.0f, 1.0f, 1.0f};
+    const uint8_t *bytes = (const uint8_t *)text;
+    float places[3 * 2], colours[8 * 2];
+    uint8_t codes[2 * 2], name[16];
+    ColorgradRead read = colorgrad_read(bytes, strlen(text), black, white, places, 6, colours, 16, codes, 4);
+    size_t length = colorgrad_name(bytes, strlen(text), name, sizeof name);
+    ColorgradColour at = colorgrad_at(COLORGRAD_GIMP, places, 6, colours, 16, codes, 4, 0.125f);
+    size_t cut = (size_t)(strstr(text, "0.25 0.5 1") - text);
+    ColorgradRead torn = colorgrad_read(bytes, cut, black, white, places, 6, colours, 16, codes, 4);
+    printf("GIMP file '%.*s': %zu segments\n", (int)length, (const char *)name, read.segments);
+    expect(read.refusal == COLORGRAD_FINE && read.segments == 2, "a GIMP text");
+    expect(length == 5 && memcmp(name, "Shelf", 5) == 0, "its name");
+    expect(at.refusal == COLORGRAD_FINE && at.colour.g == 0.25f && at.colour.b == 0.5f, "its colour half-way");
+    printf("a torn file: refused %u, line %zu, %s\n", (unsigned)torn.refusal, torn.line,
+           colorgrad_message(torn.refusal));
+    expect(torn.refusal == COLORGRAD_TORN && torn.line == 3 && colours[2] == 0.0f, "a torn text, outputs zero");
+}
+
+static void tool(void)
+{
+    static const char input[] = "kind\tlinear\nstop\t0\t0\t0\t0\t1\nstop\t1\t1\t1\t1\t1\n";
+    static const char printed[] = "stops\t2\tevaluations\t215\n"
+                                  "stop\t00000000\t00000000\t00000000\t00000000\t3f800000\n"
+                                  "stop\t3f800000\t3f800000\t3f800000\t3f800000\t3f800000\n";
+    uint8_t output[200] = {0};
+    size_t n = colorgrad_desk((const uint8_t *)input, strlen(input), output, sizeof output);
+    expect(n == strlen(printed) && memcmp(output, printed, n) == 0, "what the tool prints");
+    n = colorgrad_desk((const uint8_t *)input, strlen(input), output, 10);
+    expect(n == strlen(printed) && output[0] == 0 && output[9] == 0 && output[10] != 0, "an output too short is zero");
+}
+
+static void built_and_leaves(void)
+{
+    const float two[8] = {0.0f, 0.0f, 0.0f, 1.0f, 1.0f, 1.0f, 1.0f, 1.0f};
+    float places[4], colours[16];
+    ColorgradSharp built = colorgrad_sharp(two, 8, 0.0f, 1.0f, 0.5f, places, 4, colours, 16);
+    expect(built.refusal == COLORGRAD_FINE && built.stops == 4, "a sharp ramp");
+    expect(places[1] == 0.4375f && places[2] == 0.5625f && places[3] == 1.0f, "its positions");
+    built = colorgrad_sharp(NULL, 0, 0.0f, 1.0f, 0.5f, places, 4, colours, 16);
+    expect(built.refusal == COLORGRAD_NOT_BUILT && places[3] == 1.0f, "no colours: nothing is changed");
+    expect(colorgrad_root(4.0f) == 2.0f && colorgrad_threshold(9.0f) == COLORGRAD_GREATEST_THRESHOLD, "leaves");
+    expect(colorgrad_token((const uint8_t *)"0.1", 3).value == 0.1f, "a token");
+    expect(colorgrad_root(colorgrad_cutoff(0.007f)) / 2.0f <= 0.007f, "a cutoff");
+}
+
+int main(void)
+{
+    colours();
+    lists();
+    refusals();
+    gimp();
+    tool();
+    built_and_leaves();
+    puts(wrong ? "depths: WRONG" : "depths: every answer as it must be");
+    return wrong;
+}

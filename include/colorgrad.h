@@ -1,0 +1,252 @@
+/* Guineaplume: colour ramps checked, evaluated, flattened to lists of stops, and refreshed after an edit.
+ *
+ * C99, and usable from C++. Link target/staticlib/libcolorgrad_c.a, which `rt staticlib colorgrad_c` makes. The library
+ * has no state and takes nothing from the heap: any threads may call it at once.
+ *
+ * A slice is a pointer and how many items it has. No call needs a check before it: with length 0 the pointer may be null,
+ * lengths may disagree, numbers may be anything; what cannot be used is refused with a number below. The one thing to keep
+ * to is C's own: each pointer is to as many items as its length says, and a slice that a call writes overlaps no other.
+ *
+ * A ramp is a kind and three slices. Stops, every kind but GIMP: n positions, 4n channels (red, green, blue, alpha of each
+ * stop), no codes. GIMP segments: 3n positions (left, middle, right), 8n channels (left, then right), 2n codes (blending,
+ * colouring). Ramps are lent for one call at a time and never written. */
+#ifndef COLORGRAD_H
+#define COLORGRAD_H
+
+#include <stdbool.h>
+#include <stddef.h>
+#include <stdint.h>
+
+#ifdef __cplusplus
+extern "C" {
+#endif
+
+/* ---- kinds of ramp; any other number is refused with 1 */
+#define COLORGRAD_LINEAR 0u
+#define COLORGRAD_SMOOTHSTEP 1u
+#define COLORGRAD_SHARP 2u
+#define COLORGRAD_BASIS 3u
+#define COLORGRAD_CATMULL_ROM 4u
+#define COLORGRAD_GIMP 5u
+
+/* ---- codes of a GIMP segment that are carried: four of blending, one of colouring */
+#define COLORGRAD_BLEND_LINEAR 0u
+#define COLORGRAD_BLEND_SPHERICAL_INCREASING 3u
+#define COLORGRAD_BLEND_SPHERICAL_DECREASING 4u
+#define COLORGRAD_BLEND_STEP 5u
+#define COLORGRAD_COLOURING_RGB 0u
+
+/* ---- limits */
+#define COLORGRAD_MOST_STOPS 512u      /* of a ramp */
+#define COLORGRAD_MOST_SEGMENTS 256u   /* of a GIMP ramp */
+#define COLORGRAD_MOST_COLOURS 256u    /* of a sharp ramp to build, which gets two stops for each */
+#define COLORGRAD_CELLS 36u            /* counts of a record */
+#define COLORGRAD_ROW 128u             /* numbers of each of its rows */
+#define COLORGRAD_ROWS 4608u           /* numbers of all its rows */
+#define COLORGRAD_MOST_POINTS 4609u    /* stops of any list: with this room, 7 is never given */
+#define COLORGRAD_MOST_EVALUATIONS 32146u /* of colorgrad_flatten */
+#define COLORGRAD_MOST_TEXT 65536u     /* bytes of a GIMP text */
+#define COLORGRAD_MOST_INPUT 16384u    /* bytes of an input of the tool */
+#define COLORGRAD_MOST_DIGITS 18u      /* of a token */
+
+/* ---- thresholds: not finite becomes the default, any other is taken into the range */
+#define COLORGRAD_THRESHOLD 0.007f
+#define COLORGRAD_LEAST_THRESHOLD 0.001f
+#define COLORGRAD_GREATEST_THRESHOLD 0.035f
+
+/* ---- refusals; 0 is none. The first that holds is given: 1; then stop by stop 2, 3; then 4, 5, 6. */
+#define COLORGRAD_FINE 0u
+#define COLORGRAD_MISSHAPEN 1u
+#define COLORGRAD_NOT_FINITE 2u
+#define COLORGRAD_FALLING 3u
+#define COLORGRAD_FAR_DOMAIN 4u
+#define COLORGRAD_BAD_RECORD 5u
+#define COLORGRAD_BAD_EDIT 6u
+#define COLORGRAD_NO_ROOM 7u
+#define COLORGRAD_LIST_NOT_FINITE 8u
+#define COLORGRAD_LIST_FALLING 9u
+#define COLORGRAD_NOT_A_TEXT 10u
+#define COLORGRAD_BAD_HEADER 11u
+#define COLORGRAD_BAD_SEGMENT 12u
+#define COLORGRAD_TORN 13u
+#define COLORGRAD_NO_SEGMENT 14u
+#define COLORGRAD_TOO_MANY_SEGMENTS 15u
+#define COLORGRAD_NOT_CARRIED 16u
+#define COLORGRAD_NOT_BUILT 17u
+
+/* What a refusal means, in one line of plain words; never null. */
+static inline const char *colorgrad_message(uint32_t refusal)
+{
+    switch (refusal) {
+    case COLORGRAD_FINE: return "not refused";
+    case COLORGRAD_MISSHAPEN: return "too few or too many stops or segments, an unknown kind, or lengths that disagree";
+    case COLORGRAD_NOT_FINITE: return "a position or a channel is not a finite number";
+    case COLORGRAD_FALLING: return "a stop lies before the one ahead of it";
+    case COLORGRAD_FAR_DOMAIN: return "the domain reaches beyond 1e38";
+    case COLORGRAD_BAD_RECORD: return "the record is not 4,608 numbers and 36 counts of 1 to 128";
+    case COLORGRAD_BAD_EDIT: return "the edit names no stop, no finite colour, or a ramp that cannot be refreshed";
+    case COLORGRAD_NO_ROOM: return "the output has no room for all of it";
+    case COLORGRAD_LIST_NOT_FINITE: return "a stop of the list would not be finite";
+    case COLORGRAD_LIST_FALLING: return "a stop of the list would lie before the one ahead of it";
+    case COLORGRAD_NOT_A_TEXT: return "the GIMP text is too long or not ASCII";
+    case COLORGRAD_BAD_HEADER: return "line 1, 2 or 3 of the GIMP text is not as it must be";
+    case COLORGRAD_BAD_SEGMENT: return "a segment of the GIMP text is not valid";
+    case COLORGRAD_TORN: return "the GIMP text has fewer segments than it counts";
+    case COLORGRAD_NO_SEGMENT: return "the GIMP text has no segment";
+    case COLORGRAD_TOO_MANY_SEGMENTS: return "the GIMP text counts more segments than there is room for";
+    case COLORGRAD_NOT_CARRIED: return "a segment is curved, sinusoidal or coloured by hue";
+    case COLORGRAD_NOT_BUILT: return "no sharp ramp can be built of so many colours on this domain";
+    default: return "no such refusal";
+    }
+}
+
+typedef struct {
+    float r, g, b, a;
+} ColorgradRgba;
+
+/* ---- ramps */
+
+/* 0, or 1, 2 or 3 where no call takes the ramp. */
+uint32_t colorgrad_check(uint32_t kind, const float *positions, size_t positions_length, const float *channels,
+                         size_t channels_length, const uint8_t *codes, size_t codes_length);
+
+/* The refusal (1, 2, 3), min and max then 0; or 0 and the ends of the domain: 0 and 1 for GIMP segments. */
+typedef struct {
+    uint32_t refusal;
+    float min, max;
+} ColorgradDomain;
+
+ColorgradDomain colorgrad_domain(uint32_t kind, const float *positions, size_t positions_length, const float *channels,
+                                 size_t channels_length, const uint8_t *codes, size_t codes_length);
+
+/* The refusal (1, 2, 3), the colour then 0 in each channel; or 0 and the colour at t, for any t. */
+typedef struct {
+    uint32_t refusal;
+    ColorgradRgba colour;
+} ColorgradColour;
+
+ColorgradColour colorgrad_at(uint32_t kind, const float *positions, size_t positions_length, const float *channels,
+                             size_t channels_length, const uint8_t *codes, size_t codes_length, float t);
+
+/* Writes the colours at ts, four channels each; what lies past them stays. Checks the ramp once: many times faster than
+ * colorgrad_at for each. 0, or 1, 2, 3: out stays as it was; or 7: out is set to zero. */
+uint32_t colorgrad_paint(uint32_t kind, const float *positions, size_t positions_length, const float *channels,
+                         size_t channels_length, const uint8_t *codes, size_t codes_length, const float *ts,
+                         size_t ts_length, float *out, size_t out_length);
+
+/* The refusal, or 0 and how many stops were written. */
+typedef struct {
+    uint32_t refusal;
+    size_t stops;
+} ColorgradSharp;
+
+/* Builds a sharp ramp of n colours, four channels each, on min..max: 2n positions and 8n channels; what lies past them
+ * stays. Softness is taken into 0..1; not finite, it is 0.1. Refused with 17, 1 (room too small) or 2: nothing is
+ * changed. */
+ColorgradSharp colorgrad_sharp(const float *colours, size_t colours_length, float min, float max, float softness,
+                               float *positions, size_t positions_length, float *channels, size_t channels_length);
+
+/* ---- GIMP gradient files */
+
+/* The refusal and its line, 0 if none; or 0, 0 and how many segments were read. */
+typedef struct {
+    uint32_t refusal;
+    size_t line;
+    size_t segments;
+} ColorgradRead;
+
+/* Reads a file's text into the three slices of a GIMP ramp; what lies past the last segment stays. The ramp is then the
+ * first 3n, 8n and 2n items. Foreground and background are what a segment may name in place of a colour. Refused with 2
+ * (one of these two is not finite) or 10 to 16: all three outputs are set to zero. */
+ColorgradRead colorgrad_read(const uint8_t *text, size_t text_length, ColorgradRgba foreground,
+                             ColorgradRgba background, float *positions, size_t positions_length, float *channels,
+                             size_t channels_length, uint8_t *codes, size_t codes_length);
+
+/* How long the file's name is; its bytes are written to the start of out where out holds them all, else out stays as it
+ * was. 0 where the file would be refused with room for 256 segments. */
+size_t colorgrad_name(const uint8_t *text, size_t text_length, uint8_t *out, size_t out_length);
+
+/* ---- records and lists
+ *
+ * A record is COLORGRAD_ROWS numbers and COLORGRAD_CELLS counts, which sampling fills: how finely each of 36 cells of the
+ * domain has to be cut. A list is made of it by thinning: stops that stand for the ramp when mixed linearly. Evaluations
+ * are how often the definition asks for a colour. */
+
+/* The refusal, or 0 and the evaluations. */
+typedef struct {
+    uint32_t refusal;
+    size_t evaluations;
+} ColorgradSampled;
+
+/* The refusal, or 0, how many stops were written and the evaluations. */
+typedef struct {
+    uint32_t refusal;
+    size_t stops;
+    size_t evaluations;
+} ColorgradListed;
+
+/* Fills a record, whatever was in it. Refused with 1 to 5: the record stays as it was. */
+ColorgradSampled colorgrad_sample(uint32_t kind, const float *positions, size_t positions_length,
+                                  const float *channels, size_t channels_length, const uint8_t *codes,
+                                  size_t codes_length, float threshold, float *rows, size_t rows_length,
+                                  uint8_t *counts, size_t counts_length);
+
+/* Makes the list of a record: places and, four channels each, colours; what lies past the last stop stays. Refused with
+ * 1 to 5: both outputs stay as they were; with 7, 8 or 9: both are set to zero. */
+ColorgradListed colorgrad_thin(uint32_t kind, const float *positions, size_t positions_length, const float *channels,
+                               size_t channels_length, const uint8_t *codes, size_t codes_length, float threshold,
+                               const float *rows, size_t rows_length, const uint8_t *counts, size_t counts_length,
+                               float *places, size_t places_length, float *colours, size_t colours_length);
+
+/* Fills a record and makes its list. Refused with 1 to 5: nothing is changed; with 7, 8 or 9: the record is filled, both
+ * outputs are set to zero. */
+ColorgradListed colorgrad_flatten(uint32_t kind, const float *positions, size_t positions_length,
+                                  const float *channels, size_t channels_length, const uint8_t *codes,
+                                  size_t codes_length, float threshold, float *rows, size_t rows_length,
+                                  uint8_t *counts, size_t counts_length, float *places, size_t places_length,
+                                  float *colours, size_t colours_length);
+
+/* The ramp as it was (linear or smoothstep), its record, and an edit: the colour that stop gets, counted from 0. Only the
+ * cells that the edit touches are filled anew, with the threshold of the record; the record then equals one of the changed
+ * ramp made afresh. The ramp itself is not written. Refused with 1 to 6: the record stays as it was. */
+ColorgradSampled colorgrad_refresh(uint32_t kind, const float *positions, size_t positions_length,
+                                   const float *channels, size_t channels_length, const uint8_t *codes,
+                                   size_t codes_length, size_t stop, ColorgradRgba colour, float threshold,
+                                   float *rows, size_t rows_length, uint8_t *counts, size_t counts_length);
+
+/* Refreshes a record and makes the list of the changed ramp; its evaluations are those of both. Refused with 1 to 6:
+ * nothing is changed; with 7, 8 or 9: the record is refreshed, both outputs are set to zero. */
+ColorgradListed colorgrad_refresh_list(uint32_t kind, const float *positions, size_t positions_length,
+                                       const float *channels, size_t channels_length, const uint8_t *codes,
+                                       size_t codes_length, size_t stop, ColorgradRgba colour, float threshold,
+                                       float *rows, size_t rows_length, uint8_t *counts, size_t counts_length,
+                                       float *places, size_t places_length, float *colours, size_t colours_length);
+
+/* ---- the tool, and the leaves below it */
+
+/* What the tool `flatten` prints for an input: how many bytes. They are written to the start of output where output holds
+ * them all, what lies past them stays; else all of output is set to zero. */
+size_t colorgrad_desk(const uint8_t *input, size_t input_length, uint8_t *output, size_t output_length);
+
+/* The threshold that the calls on records and lists take where this one is asked for. */
+float colorgrad_threshold(float asked);
+
+/* The correctly rounded square root of any number; below zero, and of a NaN, a NaN. */
+float colorgrad_root(float x);
+
+/* The number such that, for every s, half the root of s is above t exactly when s is above it. */
+float colorgrad_cutoff(float t);
+
+/* Whether the bytes are a number: a sign or none, digits with a point or none, 1 to 18 of them; and which, 0 if none. */
+typedef struct {
+    bool is_number;
+    float value;
+} ColorgradToken;
+
+ColorgradToken colorgrad_token(const uint8_t *text, size_t text_length);
+
+#ifdef __cplusplus
+}
+#endif
+
+#endif
