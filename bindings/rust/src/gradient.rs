@@ -1,0 +1,305 @@
+//! Ramps that own their stops, each kind a type of its own. A ramp was checked when it was made.
+
+use crate::color::{flat, unflat};
+use crate::lent::{self, Kind, MOST_SEGMENTS};
+use crate::{Color, List, ParseGgrError, Record, Refusal};
+
+/// What passed its check is not refused.
+fn taken<T>(answer: Result<T, Refusal>) -> T {
+    match answer {
+        Ok(value) => value,
+        Err(refusal) => unreachable!("a ramp that passed its check: {refusal}"),
+    }
+}
+
+/// Stops or segments that passed the check.
+#[derive(Clone, PartialEq, Debug)]
+struct Parts {
+    positions: Vec<f32>,
+    channels: Vec<f32>,
+    codes: Vec<u8>,
+}
+
+impl Parts {
+    fn lent(&self, kind: Kind) -> lent::Ramp<'_> {
+        lent::Ramp { kind, positions: &self.positions, channels: &self.channels, codes: &self.codes }
+    }
+
+    /// Refusals 1, 2, 3.
+    fn stops(kind: Kind, positions: &[f32], colors: &[Color]) -> Result<Parts, Refusal> {
+        let parts = Parts { positions: positions.to_vec(), channels: flat(colors), codes: Vec::new() };
+        parts.lent(kind).check()?;
+        Ok(parts)
+    }
+}
+
+/// What every ramp can be asked.
+pub trait Gradient {
+    /// The ramp as slices, for the calls of [`lent`](crate::lent).
+    fn lent(&self) -> lent::Ramp<'_>;
+
+    /// The colour at t; (0, 0, 0, 1) at not-a-number, and outside a GIMP ramp's domain.
+    ///
+    /// The stops are looked over each time: for many points [`colors_at`](Gradient::colors_at) is faster.
+    fn at(&self, t: f32) -> Color {
+        taken(self.lent().at(t))
+    }
+
+    /// The first and the last position; (0, 1) for GIMP gradients.
+    fn domain(&self) -> (f32, f32) {
+        taken(self.lent().domain())
+    }
+
+    /// The colours at many points.
+    fn colors_at(&self, ts: &[f32]) -> Vec<Color> {
+        let mut channels = vec![0.0; 4 * ts.len()];
+        taken(self.lent().paint(ts, &mut channels));
+        unflat(&channels)
+    }
+
+    /// The ramp as a list of stops that differ from it by no more than the threshold allows; a smaller threshold gives more
+    /// of them. Refused with 4 where the domain reaches beyond 1e38, 8 where a colour overflows.
+    ///
+    /// ```
+    /// use guineaplume::{Color, Gradient, LinearGradient, Refusal};
+    ///
+    /// let colors = [Color::new(0.0, 0.0, 0.0, 1.0), Color::new(1.0, 1.0, 1.0, 1.0)];
+    /// let list = LinearGradient::new(&[0.0, 1.0], &colors)?.linearize(0.007)?;
+    /// assert_eq!(list.positions(), [0.0, 1.0]);
+    /// assert_eq!(list.evaluations(), 215);
+    /// # Ok::<(), Refusal>(())
+    /// ```
+    fn linearize(&self, threshold: f32) -> Result<List, Refusal> {
+        self.flatten(threshold).map(|(_, list)| list)
+    }
+
+    /// The same, with the record that it was made of, which a later refresh needs.
+    fn flatten(&self, threshold: f32) -> Result<(Record, List), Refusal> {
+        let mut record = Record::empty(threshold);
+        let list = List::made(|out| self.lent().flatten(threshold, record.lent_mut(), out))?;
+        record.evaluations = list.evaluations();
+        Ok((record, list))
+    }
+
+    /// The sample record alone. Refused with 4 where the domain reaches beyond 1e38.
+    fn sample(&self, threshold: f32) -> Result<Record, Refusal> {
+        let mut record = Record::empty(threshold);
+        record.evaluations = self.lent().sample(threshold, record.lent_mut())?;
+        Ok(record)
+    }
+
+    /// The list of a record, at the record's threshold. Refused with 4, 8, or 9 where the record is of another ramp and
+    /// falls.
+    fn thin(&self, record: &Record) -> Result<List, Refusal> {
+        List::made(|out| self.lent().thin(record.threshold(), record.lent(), out))
+    }
+}
+
+/// Ramps whose record can be kept true after an edit: linear and smoothstep ones.
+///
+/// ```
+/// use guineaplume::{Color, Gradient, LinearGradient, Refresh, Refusal};
+///
+/// let gray = |x: f32| Color::new(x, x, x, 1.0);
+/// let mut ramp = LinearGradient::new(&[0.0, 0.5, 0.75, 1.0], &[0.0, 0.8, 0.2, 1.0].map(gray))?;
+/// let mut record = ramp.sample(0.007)?;
+/// let list = ramp.refresh_list(1, gray(0.3), &mut record)?;
+///
+/// // the ramp has the new colour, and its record and list are the ones made afresh
+/// let (fresh, whole) = ramp.flatten(0.007)?;
+/// assert_eq!(ramp.at(0.5), gray(0.3));
+/// assert_eq!(record, fresh);
+/// assert!(list.stops().eq(whole.stops()));
+/// assert!(list.evaluations() < whole.evaluations());
+/// # Ok::<(), Refusal>(())
+/// ```
+pub trait Refresh: Gradient {
+    /// Gives a stop, counted from 0, another colour, and redoes those cells of the ramp's record that the edit touches: the
+    /// evaluations. Refused with 6 where there is no such stop or the colour is not finite, or with 4: then neither the ramp
+    /// nor the record is changed.
+    fn refresh(&mut self, stop: usize, color: Color, record: &mut Record) -> Result<usize, Refusal>;
+
+    /// The same, and the list of the changed ramp; its evaluations are those of both. After 8 or 9 the ramp and the record
+    /// are changed, and there is no list.
+    fn refresh_list(&mut self, stop: usize, color: Color, record: &mut Record) -> Result<List, Refusal>;
+}
+
+/// A type for each kind of stops.
+macro_rules! of_stops {
+    ($(#[$about:meta])* $name:ident, $kind:expr) => {
+        $(#[$about])*
+        #[derive(Clone, PartialEq, Debug)]
+        pub struct $name(Parts);
+
+        impl $name {
+            /// A ramp of positions and colours, as many of the one as of the other. Refused with 1 where that is not so or
+            /// they are not 2 to 512, with 2 where a number is not finite, with 3 where a position is below the one before.
+            pub fn new(positions: &[f32], colors: &[Color]) -> Result<$name, Refusal> {
+                Parts::stops($kind, positions, colors).map($name)
+            }
+
+            /// The position of each stop.
+            pub fn positions(&self) -> &[f32] {
+                &self.0.positions
+            }
+
+            /// Each stop with its colour.
+            pub fn stops(&self) -> impl ExactSizeIterator<Item = (f32, Color)> + '_ {
+                let colors = self.0.channels.chunks_exact(4).map(|c| Color::new(c[0], c[1], c[2], c[3]));
+                self.0.positions.iter().copied().zip(colors)
+            }
+        }
+
+        impl Gradient for $name {
+            fn lent(&self) -> lent::Ramp<'_> {
+                self.0.lent($kind)
+            }
+        }
+    };
+}
+
+of_stops!(
+    /// Colours mixed linearly between stops.
+    ///
+    /// ```
+    /// use guineaplume::{Color, Gradient, LinearGradient, Refusal};
+    ///
+    /// let ramp = LinearGradient::new(&[0.0, 1.0], &[Color::new(0., 0., 0., 1.), Color::new(1., 1., 1., 1.)])?;
+    /// assert_eq!(ramp.at(0.25), Color::new(0.25, 0.25, 0.25, 1.0));
+    /// assert_eq!(ramp.domain(), (0.0, 1.0));
+    /// # Ok::<(), Refusal>(())
+    /// ```
+    LinearGradient,
+    Kind::Linear
+);
+
+of_stops!(
+    /// Colours mixed by a smooth step between stops.
+    SmoothstepGradient,
+    Kind::Smoothstep
+);
+
+of_stops!(
+    /// Flat bands with soft edges: an even number of stops, of which each pair is one band.
+    ///
+    /// ```
+    /// use guineaplume::{Color, Gradient, Refusal, SharpGradient};
+    ///
+    /// let colors = [Color::new(0., 0., 0., 1.), Color::new(1., 1., 1., 1.)];
+    /// let ramp = SharpGradient::build(&colors, (0.0, 1.0), 0.5)?;
+    /// assert_eq!(ramp.positions(), [0.0, 0.4375, 0.5625, 1.0]);
+    /// assert_eq!(ramp.at(0.3), colors[0]);
+    /// # Ok::<(), Refusal>(())
+    /// ```
+    SharpGradient,
+    Kind::Sharp
+);
+
+of_stops!(
+    /// A basis spline through the colours of stops.
+    BasisGradient,
+    Kind::Basis
+);
+
+of_stops!(
+    /// A Catmull-Rom spline through the colours of stops.
+    CatmullRomGradient,
+    Kind::CatmullRom
+);
+
+impl SharpGradient {
+    /// Bands of equal width on a domain. Softness 0 is hard edges; it is taken into 0 to 1, and is 0.1 where it is not
+    /// finite. Refused with 17 where there is no colour, there are more than 256, or the domain cannot be parted so; with 2
+    /// where a colour is not finite.
+    pub fn build(colors: &[Color], domain: (f32, f32), softness: f32) -> Result<SharpGradient, Refusal> {
+        let mut positions = vec![0.0; 2 * colors.len()];
+        let mut channels = vec![0.0; 8 * colors.len()];
+        let out = lent::StopsMut { positions: &mut positions, channels: &mut channels };
+        lent::sharp(&flat(colors), domain, softness, out)?;
+        Ok(SharpGradient(Parts { positions, channels, codes: Vec::new() }))
+    }
+}
+
+/// What a refresh needs of a ramp of stops.
+macro_rules! refreshed {
+    ($name:ident) => {
+        impl Refresh for $name {
+            fn refresh(&mut self, stop: usize, color: Color, record: &mut Record) -> Result<usize, Refusal> {
+                let (edit, threshold) = (lent::Edit { stop, color }, record.threshold());
+                let evaluations = self.lent().refresh(edit, threshold, record.lent_mut())?;
+                self.0.channels[4 * stop..4 * stop + 4].copy_from_slice(&color.to_array());
+                record.evaluations = evaluations;
+                Ok(evaluations)
+            }
+
+            fn refresh_list(&mut self, stop: usize, color: Color, record: &mut Record) -> Result<List, Refusal> {
+                let refreshed = self.refresh(stop, color, record)?;
+                self.thin(record).map(|list| list.after(refreshed))
+            }
+        }
+    };
+}
+
+refreshed!(LinearGradient);
+refreshed!(SmoothstepGradient);
+
+/// The segments of a GIMP gradient file (.ggr).
+///
+/// ```
+/// use guineaplume::{Color, GimpGradient, Gradient, ParseGgrError, Refusal};
+///
+/// let text = b"GIMP Gradient\nName: Shelf\n1\n0 0.5 1 0 0 0 1 1 1 1 1 0 0\n";
+/// let (black, white) = (Color::new(0., 0., 0., 1.), Color::new(1., 1., 1., 1.));
+/// let ramp = GimpGradient::new(text, &black, &white)?;
+/// assert_eq!(ramp.name(), "Shelf");
+/// assert_eq!(ramp.at(0.25), Color::new(0.25, 0.25, 0.25, 1.0));
+///
+/// let torn = GimpGradient::new(&text[..28], &black, &white).unwrap_err();
+/// assert_eq!(torn, ParseGgrError { refusal: Refusal::Torn, line: 3 });
+/// assert_eq!(torn.to_string(), "the GIMP text has fewer segments than it counts (line 3)");
+/// # Ok::<(), ParseGgrError>(())
+/// ```
+#[derive(Clone, PartialEq, Debug)]
+pub struct GimpGradient {
+    parts: Parts,
+    name: String,
+}
+
+impl GimpGradient {
+    /// Reads a file's text. Foreground and background are what a segment may name in place of a colour of its own. Refused
+    /// with 2 where one of these two is not finite, and with 10 to 16.
+    pub fn new(text: &[u8], foreground: &Color, background: &Color) -> Result<GimpGradient, ParseGgrError> {
+        let mut positions = vec![0.0; 3 * MOST_SEGMENTS];
+        let mut channels = vec![0.0; 8 * MOST_SEGMENTS];
+        let mut codes = vec![0; 2 * MOST_SEGMENTS];
+        let out = lent::SegmentsMut { positions: &mut positions, channels: &mut channels, codes: &mut codes };
+        let segments = lent::read(text, *foreground, *background, out)?;
+        positions.truncate(3 * segments);
+        channels.truncate(8 * segments);
+        codes.truncate(2 * segments);
+        Ok(GimpGradient { parts: Parts { positions, channels, codes }, name: name_of(text) })
+    }
+
+    /// The name that the file gives itself.
+    pub fn name(&self) -> &str {
+        &self.name
+    }
+
+    /// How many segments it has.
+    pub fn segments(&self) -> usize {
+        self.parts.codes.len() / 2
+    }
+}
+
+/// A text that was read is ASCII, and its name no longer than it.
+fn name_of(text: &[u8]) -> String {
+    let mut name = vec![0; text.len()];
+    let length = lent::name(text, &mut name);
+    name[..length].iter().copied().map(char::from).collect()
+}
+
+impl Gradient for GimpGradient {
+    fn lent(&self) -> lent::Ramp<'_> {
+        self.parts.lent(Kind::Gimp)
+    }
+}

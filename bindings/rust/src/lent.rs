@@ -1,0 +1,353 @@
+//! Every call on lent slices: nothing is allocated, and the caller says where answers go.
+//!
+//! No call needs a check before it. Slices may be empty or too short, lengths may disagree, numbers may be anything: what
+//! cannot be used is refused. What a refusal leaves in a lent output is said at each call.
+//!
+//! ```
+//! use guineaplume::lent::{Kind, Ramp};
+//! use guineaplume::Refusal;
+//!
+//! let ramp = Ramp { kind: Kind::Linear, positions: &[0.0, 1.0], channels: &[0., 0., 0., 1., 1., 1., 1., 1.], codes: &[] };
+//! let mut out = [7.0; 8];
+//! ramp.paint(&[0.0, 0.25], &mut out)?;
+//! assert_eq!(out, [0.0, 0.0, 0.0, 1.0, 0.25, 0.25, 0.25, 1.0]);
+//!
+//! assert_eq!(ramp.paint(&[0.0, 0.25, 0.5], &mut out), Err(Refusal::NoRoom));
+//! assert_eq!(out, [0.0; 8]);
+//! # Ok::<(), Refusal>(())
+//! ```
+
+use crate::calls;
+use crate::{Color, ParseGgrError, Refusal};
+
+/// How many stops a ramp may have.
+pub const MOST_STOPS: usize = 512;
+/// How many segments a GIMP ramp may have.
+pub const MOST_SEGMENTS: usize = 256;
+/// How many cells a record has, each with a count.
+pub const CELLS: usize = 36;
+/// How many numbers the rows of a record have, 128 for each cell.
+pub const ROWS: usize = 4608;
+/// The most stops that a list can have: with this room, [`Refusal::NoRoom`] is never given.
+pub const MOST_POINTS: usize = ROWS + 1;
+
+/// The kinds of ramp, with the codes that the library knows them by.
+#[derive(Clone, Copy, PartialEq, Eq, Hash, Debug)]
+#[repr(u32)]
+pub enum Kind {
+    /// Colours mixed linearly between stops.
+    Linear = 0,
+    /// Mixed by a smooth step.
+    Smoothstep = 1,
+    /// Flat bands with soft edges: pairs of stops.
+    Sharp = 2,
+    /// A basis spline.
+    Basis = 3,
+    /// A Catmull-Rom spline.
+    CatmullRom = 4,
+    /// The segments of a GIMP gradient.
+    Gimp = 5,
+}
+
+/// A ramp as it is lent.
+///
+/// Stops are n positions and 4n channels, with no codes. GIMP segments are 3n positions (left, middle, right), 8n channels
+/// (left, then right) and 2n codes (blending, colouring).
+#[derive(Clone, Copy, PartialEq, Debug)]
+pub struct Ramp<'a> {
+    /// What the slices stand for.
+    pub kind: Kind,
+    /// The positions of stops or segments.
+    pub positions: &'a [f32],
+    /// Their colours, four channels each.
+    pub channels: &'a [f32],
+    /// The codes of segments; empty for stops.
+    pub codes: &'a [u8],
+}
+
+/// A record to read: [`ROWS`] numbers and [`CELLS`] counts.
+#[derive(Clone, Copy, PartialEq, Debug)]
+pub struct Record<'a> {
+    /// 128 numbers for each cell, of which its count says how many are used.
+    pub rows: &'a [f32],
+    /// One for each cell, 1 to 128.
+    pub counts: &'a [u8],
+}
+
+/// A record to fill or to refresh.
+#[derive(PartialEq, Debug)]
+pub struct RecordMut<'a> {
+    /// 128 numbers for each cell, of which its count says how many are used.
+    pub rows: &'a mut [f32],
+    /// One for each cell, 1 to 128.
+    pub counts: &'a mut [u8],
+}
+
+/// Where the stops of a list go. Its room is the whole stops that both slices hold; what lies past the last one stays.
+#[derive(PartialEq, Debug)]
+pub struct StopsMut<'a> {
+    /// One position for each stop.
+    pub positions: &'a mut [f32],
+    /// Four channels for each stop.
+    pub channels: &'a mut [f32],
+}
+
+/// The new colour of a stop, counted from 0.
+#[derive(Clone, Copy, PartialEq, Debug)]
+pub struct Edit {
+    /// Which stop.
+    pub stop: usize,
+    /// What it becomes.
+    pub color: Color,
+}
+
+/// How many stops a list has, and how often its definition asks for a colour.
+#[derive(Clone, Copy, PartialEq, Eq, Debug)]
+pub struct Listed {
+    /// Stops written.
+    pub stops: usize,
+    /// Evaluations.
+    pub evaluations: usize,
+}
+
+fn answer<T>(number: u32, value: T) -> Result<T, Refusal> {
+    match number {
+        0 => Ok(value),
+        _ => Err(Refusal::from_number(number).expect("every refusal has a number of 1 to 17")),
+    }
+}
+
+fn listed(made: calls::ListMade) -> Result<Listed, Refusal> {
+    answer(made.refusal, Listed { stops: made.stops, evaluations: made.evaluations })
+}
+
+/// Calls the library with a ramp's four arguments before the others. Each slice passes as its pointer and length.
+// SAFETY of every use: a slice's own pointer and length, exclusive where it is written, alive until the call returns; the
+// library is proved to touch nothing else for any contents and lengths.
+macro_rules! with_ramp {
+    ($call:ident, $ramp:expr $(, $argument:expr)*) => {
+        unsafe {
+            calls::$call(
+                $ramp.kind as u32,
+                $ramp.positions.as_ptr(),
+                $ramp.positions.len(),
+                $ramp.channels.as_ptr(),
+                $ramp.channels.len(),
+                $ramp.codes.as_ptr(),
+                $ramp.codes.len()
+                $(, $argument)*
+            )
+        }
+    };
+}
+
+impl Ramp<'_> {
+    /// Whether other calls take the ramp: refusals 1, 2, 3.
+    pub fn check(&self) -> Result<(), Refusal> {
+        answer(with_ramp!(colorgrad_check, self), ())
+    }
+
+    /// The ends of the domain; 0 and 1 for GIMP segments. Refusals 1, 2, 3.
+    pub fn domain(&self) -> Result<(f32, f32), Refusal> {
+        let domain = with_ramp!(colorgrad_domain, self);
+        answer(domain.refusal, (domain.min, domain.max))
+    }
+
+    /// The colour at t. Refusals 1, 2, 3.
+    pub fn at(&self, t: f32) -> Result<Color, Refusal> {
+        let shown = with_ramp!(colorgrad_at, self, t);
+        answer(shown.refusal, shown.color)
+    }
+
+    /// Writes the colours at `ts`, four channels each; what lies past them stays. Refusals 1, 2, 3 leave `out` as it was,
+    /// 7 sets it to zero.
+    pub fn paint(&self, ts: &[f32], out: &mut [f32]) -> Result<(), Refusal> {
+        answer(with_ramp!(colorgrad_paint, self, ts.as_ptr(), ts.len(), out.as_mut_ptr(), out.len()), ())
+    }
+
+    /// Fills a record, whatever was in it: the evaluations. Refusals 1 to 5 leave it as it was.
+    pub fn sample(&self, threshold: f32, record: RecordMut<'_>) -> Result<usize, Refusal> {
+        let RecordMut { rows, counts } = record;
+        let made = with_ramp!(
+            colorgrad_sample,
+            self,
+            threshold,
+            rows.as_mut_ptr(),
+            rows.len(),
+            counts.as_mut_ptr(),
+            counts.len()
+        );
+        answer(made.refusal, made.evaluations)
+    }
+
+    /// Makes the list of a record. Refusals 1 to 5 leave `out` as it was, 7, 8, 9 set it to zero.
+    pub fn thin(&self, threshold: f32, record: Record<'_>, out: StopsMut<'_>) -> Result<Listed, Refusal> {
+        listed(with_ramp!(
+            colorgrad_thin,
+            self,
+            threshold,
+            record.rows.as_ptr(),
+            record.rows.len(),
+            record.counts.as_ptr(),
+            record.counts.len(),
+            out.positions.as_mut_ptr(),
+            out.positions.len(),
+            out.channels.as_mut_ptr(),
+            out.channels.len()
+        ))
+    }
+
+    /// Fills a record and makes its list. Refusals 1 to 5 change nothing; after 7, 8, 9 the record is filled and `out` is
+    /// zero.
+    pub fn flatten(&self, threshold: f32, record: RecordMut<'_>, out: StopsMut<'_>) -> Result<Listed, Refusal> {
+        listed(with_ramp!(
+            colorgrad_flatten,
+            self,
+            threshold,
+            record.rows.as_mut_ptr(),
+            record.rows.len(),
+            record.counts.as_mut_ptr(),
+            record.counts.len(),
+            out.positions.as_mut_ptr(),
+            out.positions.len(),
+            out.channels.as_mut_ptr(),
+            out.channels.len()
+        ))
+    }
+
+    /// Refreshes the record of this ramp, linear or smoothstep, for an edit: it then equals the record of the changed ramp.
+    /// The evaluations; refusals 1 to 6 leave it as it was.
+    pub fn refresh(&self, edit: Edit, threshold: f32, record: RecordMut<'_>) -> Result<usize, Refusal> {
+        let RecordMut { rows, counts } = record;
+        let made = with_ramp!(
+            colorgrad_refresh,
+            self,
+            edit.stop,
+            edit.color,
+            threshold,
+            rows.as_mut_ptr(),
+            rows.len(),
+            counts.as_mut_ptr(),
+            counts.len()
+        );
+        answer(made.refusal, made.evaluations)
+    }
+
+    /// Refreshes a record and makes the list of the changed ramp. Refusals 1 to 6 change nothing; after 7, 8, 9 the record
+    /// is refreshed and `out` is zero.
+    pub fn refresh_list(
+        &self,
+        edit: Edit,
+        threshold: f32,
+        record: RecordMut<'_>,
+        out: StopsMut<'_>,
+    ) -> Result<Listed, Refusal> {
+        listed(with_ramp!(
+            colorgrad_refresh_list,
+            self,
+            edit.stop,
+            edit.color,
+            threshold,
+            record.rows.as_mut_ptr(),
+            record.rows.len(),
+            record.counts.as_mut_ptr(),
+            record.counts.len(),
+            out.positions.as_mut_ptr(),
+            out.positions.len(),
+            out.channels.as_mut_ptr(),
+            out.channels.len()
+        ))
+    }
+}
+
+/// Builds a sharp ramp of colours, four channels each: how many stops, two for each colour. Refusals 17, 1 (room too
+/// small) and 2 leave `out` as it was.
+pub fn sharp(colors: &[f32], domain: (f32, f32), softness: f32, out: StopsMut<'_>) -> Result<usize, Refusal> {
+    let StopsMut { positions, channels } = out;
+    // SAFETY: as for a ramp's calls.
+    let built = unsafe {
+        calls::colorgrad_sharp(
+            colors.as_ptr(),
+            colors.len(),
+            domain.0,
+            domain.1,
+            softness,
+            positions.as_mut_ptr(),
+            positions.len(),
+            channels.as_mut_ptr(),
+            channels.len(),
+        )
+    };
+    answer(built.refusal, built.stops)
+}
+
+/// Where the segments of a GIMP text go; what lies past the last one stays.
+#[derive(PartialEq, Debug)]
+pub struct SegmentsMut<'a> {
+    /// Three positions for each segment.
+    pub positions: &'a mut [f32],
+    /// Eight channels for each segment.
+    pub channels: &'a mut [f32],
+    /// Two codes for each segment.
+    pub codes: &'a mut [u8],
+}
+
+/// Reads a GIMP text: how many segments. Any refusal (2, 10 to 16) sets all of `out` to zero.
+pub fn read(text: &[u8], foreground: Color, background: Color, out: SegmentsMut<'_>) -> Result<usize, ParseGgrError> {
+    let SegmentsMut { positions, channels, codes } = out;
+    // SAFETY: as for a ramp's calls.
+    let read = unsafe {
+        calls::colorgrad_read(
+            text.as_ptr(),
+            text.len(),
+            foreground,
+            background,
+            positions.as_mut_ptr(),
+            positions.len(),
+            channels.as_mut_ptr(),
+            channels.len(),
+            codes.as_mut_ptr(),
+            codes.len(),
+        )
+    };
+    answer(read.refusal, read.segments).map_err(|refusal| ParseGgrError { refusal, line: read.line })
+}
+
+/// How long the name in a GIMP text is. Its bytes are written where `out` holds them all, else it stays as it was. 0 where
+/// the text would be refused with room for 256 segments.
+pub fn name(text: &[u8], out: &mut [u8]) -> usize {
+    // SAFETY: as for a ramp's calls.
+    unsafe { calls::colorgrad_name(text.as_ptr(), text.len(), out.as_mut_ptr(), out.len()) }
+}
+
+/// How many bytes the tool `flatten` prints for an input. They are written where `output` holds them all, else it is set to
+/// zero.
+pub fn desk(input: &[u8], output: &mut [u8]) -> usize {
+    // SAFETY: as for a ramp's calls.
+    unsafe { calls::colorgrad_desk(input.as_ptr(), input.len(), output.as_mut_ptr(), output.len()) }
+}
+
+/// The number that the bytes are: a sign or none, digits with a point or none, 1 to 18 of them.
+pub fn token(text: &[u8]) -> Option<f32> {
+    // SAFETY: as for a ramp's calls.
+    let read = unsafe { calls::colorgrad_token(text.as_ptr(), text.len()) };
+    read.is_number.then_some(read.value)
+}
+
+/// The threshold that calls take where this one is asked for: 0.001 to 0.035, and 0.007 for one that is not finite.
+pub fn threshold(asked: f32) -> f32 {
+    // SAFETY: numbers alone.
+    unsafe { calls::colorgrad_threshold(asked) }
+}
+
+/// The correctly rounded square root of any number.
+pub fn root(x: f32) -> f32 {
+    // SAFETY: numbers alone.
+    unsafe { calls::colorgrad_root(x) }
+}
+
+/// The number such that, for every s, half the root of s is above t exactly when s is above it.
+pub fn cutoff(t: f32) -> f32 {
+    // SAFETY: numbers alone.
+    unsafe { calls::colorgrad_cutoff(t) }
+}

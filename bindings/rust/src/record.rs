@@ -1,0 +1,130 @@
+//! Sample records, and the lists made of them.
+
+use crate::color::unflat;
+use crate::lent::{self, CELLS, MOST_POINTS, ROWS};
+use crate::{Color, LinearGradient, Refusal};
+
+/// How finely each of 36 cells of a ramp's domain has to be cut, at one threshold.
+///
+/// [`Gradient::sample`](crate::Gradient::sample) makes one, [`Refresh::refresh`](crate::Refresh::refresh) keeps it true
+/// after an edit, and [`Gradient::thin`](crate::Gradient::thin) makes a list of it. Two records are equal where their rows,
+/// counts and thresholds are, however they came about.
+#[derive(Clone, Debug)]
+pub struct Record {
+    rows: Vec<f32>,
+    counts: Vec<u8>,
+    threshold: f32,
+    pub(crate) evaluations: usize,
+}
+
+impl Record {
+    /// A record that was kept elsewhere. Refused with 5 where it is not 4,608 numbers and 36 counts of 1 to 128.
+    pub fn from_parts(rows: Vec<f32>, counts: Vec<u8>, threshold: f32) -> Result<Record, Refusal> {
+        let is_shaped = rows.len() == ROWS && counts.len() == CELLS;
+        if !is_shaped || !counts.iter().all(|count| (1..=128).contains(count)) {
+            return Err(Refusal::BadRecord);
+        }
+        Ok(Record { rows, counts, threshold, evaluations: 0 })
+    }
+
+    /// A record to be filled.
+    pub(crate) fn empty(threshold: f32) -> Record {
+        Record { rows: vec![0.0; ROWS], counts: vec![1; CELLS], threshold, evaluations: 0 }
+    }
+
+    /// 128 numbers for each cell, of which its count says how many are used.
+    pub fn rows(&self) -> &[f32] {
+        &self.rows
+    }
+
+    /// One for each cell, 1 to 128.
+    pub fn counts(&self) -> &[u8] {
+        &self.counts
+    }
+
+    /// The threshold that it was asked for with.
+    pub fn threshold(&self) -> f32 {
+        self.threshold
+    }
+
+    /// How many colours the call that last filled it asked for.
+    pub fn evaluations(&self) -> usize {
+        self.evaluations
+    }
+
+    pub(crate) fn lent(&self) -> lent::Record<'_> {
+        lent::Record { rows: &self.rows, counts: &self.counts }
+    }
+
+    pub(crate) fn lent_mut(&mut self) -> lent::RecordMut<'_> {
+        lent::RecordMut { rows: &mut self.rows, counts: &mut self.counts }
+    }
+}
+
+impl PartialEq for Record {
+    fn eq(&self, other: &Record) -> bool {
+        (&self.rows, &self.counts, self.threshold) == (&other.rows, &other.counts, other.threshold)
+    }
+}
+
+/// Stops that stand for a ramp when they are mixed linearly.
+#[derive(Clone, PartialEq, Debug)]
+pub struct List {
+    positions: Vec<f32>,
+    colors: Vec<Color>,
+    evaluations: usize,
+}
+
+impl List {
+    /// The list that a call writes into room for every list there is.
+    pub(crate) fn made(
+        call: impl FnOnce(lent::StopsMut<'_>) -> Result<lent::Listed, Refusal>,
+    ) -> Result<List, Refusal> {
+        let mut positions = vec![0.0; MOST_POINTS];
+        let mut channels = vec![0.0; 4 * MOST_POINTS];
+        let listed = call(lent::StopsMut { positions: &mut positions, channels: &mut channels })?;
+        positions.truncate(listed.stops);
+        let colors = unflat(&channels[..4 * listed.stops]);
+        Ok(List { positions, colors, evaluations: listed.evaluations })
+    }
+
+    /// The same list, with the evaluations of the call before it added.
+    pub(crate) fn after(self, evaluations: usize) -> List {
+        List { evaluations: evaluations + self.evaluations, ..self }
+    }
+
+    /// How many stops it has.
+    pub fn len(&self) -> usize {
+        self.positions.len()
+    }
+
+    /// Whether it has none; a list always has its first.
+    pub fn is_empty(&self) -> bool {
+        self.positions.is_empty()
+    }
+
+    /// The position of each stop.
+    pub fn positions(&self) -> &[f32] {
+        &self.positions
+    }
+
+    /// The colour of each stop.
+    pub fn colors(&self) -> &[Color] {
+        &self.colors
+    }
+
+    /// Each stop with its colour.
+    pub fn stops(&self) -> impl ExactSizeIterator<Item = (f32, Color)> + '_ {
+        self.positions.iter().copied().zip(self.colors.iter().copied())
+    }
+
+    /// How many colours the call that made it asked for.
+    pub fn evaluations(&self) -> usize {
+        self.evaluations
+    }
+
+    /// The list as a ramp of its own. Refused with 1 where it has more than 512 stops.
+    pub fn gradient(&self) -> Result<LinearGradient, Refusal> {
+        LinearGradient::new(&self.positions, &self.colors)
+    }
+}

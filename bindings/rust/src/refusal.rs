@@ -1,0 +1,141 @@
+//! Why an answer was refused.
+
+use std::error::Error;
+use std::fmt;
+
+/// Why an answer was refused. Each has a number, the same in every face of the library.
+///
+/// ```
+/// use guineaplume::{Color, LinearGradient, Refusal};
+///
+/// let colors = [Color::new(0.0, 0.0, 0.0, 1.0), Color::new(1.0, 1.0, 1.0, 1.0)];
+/// let refusal = LinearGradient::new(&[1.0, 0.0], &colors).unwrap_err();
+/// assert_eq!(refusal, Refusal::Falling);
+/// assert_eq!(refusal.number(), 3);
+/// assert_eq!(refusal.to_string(), "a stop lies before the one ahead of it");
+/// ```
+#[derive(Clone, Copy, PartialEq, Eq, Hash, Debug)]
+#[repr(u8)]
+pub enum Refusal {
+    /// 1: too few stops, too many, an odd number for sharp, segments that are not carried, or lengths that disagree.
+    Misshapen = 1,
+    /// 2: a position or a channel is not finite.
+    NotFinite = 2,
+    /// 3: a stop's position is below the one before.
+    Falling = 3,
+    /// 4: an end of the domain is beyond plus or minus 1e38.
+    FarDomain = 4,
+    /// 5: a record that is not 4,608 numbers and 36 counts of 1 to 128.
+    BadRecord = 5,
+    /// 6: an edit of no stop, with no finite colour, or of a ramp that cannot be refreshed.
+    BadEdit = 6,
+    /// 7: one more colour or stop than the output has room for.
+    NoRoom = 7,
+    /// 8: a stop of the list would not be finite.
+    ListNotFinite = 8,
+    /// 9: a stop of the list would lie below the one before.
+    ListFalling = 9,
+    /// 10: a GIMP text of more than 65,536 bytes, or with a byte above 127.
+    NotAText = 10,
+    /// 11: line 1, 2 or 3 of a GIMP text is not valid.
+    BadHeader = 11,
+    /// 12: a segment of a GIMP text is not valid.
+    BadSegment = 12,
+    /// 13: fewer segment lines than counted.
+    Torn = 13,
+    /// 14: no segment.
+    NoSegment = 14,
+    /// 15: more segments counted than 256, or than there is room for.
+    TooManySegments = 15,
+    /// 16: a valid segment that is curved, sinusoidal or coloured by hue.
+    NotCarried = 16,
+    /// 17: a sharp ramp of no colours or more than 256, or on a domain on which it cannot be built.
+    NotBuilt = 17,
+}
+
+/// Every refusal, in the order of the numbers.
+const ALL: [Refusal; 17] = [
+    Refusal::Misshapen,
+    Refusal::NotFinite,
+    Refusal::Falling,
+    Refusal::FarDomain,
+    Refusal::BadRecord,
+    Refusal::BadEdit,
+    Refusal::NoRoom,
+    Refusal::ListNotFinite,
+    Refusal::ListFalling,
+    Refusal::NotAText,
+    Refusal::BadHeader,
+    Refusal::BadSegment,
+    Refusal::Torn,
+    Refusal::NoSegment,
+    Refusal::TooManySegments,
+    Refusal::NotCarried,
+    Refusal::NotBuilt,
+];
+
+impl Refusal {
+    /// Its number, 1 to 17.
+    pub fn number(self) -> u32 {
+        self as u32
+    }
+
+    /// The refusal with this number, if there is one.
+    pub fn from_number(number: u32) -> Option<Refusal> {
+        ALL.into_iter().find(|refusal| refusal.number() == number)
+    }
+
+    fn message(self) -> &'static str {
+        match self {
+            Refusal::Misshapen => "too few or too many stops or segments, an unknown kind, or lengths that disagree",
+            Refusal::NotFinite => "a position or a channel is not a finite number",
+            Refusal::Falling => "a stop lies before the one ahead of it",
+            Refusal::FarDomain => "the domain reaches beyond 1e38",
+            Refusal::BadRecord => "the record is not 4,608 numbers and 36 counts of 1 to 128",
+            Refusal::BadEdit => "the edit names no stop, no finite colour, or a ramp that cannot be refreshed",
+            Refusal::NoRoom => "the output has no room for all of it",
+            Refusal::ListNotFinite => "a stop of the list would not be finite",
+            Refusal::ListFalling => "a stop of the list would lie before the one ahead of it",
+            Refusal::NotAText => "the GIMP text is too long or not ASCII",
+            Refusal::BadHeader => "line 1, 2 or 3 of the GIMP text is not as it must be",
+            Refusal::BadSegment => "a segment of the GIMP text is not valid",
+            Refusal::Torn => "the GIMP text has fewer segments than it counts",
+            Refusal::NoSegment => "the GIMP text has no segment",
+            Refusal::TooManySegments => "the GIMP text counts more segments than there is room for",
+            Refusal::NotCarried => "a segment is curved, sinusoidal or coloured by hue",
+            Refusal::NotBuilt => "no sharp ramp can be built of so many colours on this domain",
+        }
+    }
+}
+
+impl fmt::Display for Refusal {
+    fn fmt(&self, f: &mut fmt::Formatter<'_>) -> fmt::Result {
+        f.write_str(self.message())
+    }
+}
+
+impl Error for Refusal {}
+
+/// Why a GIMP text was refused, and at which line.
+#[derive(Clone, Copy, PartialEq, Eq, Debug)]
+pub struct ParseGgrError {
+    /// Why.
+    pub refusal: Refusal,
+    /// The line, counted from 1; 0 where no line is to blame.
+    pub line: usize,
+}
+
+impl fmt::Display for ParseGgrError {
+    fn fmt(&self, f: &mut fmt::Formatter<'_>) -> fmt::Result {
+        match self.line {
+            0 => write!(f, "{}", self.refusal),
+            line => write!(f, "{} (line {line})", self.refusal),
+        }
+    }
+}
+
+impl Error for ParseGgrError {
+    fn source(&self) -> Option<&(dyn Error + 'static)> {
+        Some(&self.refusal)
+    }
+}

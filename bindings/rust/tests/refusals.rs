@@ -1,0 +1,240 @@
+//! Each refusal, what it leaves in lent memory, and that its number and message are the header's.
+
+use guineaplume::lent::{self, Kind, Record, RecordMut, SegmentsMut, StopsMut, CELLS, MOST_POINTS, ROWS};
+use guineaplume::{Color, GimpGradient, Gradient, LinearGradient, ParseGgrError, Refresh, Refusal, SharpGradient};
+
+const BLACK: Color = Color::new(0.0, 0.0, 0.0, 1.0);
+const WHITE: Color = Color::new(1.0, 1.0, 1.0, 1.0);
+const GRAY: [f32; 8] = [0.0, 0.0, 0.0, 1.0, 1.0, 1.0, 1.0, 1.0];
+/// What stands in lent memory before a call.
+const RUBBISH: f32 = 7.0;
+
+fn ramp<'a>(kind: Kind, positions: &'a [f32], channels: &'a [f32]) -> lent::Ramp<'a> {
+    lent::Ramp { kind, positions, channels, codes: &[] }
+}
+
+fn gray() -> lent::Ramp<'static> {
+    ramp(Kind::Linear, &[0.0, 1.0], &GRAY)
+}
+
+/// A record and the room for a list, lent together.
+struct Desk {
+    rows: Vec<f32>,
+    counts: Vec<u8>,
+    positions: Vec<f32>,
+    channels: Vec<f32>,
+}
+
+impl Desk {
+    fn new(positions: usize, channels: usize) -> Desk {
+        Desk {
+            rows: vec![RUBBISH; ROWS],
+            counts: vec![9; CELLS],
+            positions: vec![RUBBISH; positions],
+            channels: vec![RUBBISH; channels],
+        }
+    }
+
+    fn roomy() -> Desk {
+        Desk::new(MOST_POINTS, 4 * MOST_POINTS)
+    }
+
+    fn flatten(&mut self, ramp: lent::Ramp<'_>) -> Result<lent::Listed, Refusal> {
+        ramp.flatten(
+            0.007,
+            RecordMut { rows: &mut self.rows, counts: &mut self.counts },
+            StopsMut { positions: &mut self.positions, channels: &mut self.channels },
+        )
+    }
+
+    fn thin(&mut self, ramp: lent::Ramp<'_>) -> Result<lent::Listed, Refusal> {
+        ramp.thin(
+            0.007,
+            Record { rows: &self.rows, counts: &self.counts },
+            StopsMut { positions: &mut self.positions, channels: &mut self.channels },
+        )
+    }
+
+    fn refresh(&mut self, ramp: lent::Ramp<'_>, stop: usize, color: Color) -> Result<usize, Refusal> {
+        let record = RecordMut { rows: &mut self.rows, counts: &mut self.counts };
+        ramp.refresh(lent::Edit { stop, color }, 0.007, record)
+    }
+
+    fn record_is_rubbish(&self) -> bool {
+        self.rows.iter().all(|x| *x == RUBBISH) && self.counts.iter().all(|n| *n == 9)
+    }
+
+    fn outputs_are(&self, x: f32) -> bool {
+        self.positions.iter().chain(&self.channels).all(|y| *y == x)
+    }
+}
+
+#[test]
+fn misshapen() {
+    assert_eq!(LinearGradient::new(&[0.0], &[BLACK]), Err(Refusal::Misshapen));
+    assert_eq!(LinearGradient::new(&[0.0; 513], &[BLACK; 513]), Err(Refusal::Misshapen));
+    assert_eq!(LinearGradient::new(&[0.0, 1.0], &[BLACK]), Err(Refusal::Misshapen));
+    assert_eq!(SharpGradient::new(&[0.0; 3], &[BLACK; 3]), Err(Refusal::Misshapen));
+    assert_eq!(lent::Ramp { codes: &[0], ..gray() }.check(), Err(Refusal::Misshapen));
+    let mut desk = Desk::roomy();
+    assert_eq!(desk.flatten(ramp(Kind::Basis, &[0.0, 1.0], &GRAY[..7])), Err(Refusal::Misshapen));
+    assert!(desk.record_is_rubbish() && desk.outputs_are(RUBBISH));
+}
+
+#[test]
+fn not_finite_and_falling() {
+    assert_eq!(LinearGradient::new(&[0.0, f32::NAN], &[BLACK; 2]), Err(Refusal::NotFinite));
+    assert_eq!(LinearGradient::new(&[1.0, 0.0], &[BLACK; 2]), Err(Refusal::Falling));
+    let hot = Color { r: f32::INFINITY, ..BLACK };
+    assert_eq!(LinearGradient::new(&[1.0, 0.0], &[BLACK, hot]), Err(Refusal::NotFinite));
+    assert_eq!(SharpGradient::build(&[hot], (0.0, 1.0), 0.0), Err(Refusal::NotFinite));
+    let text = b"GIMP Gradient\nName: x\n1\n0 0.5 1 0 0 0 1 1 1 1 1 0 0\n";
+    let refused = ParseGgrError { refusal: Refusal::NotFinite, line: 0 };
+    assert_eq!(GimpGradient::new(text, &hot, &WHITE), Err(refused));
+    let mut out = [RUBBISH; 8];
+    assert_eq!(ramp(Kind::Linear, &[1.0, 0.0], &GRAY).paint(&[0.5], &mut out), Err(Refusal::Falling));
+    assert_eq!(out, [RUBBISH; 8]);
+}
+
+#[test]
+fn far_domain() {
+    let far = LinearGradient::new(&[-3e38, 3e38], &[BLACK, WHITE]).expect("it has colours");
+    assert_eq!(far.linearize(0.007), Err(Refusal::FarDomain));
+    assert_eq!(far.sample(0.007), Err(Refusal::FarDomain));
+}
+
+#[test]
+fn bad_record() {
+    let mut desk = Desk::roomy();
+    desk.counts[35] = 129;
+    assert_eq!(desk.thin(gray()), Err(Refusal::BadRecord));
+    desk.counts[35] = 0;
+    assert_eq!(desk.refresh(gray(), 0, WHITE), Err(Refusal::BadRecord));
+    desk.counts.pop();
+    assert_eq!(desk.flatten(gray()), Err(Refusal::BadRecord));
+    assert!(desk.outputs_are(RUBBISH));
+    assert_eq!(guineaplume::Record::from_parts(vec![0.0; ROWS], vec![0; CELLS], 0.007), Err(Refusal::BadRecord));
+    assert!(guineaplume::Record::from_parts(vec![0.0; ROWS], vec![128; CELLS], 0.007).is_ok());
+}
+
+#[test]
+fn bad_edit() {
+    let mut desk = Desk::roomy();
+    assert_eq!(desk.refresh(gray(), 2, WHITE), Err(Refusal::BadEdit));
+    assert_eq!(desk.refresh(gray(), usize::MAX, WHITE), Err(Refusal::BadEdit));
+    assert_eq!(desk.refresh(gray(), 0, Color { g: f32::NAN, ..BLACK }), Err(Refusal::BadEdit));
+    assert_eq!(desk.refresh(lent::Ramp { kind: Kind::Basis, ..gray() }, 0, WHITE), Err(Refusal::BadEdit));
+    assert!(desk.record_is_rubbish());
+    let mut owned = LinearGradient::new(&[0.0, 1.0], &[BLACK, WHITE]).expect("a ramp");
+    let (before, mut record) = (owned.clone(), owned.sample(0.007).expect("its record"));
+    assert_eq!(owned.refresh(2, WHITE, &mut record), Err(Refusal::BadEdit));
+    assert_eq!(owned, before);
+}
+
+#[test]
+fn no_room() {
+    for (positions, channels) in [(0, 0), (1, 8), (2, 7), (2, 4)] {
+        let mut desk = Desk::new(positions, channels);
+        assert_eq!(desk.flatten(gray()), Err(Refusal::NoRoom));
+        assert!(desk.outputs_are(0.0) && desk.counts == [1; CELLS], "the record is filled, the outputs are zero");
+        desk.positions.fill(RUBBISH);
+        assert_eq!(desk.thin(gray()), Err(Refusal::NoRoom));
+        assert!(desk.outputs_are(0.0));
+    }
+    let mut desk = Desk::new(3, 9);
+    assert_eq!(desk.flatten(gray()), Ok(lent::Listed { stops: 2, evaluations: 215 }));
+    assert_eq!((desk.positions[2], desk.channels[8]), (RUBBISH, RUBBISH));
+    let mut out = [RUBBISH; 7];
+    assert_eq!(gray().paint(&[0.0, 1.0], &mut out), Err(Refusal::NoRoom));
+    assert_eq!(out, [0.0; 7]);
+}
+
+#[test]
+fn list_not_finite_and_falling() {
+    let mut desk = Desk::roomy();
+    let wild = [-3e38, 0.0, 0.0, 1.0, 3e38, 0.0, 0.0, 1.0, -3e38, 0.0, 0.0, 1.0];
+    assert_eq!(desk.flatten(ramp(Kind::Linear, &[0.0, 0.5, 1.0], &wild)), Err(Refusal::ListNotFinite));
+    assert!(desk.outputs_are(0.0));
+    let mut desk = Desk::roomy();
+    desk.flatten(gray()).expect("a list");
+    desk.rows[0] = 2.0;
+    assert_eq!(desk.thin(gray()), Err(Refusal::ListFalling));
+    assert!(desk.outputs_are(0.0));
+}
+
+#[test]
+fn gimp_texts() {
+    let good = "GIMP Gradient\nName: x\n1\n0 0.5 1 0 0 0 1 1 1 1 1 0 0\n";
+    let cases = [
+        (good.replace('x', "\u{e9}"), Refusal::NotAText, 0),
+        (" ".repeat(65_537), Refusal::NotAText, 0),
+        (good.replace("GIMP", "gimp"), Refusal::BadHeader, 1),
+        (good.replace("Name", "Nome"), Refusal::BadHeader, 2),
+        (good.replace("\n1\n", "\n+1\n"), Refusal::BadHeader, 3),
+        (good.replace("0.5", "half"), Refusal::BadSegment, 4),
+        (good.replace("\n1\n", "\n2\n"), Refusal::Torn, 3),
+        (String::new(), Refusal::NoSegment, 4),
+        (good.replace("\n1\n", "\n257\n"), Refusal::TooManySegments, 3),
+        (good.replace("0 0\n", "1 0\n"), Refusal::NotCarried, 4),
+    ];
+    for (text, refusal, line) in cases {
+        assert_eq!(GimpGradient::new(text.as_bytes(), &BLACK, &WHITE), Err(ParseGgrError { refusal, line }), "{text}");
+    }
+    let (mut positions, mut channels, mut codes) = ([RUBBISH; 4], [RUBBISH; 9], [9u8; 1]);
+    let out = SegmentsMut { positions: &mut positions, channels: &mut channels, codes: &mut codes };
+    let refused = ParseGgrError { refusal: Refusal::TooManySegments, line: 3 };
+    assert_eq!(lent::read(good.as_bytes(), BLACK, WHITE, out), Err(refused));
+    assert_eq!((positions, channels, codes), ([0.0; 4], [0.0; 9], [0; 1]));
+    let mut name = [0; 3];
+    assert_eq!((lent::name(good.as_bytes(), &mut name), name), (1, [b'x', 0, 0]));
+    assert_eq!((lent::name(good.as_bytes(), &mut []), lent::name(b"", &mut name)), (1, 0));
+}
+
+#[test]
+fn not_built() {
+    assert_eq!(SharpGradient::build(&[], (0.0, 1.0), 0.5), Err(Refusal::NotBuilt));
+    assert_eq!(SharpGradient::build(&[WHITE; 257], (0.0, 1.0), 0.5), Err(Refusal::NotBuilt));
+    assert_eq!(SharpGradient::build(&[WHITE], (1.0, 0.0), 0.5), Err(Refusal::NotBuilt));
+    assert_eq!(SharpGradient::build(&[WHITE], (0.0, f32::NAN), 0.5), Err(Refusal::NotBuilt));
+    let (mut positions, mut channels) = ([RUBBISH; 3], [RUBBISH; 16]);
+    let out = StopsMut { positions: &mut positions, channels: &mut channels };
+    assert_eq!(lent::sharp(&GRAY, (0.0, 1.0), 0.5, out), Err(Refusal::Misshapen));
+    assert_eq!((positions, channels), ([RUBBISH; 3], [RUBBISH; 16]));
+}
+
+#[test]
+fn empty_slices() {
+    let nothing = ramp(Kind::Gimp, &[], &[]);
+    let refused = Err(Refusal::Misshapen);
+    assert_eq!(nothing.check(), refused);
+    assert_eq!(nothing.paint(&[], &mut []), refused);
+    assert_eq!(nothing.at(0.5).map(|_| ()), refused);
+    assert_eq!(nothing.domain().map(|_| ()), refused);
+    let mut desk = Desk { rows: vec![], counts: vec![], positions: vec![], channels: vec![] };
+    assert_eq!(desk.flatten(nothing).map(|_| ()), refused);
+    assert_eq!(desk.thin(nothing).map(|_| ()), refused);
+    assert_eq!(desk.refresh(nothing, 0, BLACK).map(|_| ()), refused);
+    assert_eq!(desk.flatten(gray()), Err(Refusal::BadRecord));
+    assert_eq!(gray().paint(&[], &mut []), Ok(()));
+    assert_eq!((lent::token(b""), lent::desk(b"", &mut [])), (None, 9));
+    let out = SegmentsMut { positions: &mut [], channels: &mut [], codes: &mut [] };
+    let refused = ParseGgrError { refusal: Refusal::NoSegment, line: 4 };
+    assert_eq!(lent::read(b"", BLACK, WHITE, out), Err(refused));
+}
+
+#[test]
+fn numbers_and_messages_are_those_of_the_header() {
+    let header = include_str!("../../../include/colorgrad.h");
+    for number in 1..=17 {
+        let refusal = Refusal::from_number(number).expect("a number of a refusal");
+        assert_eq!(refusal.number(), number);
+        let name = header
+            .lines()
+            .filter_map(|line| line.strip_prefix("#define COLORGRAD_"))
+            .filter_map(|line| line.split_once(&format!(" {number}u")))
+            .map(|(name, _)| name)
+            .find(|name| header.contains(&format!("case COLORGRAD_{name}: return \"{refusal}\"")));
+        assert!(name.is_some(), "{number}: {refusal}");
+    }
+    assert_eq!((Refusal::from_number(0), Refusal::from_number(18)), (None, None));
+}
