@@ -8,16 +8,15 @@ const FOLDER: &str = "GUINEAPLUME_LIB";
 
 fn main() {
     let folder = env::var_os(FOLDER).map_or_else(own_folder, PathBuf::from);
-    println!("cargo::rerun-if-env-changed={FOLDER}");
-    println!("cargo::rerun-if-changed={}", folder.join(LIBRARY).display());
+    println!("cargo:rerun-if-env-changed={FOLDER}");
+    println!("cargo:rerun-if-changed={}", folder.join(LIBRARY).display());
     if !folder.join(LIBRARY).is_file() {
-        let place = folder.display();
-        println!("cargo::error=there is no {LIBRARY} in {place}");
-        println!("cargo::error=make it by `rt staticlib colorgrad_c`, or name the folder that has it by ${FOLDER}");
-        return;
+        eprintln!("there is no {LIBRARY} in {}", folder.display());
+        eprintln!("make it by `rt staticlib colorgrad_c`, or name the folder that has it by ${FOLDER}");
+        std::process::exit(1);
     }
-    println!("cargo::rustc-link-search=native={}", folder.display());
-    println!("cargo::rustc-link-lib=static=colorgrad_c");
+    println!("cargo:rustc-link-search=native={}", folder.display());
+    println!("cargo:rustc-link-lib=static=colorgrad_c");
 }
 
 /// In the repository that this package is a part of.
