@@ -8,3 +8,4 @@ pub mod Ggr
 pub mod Linearize
 pub mod Colorgrad
 pub mod Desk
+pub mod Face
