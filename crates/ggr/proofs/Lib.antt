@@ -8,5 +8,4 @@ mod Leads
 mod Outputs
 mod Filling
 mod Finish
-pub mod Pinned
 pub mod Given

@@ -6,12 +6,12 @@ use mathlib.Core.Bool.{Bool, true, false, not, cond, _&&_}
 use mathlib.Core.List.{List, [], _∷_}
 use lib.ListN.{length, take, drop, getD, drop-of-length-le, length-drop}
 use lib.Seq.{drop-drop, getD-drop}
-use lib.Dec.{eqb}
-use borrow.Author.Tests.{eqb-true, eq-eqb}
+use lib.Dec.{eqb, ltb}
+use borrow.Author.Tests.{eqb-true, eq-eqb, ltb-true, lt-ltb, le-ltb}
 use Rattle.float.proofs.Flags.{both-l, both-r}
 use Rattle.ggr.specs.declared.text.Class.the-variants.{NotLf}
 use Rattle.ggr.specs.Text.{lines, onFirst, atLf, firstOf, restOf}
-use Rattle.ggr.specs.Steps.{inClass, span, LineAt}
+use Rattle.ggr.specs.Steps.{inClass, span, lfAt, endBefore, nextAfter, LineAt}
 use Rattle.ggr.proofs.Bytes.{span-le}
 
 -- the first line, and what follows its LF
@@ -98,8 +98,35 @@ first-cr (b ∷ s) m e h t = go (first-cr s) (eqb b 10) refl m e h t where
       let p : span (inClass NotLf) s ≡ suc m = omega (arith, rw f at e) in
       rw (f, not-at-lf s m p) (ap (λ (l : List ℕ). b ∷ l) (ih m p (omega arith) t))
 
+-- where a line ends and the next one starts, by whether an LF stands at n and a CR before it
+module _ (at n size b : ℕ) where
+  end-last : size ≤ n → n ≡ endBefore at n size b
+  end-last h = rw (le-ltb n size h)
+
+  end-plain : n < size → (at < n → b ≡ 13 → ⊥) → n ≡ endBefore at n size b
+  end-plain h free = go (ltb at n) refl (eqb b 13) refl where
+    go : (t : Bool) → ltb at n ≡ t → (u : Bool) → eqb b 13 ≡ u → n ≡ endBefore at n size b
+    go false e u f = rw (lt-ltb n size h, e)
+    go true e false f = rw (lt-ltb n size h, e, f)
+    go true e true f = absurd (free (ltb-true at n e) (eqb-true b 13 f))
+
+  end-cr : n < size → at < n → b ≡ 13 → n - 1 ≡ endBefore at n size b
+  end-cr h l t = rw (lt-ltb n size h, lt-ltb at n l, eq-eqb b 13 t)
+
+next-last : (n size : ℕ) → size ≤ n → n ≡ nextAfter n size
+next-last n size h = rw (le-ltb n size h)
+
+next-line : (n size : ℕ) → n < size → n + 1 ≡ nextAfter n size
+next-line n size h = rw (lt-ltb n size h)
+
 -- what the code finds, by the place n of the first LF from `at` on
 module _ (s : List ℕ) (at n : ℕ) (e : n ≡ at + span (inClass NotLf) (drop at s)) where
+  ending : {x : ℕ} → x ≡ endBefore at n (length s) (getD s (n - 1) 0) → x ≡ endBefore at (lfAt s at) (length s) (getD s (lfAt s at - 1) 0)
+  ending q = q ∙ ap (λ (i : ℕ). endBefore at i (length s) (getD s (i - 1) 0)) e
+
+  going-on : {x : ℕ} → x ≡ nextAfter n (length s) → x ≡ nextAfter (lfAt s at) (length s)
+  going-on q = q ∙ ap (λ (i : ℕ). nextAfter i (length s)) e
+
   in-text : at ≤ length s → n ≤ length s
   in-text h = omega (arith, span-le (inClass NotLf) (drop at s), length-drop at s)
 
@@ -118,6 +145,8 @@ module _ (s : List ℕ) (at n : ℕ) (e : n ≡ at + span (inClass NotLf) (drop 
       let k : n - at ≡ span (inClass NotLf) (drop at s) = omega arith in
       let l : length s ≤ n + 1 = omega arith in
       record {
+        ends = ending (end-last at n (length s) (getD s (n - 1) 0) h);
+        goes-on = going-on (next-last n (length s) h);
         order = omega arith;
         within = in-text;
         beyond = in-text;
@@ -130,6 +159,8 @@ module _ (s : List ℕ) (at n : ℕ) (e : n ≡ at + span (inClass NotLf) (drop 
       let size = length-drop at s in
       let k : n - at ≡ span (inClass NotLf) (drop at s) = omega arith in
       record {
+        ends = ending (end-plain at n (length s) (getD s (n - 1) 0) h free);
+        goes-on = going-on (next-line n (length s) h);
         order = omega arith;
         within = in-text;
         beyond = λ z. omega arith;
@@ -146,6 +177,8 @@ module _ (s : List ℕ) (at n : ℕ) (e : n ≡ at + span (inClass NotLf) (drop 
       let p : span (inClass NotLf) (drop at s) ≡ suc m = omega arith in
       let q : at + m ≡ n - 1 = omega arith in
       record {
+        ends = ending (end-cr at n (length s) (getD s (n - 1) 0) h l t);
+        goes-on = going-on (next-line n (length s) h);
         order = omega arith;
         within = λ z. omega arith;
         beyond = λ z. omega arith;

@@ -1,10 +1,10 @@
 -- What the parts of the reader promise each other.
-use Prim.Native.Nat.{ℕ, suc, _-_, _≤_, _<_}
+use Prim.Native.Nat.{ℕ, suc, _+_, _-_, _≤_, _<_}
 use mathlib.Core.Path.{_≡_}
 use mathlib.Core.Bool.{Bool, not, cond, _&&_, _||_}
 use mathlib.Core.List.{List, [], _∷_}
-use lib.ListN.{length, take, drop}
-use lib.Dec.{eqb}
+use lib.ListN.{length, take, drop, getD}
+use lib.Dec.{eqb, ltb}
 use lib.Ieee.{Float}
 use Rattle.float.specs.F32.{f0}
 use Rattle.gradient.specs.Gimp.{mostSegments}
@@ -33,8 +33,21 @@ unfoldable pub span : (ℕ → Bool) → List ℕ → ℕ
 span p [] = 0
 span p (b ∷ s) = cond (p b) (suc (span p s)) 0
 
+-- the place of the first LF from `at` on, or the end of the text
+abbrev pub lfAt : List ℕ → ℕ → ℕ
+lfAt s at = at + span (inClass NotLf) (drop at s)
+
+-- of n, the place of an LF in a text of so many bytes or its end: where the line from `at` on ends, which the byte before n tells, and where the next one starts
+abbrev pub endBefore : ℕ → ℕ → ℕ → ℕ → ℕ
+endBefore at n size before = cond (ltb n size && (ltb at n && eqb before 13)) (n - 1) n
+
+abbrev pub nextAfter : ℕ → ℕ → ℕ
+nextAfter n size = cond (ltb n size) (n + 1) n
+
 -- the line that starts at `at` is the bytes up to `end`, and the next one starts at `next`
 pub record LineAt (s : List ℕ) (at end next : ℕ) : Type 0 where
+  pub ends : end ≡ endBefore at (lfAt s at) (length s) (getD s (lfAt s at - 1) 0)
+  pub goes-on : next ≡ nextAfter (lfAt s at) (length s)
   pub order : at ≤ end
   pub within : at ≤ length s → end ≤ length s
   pub beyond : at ≤ length s → next ≤ length s

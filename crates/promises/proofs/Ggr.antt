@@ -10,6 +10,7 @@ use Rattle.promises.specs.Law.{Coincide, coincide, answer, _with_, both}
 use Rattle.ggr.proofs.read.Reads as of-read
 use Rattle.ggr.proofs.name.Reads as of-name
 use Rattle.ggr.proofs.text.span_end.Reads as of-span-end
+use Rattle.ggr.proofs.text.line_at.Reads as of-line-at
 use Rattle.ggr.proofs.text.is_ascii.Reads as of-is-ascii
 use Rattle.ggr.proofs.text.starts_with.Reads as of-starts-with
 use Rattle.ggr.proofs.text.is_same.Reads as of-is-same
@@ -30,6 +31,10 @@ name κs a = coincide (λ r e w. w)
 
 pub span-end : (κs : Lfts 1) (a : _) → Coincide (of-span-end.Learnt κs a) answer
 span-end κs a = coincide (λ r e w. w)
+
+-- both parts of it
+pub line-at : (κs : Lfts 1) (a : _) → Coincide (of-line-at.Learnt κs a) (λ r e. r .end with r .next)
+line-at κs a = coincide (λ r e w. both (w .ends) (w .goes-on))
 
 pub is-ascii : (κs : Lfts 1) (a : _) → Coincide (of-is-ascii.Learnt κs a) answer
 is-ascii κs a = coincide (λ r e w. w)
