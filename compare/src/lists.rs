@@ -1,5 +1,6 @@
 //! Lists: flattening against `linearize`, with its evaluations counted; and thinning of any record.
 
+use crate::list_limits;
 use crate::options::Options;
 use crate::oracle::{List, Record, CELLS, ROW};
 use crate::ramps::{random_or_spoilt, Kind, Ramp, KINDS};
@@ -12,7 +13,8 @@ pub const RUBBISH: f32 = -7.5;
 const MOST: f32 = 1.0e38;
 
 pub fn run(options: &Options) -> Vec<Tally> {
-    KINDS.iter().flat_map(|kind| one_kind(options, *kind)).collect()
+    let kinds = KINDS.iter().flat_map(|kind| one_kind(options, *kind));
+    std::iter::once(list_limits::run(options)).chain(kinds).collect()
 }
 
 fn one_kind(options: &Options, kind: Kind) -> [Tally; 2] {
@@ -27,8 +29,11 @@ fn one_kind(options: &Options, kind: Kind) -> [Tally; 2] {
         let room = random_room(&mut random);
         flattened(&mut flat, case, &ramp, threshold, room);
         if random.one_in(4) {
-            let record = random_record(&mut random, &ramp);
-            thinned(&mut thin, case, &ramp, threshold, room, record);
+            let mut record = random_record(&mut random, &ramp);
+            if case % 8 == 0 {
+                record.counts[case as usize / 8 % CELLS] = if case % 16 == 0 { 0 } else { 129 };
+            }
+            thinned(&mut thin, case, &ramp, threshold, room, &record);
         }
         flat.progress(case, of);
     }
@@ -172,23 +177,21 @@ pub fn random_record(random: &mut Random, ramp: &Ramp) -> Record {
     record
 }
 
-fn thinned(tally: &mut Tally, case: u64, ramp: &Ramp, threshold: f32, room: (usize, usize), mut record: Record) {
+/// Any record thinned: the answer and the outputs.
+pub fn thinned(tally: &mut Tally, case: u64, ramp: &Ramp, threshold: f32, room: (usize, usize), record: &Record) {
     tally.inputs(1);
-    let spoilt = case % 8 == 0;
-    if spoilt {
-        record.counts[case as usize / 8 % CELLS] = if case % 16 == 0 { 0 } else { 129 };
-    }
     let mut positions = vec![RUBBISH; room.0];
     let mut channels = vec![RUBBISH; room.1];
-    let got = ours::thin(ramp, threshold, &record, &mut positions, &mut channels);
+    let got = ours::thin(ramp, threshold, record, &mut positions, &mut channels);
+    let sound = record.counts.iter().all(|n| (1..=ROW).contains(&(*n as usize)));
     let refusal = match early(ramp) {
-        0 if spoilt => 5,
+        0 if !sound => 5,
         number => number,
     };
     let right = if refusal != 0 {
         got == Err(refusal) && positions.iter().chain(&channels).all(|x| *x == RUBBISH)
     } else {
-        let list = oracle::thinned(&oracle::gradient(ramp), ramp.domain().1, threshold, &record);
+        let list = oracle::thinned(&oracle::gradient(ramp), ramp.domain().1, threshold, record);
         agrees(got, &list, room, (&positions, &channels))
     };
     if !right {

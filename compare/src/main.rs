@@ -6,6 +6,7 @@ mod colours;
 mod files;
 mod gimp_texts;
 mod limits;
+mod list_limits;
 mod lists;
 mod options;
 mod oracle;
