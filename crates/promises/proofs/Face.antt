@@ -19,6 +19,7 @@ use Rattle.colorgrad_c.proofs.leaves.colorgrad_root.Reads as of-root
 use Rattle.colorgrad_c.proofs.leaves.colorgrad_cutoff.Reads as of-cutoff
 use Rattle.colorgrad_c.proofs.leaves.colorgrad_threshold.Reads as of-threshold
 use Rattle.colorgrad_c.proofs.leaves.colorgrad_token.Reads as of-token
+use Rattle.colorgrad_c.proofs.kinds.kind_of.Reads as of-kind-of
 use Rattle.colorgrad_c.proofs.ramps.colorgrad_check.Reads as of-check
 use Rattle.colorgrad_c.proofs.ramps.colorgrad_domain.Reads as of-domain
 use Rattle.colorgrad_c.proofs.ramps.colorgrad_at.Reads as of-at
@@ -27,6 +28,7 @@ use Rattle.colorgrad_c.proofs.ramps.colorgrad_sharp.Reads as of-sharp
 use Rattle.colorgrad_c.proofs.gimp.colorgrad_read.Reads as of-read
 use Rattle.colorgrad_c.proofs.gimp.colorgrad_name.Reads as of-name
 use Rattle.colorgrad_c.proofs.tool.colorgrad_desk.Reads as of-desk
+use Rattle.colorgrad_c.proofs.lists.listed_shown.Reads as of-listed-shown
 use Rattle.colorgrad_c.proofs.lists.colorgrad_sample.Reads as of-sample
 use Rattle.colorgrad_c.proofs.lists.colorgrad_thin.Reads as of-thin
 use Rattle.colorgrad_c.proofs.lists.colorgrad_flatten.Reads as of-flatten
@@ -44,6 +46,12 @@ threshold κs a = coincide (λ r e w. w)
 
 pub token : (κs : Lfts 1) (a : _) → Coincide (of-token.Learnt κs a) answer
 token κs a = coincide (λ r e w. w)
+
+pub kind-of : (κs : Lfts 0) (a : _) → Coincide (of-kind-of.Learnt κs a) answer
+kind-of κs a = coincide (λ r e w. w)
+
+pub listed-shown : (κs : Lfts 0) (a : _) → Coincide (of-listed-shown.Learnt κs a) answer
+listed-shown κs a = coincide (λ r e w. w)
 
 pub check : (κs : Lfts 3) (a : _) → Coincide (of-check.Learnt κs a) answer
 check κs a = coincide (λ r e w. w)
