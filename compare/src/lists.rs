@@ -9,7 +9,7 @@ use crate::report::{all_same, Tally};
 use crate::{oracle, ours};
 
 pub const MOST_POINTS: usize = CELLS * ROW + 1;
-pub const RUBBISH: f32 = -7.5;
+pub const RUBBISH: f32 = 7.5;
 const MOST: f32 = 1.0e38;
 
 pub fn run(options: &Options) -> Vec<Tally> {

@@ -2,9 +2,9 @@
 //! A word is eight hexadecimal digits and a line end; README.md has the records.
 
 use crate::limits;
-use crate::lists::{early, emitted, random_threshold, MOST_POINTS};
+use crate::lists::{early, emitted, random_record, random_threshold, MOST_POINTS};
 use crate::options::Options;
-use crate::oracle::{self, List};
+use crate::oracle::{self, List, Record, CELLS, ROW};
 use crate::ours::Edit;
 use crate::ramps::{random_or_spoilt, random_points, Kind, Ramp, KINDS, MOST_SEGMENTS};
 use crate::random::Random;
@@ -15,20 +15,44 @@ use std::fmt::Write;
 use std::path::Path;
 
 /// Ramps of each kind, and points of each ramp.
-const RAMPS: u64 = 34;
+const RAMPS: u64 = 30;
 const POINTS: usize = 14;
 /// Points of each ramp at a limit.
 const MOST_TURNS: usize = 24;
-/// Lists of each kind, and refreshed ones.
+/// Lists of each kind, lists of records, and refreshed ones.
 const LISTS: u64 = 12;
+const THINNED: u64 = 14;
 const REFRESHED: u64 = 24;
-const TEXTS: u64 = 48;
+const TEXTS: u64 = 46;
 const BUILT: u64 = 60;
+
+/// Refusals that the first cases must have, so that all that a call can give are stored: of the first two
+/// lists of each kind, and of the other sorts from their start. The ramps at the limits have those of a ramp.
+const OF_LISTS: [[u32; 2]; 6] = [[1, 4], [2, 8], [3, 5], [4, 7], [7, 8], [5, 1]];
+const OF_THINNED: [u32; 5] = [5, 8, 9, 9, 4];
+const OF_REFRESHED: [u32; 8] = [1, 2, 3, 4, 5, 6, 6, 8];
+const OF_TEXTS: [u32; 8] = [2, 10, 11, 12, 13, 14, 15, 16];
+const OF_BUILT: [u32; 3] = [17, 1, 2];
 
 /// What is longer is left out, but for one ramp of each size that is the most.
 const LONG_RAMP: usize = 12;
-const LONG_LIST: usize = 40;
-const LONG_TEXT: usize = 420;
+const LONG_LIST: usize = 32;
+const LONG_TEXT: usize = 380;
+
+/// How the program lends a record and outputs: in full, a record too short, outputs for two stops.
+#[derive(Clone, Copy, PartialEq)]
+enum Room {
+    Full,
+    ShortRecord,
+    Small,
+}
+
+impl Room {
+    /// The lengths of positions and channels.
+    fn outputs(self) -> (usize, usize) {
+        (if self == Room::Small { 2 } else { MOST_POINTS }, 4 * MOST_POINTS)
+    }
+}
 
 #[derive(Default)]
 struct Words {
@@ -86,19 +110,33 @@ impl Words {
         self.answers += 1 + points.len() as u64;
     }
 
-    /// A refusal, or a list that may itself be refused.
-    fn list(&mut self, refusal: u32, list: &List) {
-        let (number, _, _) = emitted(list, (MOST_POINTS, 4 * MOST_POINTS));
+    /// A refusal, or a list that may itself be refused; and the start of the outputs, with what comes after the list.
+    fn list(&mut self, refusal: u32, list: &List, room: Room) {
+        let kept = List { stops: Vec::new(), evaluations: 0 };
+        let (number, positions, channels) = emitted(if refusal == 0 { list } else { &kept }, room.outputs());
         let refusal = if refusal == 0 { number } else { refusal };
-        let stops = if refusal == 0 { &list.stops[..] } else { &[] };
+        let stops = if refusal == 0 { list.stops.len() } else { 0 };
+        let shown = (stops + 1).min(positions.len());
         self.word(refusal);
-        self.size(stops.len());
+        self.size(stops);
         self.size(if refusal == 0 { list.evaluations } else { 0 });
-        self.size(stops.len());
-        stops.iter().for_each(|s| self.float(s.0));
-        self.size(4 * stops.len());
-        stops.iter().for_each(|s| self.floats(&s.1));
+        self.size(shown);
+        self.floats(&positions[..shown]);
+        self.size(4 * shown);
+        self.floats(&channels[..4 * shown]);
         self.answers += 3;
+    }
+
+    /// The points that a record's counts name, each after its place, then the counts.
+    fn record(&mut self, record: &Record) {
+        let points = |cell: usize| (0..(record.counts[cell] as usize).min(ROW)).map(move |i| cell * ROW + i);
+        let places: Vec<usize> = (0..CELLS).flat_map(points).collect();
+        self.size(places.len());
+        for at in places {
+            self.size(at);
+            self.float(record.rows[at]);
+        }
+        self.bytes(&record.counts);
     }
 
     /// One sort is at its end.
@@ -113,6 +151,7 @@ pub fn run(options: &Options, folder: &Path) -> std::io::Result<()> {
     let mut words = Words::default();
     colours(options, &mut words);
     lists(options, &mut words);
+    thinned(options, &mut words);
     refreshed(options, &mut words);
     gimp(options, &mut words);
     built(options, &mut words);
@@ -175,24 +214,80 @@ fn list_of(ramp: &Ramp, threshold: f32) -> List {
     list
 }
 
+/// Whether a case may have this refusal: the first ones have theirs.
+fn is_wanted(wanted: &[u32], case: u64, refusal: u32) -> bool {
+    wanted.get(case as usize).is_none_or(|number| *number == refusal)
+}
+
+/// The refusal of a call that makes a list, 0 if none.
+fn refusal_of(early: u32, list: &List, room: Room) -> u32 {
+    match (early, room) {
+        (0, Room::ShortRecord) => 5,
+        (0, _) => emitted(list, room.outputs()).0,
+        _ => early,
+    }
+}
+
 fn lists(options: &Options, words: &mut Words) {
     words.size(KINDS.len() * LISTS as usize);
     for kind in KINDS {
         for case in 0..LISTS {
             let mut random = Random::of_case(8 * options.seed + kind.code() as u64, case);
-            let (ramp, threshold, list) = loop {
+            let (ramp, threshold, room, list) = loop {
                 let (ramp, threshold) = (short(&mut random, kind), random_threshold(&mut random));
+                let room = random.pick(&[Room::Full, Room::Full, Room::Full, Room::ShortRecord, Room::Small]);
                 let list = list_of(&ramp, threshold);
-                if list.stops.len() <= LONG_LIST {
-                    break (ramp, threshold, list);
+                let refusal = refusal_of(early(&ramp), &list, room);
+                if list.stops.len() <= LONG_LIST && is_wanted(&OF_LISTS[kind.code() as usize], case, refusal) {
+                    break (ramp, threshold, room, list);
                 }
             };
             words.ramp(&ramp);
             words.float(threshold);
-            words.list(early(&ramp), &list);
+            words.word(room as u32);
+            let early = if room == Room::ShortRecord { refusal_of(early(&ramp), &list, room) } else { early(&ramp) };
+            words.list(early, &list, room);
         }
     }
     words.printed("lists");
+}
+
+/// A record of few points: each row has one or two, some of them rubbish.
+fn few_points(random: &mut Random, ramp: &Ramp) -> Record {
+    let mut record = random_record(random, ramp);
+    record.counts.iter_mut().for_each(|count| *count = 1 + *count % 2);
+    if random.one_in(6) {
+        record.counts[random.below(CELLS)] = random.pick(&[0, 129, 255]);
+    }
+    record
+}
+
+fn thinned(options: &Options, words: &mut Words) {
+    words.size(THINNED as usize);
+    for case in 0..THINNED {
+        let mut random = Random::of_case(options.seed, case);
+        let (ramp, threshold, record, refusal, list) = loop {
+            let kind = random.pick(&KINDS);
+            let (ramp, threshold) = (short(&mut random, kind), random_threshold(&mut random));
+            let record = few_points(&mut random, &ramp);
+            let wrong = record.counts.iter().any(|n| *n == 0 || *n as usize > ROW);
+            let refusal = if early(&ramp) == 0 && wrong { 5 } else { early(&ramp) };
+            let list = if refusal == 0 {
+                oracle::thinned(&oracle::gradient(&ramp), ramp.domain().1, threshold, &record)
+            } else {
+                List { stops: Vec::new(), evaluations: 0 }
+            };
+            let told = refusal_of(refusal, &list, Room::Full);
+            if list.stops.len() <= LONG_LIST && is_wanted(&OF_THINNED, case, told) {
+                break (ramp, threshold, record, refusal, list);
+            }
+        };
+        words.ramp(&ramp);
+        words.float(threshold);
+        words.record(&record);
+        words.list(refusal, &list, Room::Full);
+    }
+    words.printed("thinned");
 }
 
 fn refreshed(options: &Options, words: &mut Words) {
@@ -200,20 +295,26 @@ fn refreshed(options: &Options, words: &mut Words) {
     for case in 0..REFRESHED {
         let mut random = Random::of_case(options.seed, case);
         let kind = if case % 8 == 0 { random.pick(&KINDS) } else { random.pick(&[Kind::Linear, Kind::Smoothstep]) };
-        let (ramp, threshold, edit, list) = loop {
+        let (ramp, threshold, room, edit, refusal, list) = loop {
             let (ramp, threshold) = (short(&mut random, kind), random_threshold(&mut random));
-            let edit = Edit { stop: random.below(LONG_RAMP), ..refresh::random_edit(&mut random, &ramp) };
-            let refusal = refresh::refusal(&ramp, &edit, &[]);
+            let room = if random.one_in(8) { Room::ShortRecord } else { Room::Full };
+            let edit = refresh::random_edit(&mut random, &ramp);
+            // a word holds it
+            let edit = Edit { stop: edit.stop.min(MOST_POINTS), ..edit };
+            let counts: &[u8] = if room == Room::ShortRecord { &[0] } else { &[] };
+            let refusal = refresh::refusal(&ramp, &edit, counts);
             let list = if refusal == 0 { refreshed_list(&ramp, &edit, threshold) } else { list_of(&ramp, threshold) };
-            if list.stops.len() <= LONG_LIST {
-                break (ramp, threshold, edit, list);
+            let told = if refusal == 0 { emitted(&list, room.outputs()).0 } else { refusal };
+            if list.stops.len() <= LONG_LIST && is_wanted(&OF_REFRESHED, case, told) {
+                break (ramp, threshold, room, edit, refusal, list);
             }
         };
         words.ramp(&ramp);
         words.float(threshold);
+        words.word(room as u32);
         words.size(edit.stop);
         words.floats(&edit.colour);
-        words.list(refresh::refusal(&ramp, &edit, &[]), &list);
+        words.list(refusal, &list, Room::Full);
     }
     words.printed("refreshed");
 }
@@ -235,7 +336,7 @@ fn built(options: &Options, words: &mut Words) {
         let input = loop {
             // the program lends all the room there is
             let input = sharp::Input { room: (2 * 256, 8 * 256), ..sharp::random_input(&mut random) };
-            if input.channels.len() <= 4 * LONG_RAMP {
+            if input.channels.len() <= 4 * LONG_RAMP && is_wanted(&OF_BUILT, case, sharp::expected(&input).0) {
                 break input;
             }
         };
@@ -260,8 +361,8 @@ fn gimp(options: &Options, words: &mut Words) {
         let mut random = Random::of_case(options.seed, case);
         let input = loop {
             let input = texts::Input { room: MOST_SEGMENTS, ..texts::random_input(&mut random) };
-            // the name knows no colours: one that is not finite would leave it
-            if input.text.len() <= LONG_TEXT && input.foreground.iter().all(|x| x.is_finite()) {
+            let refusal = texts::expected(&input).0.err().map_or(0, |refused| refused.0);
+            if input.text.len() <= LONG_TEXT && is_wanted(&OF_TEXTS, case, refusal) {
                 break input;
             }
         };
@@ -277,7 +378,8 @@ fn text(words: &mut Words, input: &texts::Input) {
     words.floats(&input.foreground);
     words.floats(&input.background);
     let (refusal, line) = answer.as_ref().err().copied().unwrap_or((0, 0));
-    let (segments, name) = answer.unwrap_or_default();
+    let (segments, _) = answer.unwrap_or_default();
+    let name = texts::name_of(&input.text);
     words.word(refusal);
     words.size(line);
     words.size(segments.len());

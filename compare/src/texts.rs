@@ -169,11 +169,15 @@ fn not_carried(line: &[u8]) -> bool {
 }
 
 /// The name is the Rust's wherever reading with room 256 and finite colours succeeds, and empty elsewhere.
+pub fn name_of(text: &[u8]) -> String {
+    let input = Input { text: text.to_vec(), foreground: [0.0; 4], background: [0.0; 4], room: MOST_SEGMENTS };
+    expected(&input).0.map(|read| read.1).unwrap_or_default()
+}
+
 fn name(tally: &mut Tally, case: u64, text: Vec<u8>) {
     tally.inputs(1);
-    let input = Input { text, foreground: [0.0; 4], background: [0.0; 4], room: MOST_SEGMENTS };
-    let want = expected(&input).0.map(|w| w.1).unwrap_or_default();
-    let got = ours::name(&input.text);
+    let want = name_of(&text);
+    let got = ours::name(&text);
     if got != want.as_bytes() {
         tally.differs(case, || format!("{:?}, not {want:?}", String::from_utf8_lossy(&got)));
     }

@@ -1,4 +1,4 @@
-// Stored lists: of a ramp, and of a ramp after one of its stops was given another colour.
+// Stored lists: of a ramp, of a record, and of a ramp after one of its stops was given another colour.
 use crate::Tally;
 use crate::words;
 use gradient::Kind;
@@ -8,6 +8,14 @@ use linearize::Sampler;
 use linearize::refreshing;
 
 const RECORD: usize = Sampler::CELLS * Sampler::ROW;
+
+// How a record and outputs are lent: in full, a record too short, outputs for two stops.
+const SHORT_RECORD: u32 = 1;
+
+const SMALL_ROOM: u32 = 2;
+
+// What stands in lent memory before a call, so that what stays and what is set to zero both show.
+const RUBBISH: f32 = 7.5;
 
 fn is_number(n: usize, word: u32) -> bool {
     n == word as usize
@@ -44,6 +52,33 @@ fn compared(made: Listed, places: &[f32], colours: &[f32], before: Tally) -> Tal
     placed.with(words::are_words(colours, m))
 }
 
+fn flatten(
+    kind: Kind,
+    positions: &[f32],
+    channels: &[f32],
+    codes: &[u8],
+    threshold: f32,
+    rows: &mut [f32],
+    places: &mut [f32],
+    colours: &mut [f32],
+    before: Tally,
+) -> Tally {
+    let mut counts = [0u8; Sampler::CELLS];
+    let made = linearize::flatten(
+        kind,
+        positions,
+        channels,
+        codes,
+        threshold,
+        rows,
+        &mut counts,
+        places,
+        colours,
+    );
+    compared(made, places, colours, before)
+}
+
+// With the room that the word after the threshold says.
 pub fn flattened(
     kind: Kind,
     positions: &[f32],
@@ -51,27 +86,53 @@ pub fn flattened(
     codes: &[u8],
     before: Tally,
 ) -> Tally {
-    let mut rows = [0.0f32; RECORD];
-    let mut counts = [0u8; Sampler::CELLS];
-    let mut places = [0.0f32; RECORD + 1];
-    let mut colours = [0.0f32; 4 * (RECORD + 1)];
+    let mut rows = [RUBBISH; RECORD];
+    let mut few = [RUBBISH; 2];
+    let mut places = [RUBBISH; RECORD + 1];
+    let mut colours = [RUBBISH; 4 * (RECORD + 1)];
     let threshold = words::float();
-    let made = linearize::flatten(
+    let room = words::word();
+    if room == SHORT_RECORD {
+        return flatten(
+            kind,
+            positions,
+            channels,
+            codes,
+            threshold,
+            &mut few,
+            &mut places,
+            &mut colours,
+            before,
+        );
+    }
+    if room == SMALL_ROOM {
+        return flatten(
+            kind,
+            positions,
+            channels,
+            codes,
+            threshold,
+            &mut rows,
+            &mut few,
+            &mut colours,
+            before,
+        );
+    }
+    flatten(
         kind,
         positions,
         channels,
         codes,
         threshold,
         &mut rows,
-        &mut counts,
         &mut places,
         &mut colours,
-    );
-    compared(made, &places, &colours, before)
+        before,
+    )
 }
 
-// The record is sampled of the ramp as it was, then refreshed.
-pub fn refreshed(
+// A record of stored points and counts, zero elsewhere.
+pub fn thinned(
     kind: Kind,
     positions: &[f32],
     channels: &[f32],
@@ -80,9 +141,39 @@ pub fn refreshed(
 ) -> Tally {
     let mut rows = [0.0f32; RECORD];
     let mut counts = [0u8; Sampler::CELLS];
-    let mut places = [0.0f32; RECORD + 1];
-    let mut colours = [0.0f32; 4 * (RECORD + 1)];
+    let mut places = [RUBBISH; RECORD + 1];
+    let mut colours = [RUBBISH; 4 * (RECORD + 1)];
     let threshold = words::float();
+    let n = words::word();
+    words::scattered(&mut rows, n);
+    words::bytes(&mut counts, Sampler::CELLS);
+    let made = linearize::thin(
+        kind,
+        positions,
+        channels,
+        codes,
+        threshold,
+        &rows,
+        &counts,
+        &mut places,
+        &mut colours,
+    );
+    compared(made, &places, &colours, before)
+}
+
+// The record is sampled of the ramp as it was, then refreshed.
+fn refresh(
+    kind: Kind,
+    positions: &[f32],
+    channels: &[f32],
+    codes: &[u8],
+    threshold: f32,
+    rows: &mut [f32],
+    before: Tally,
+) -> Tally {
+    let mut counts = [0u8; Sampler::CELLS];
+    let mut places = [RUBBISH; RECORD + 1];
+    let mut colours = [RUBBISH; 4 * (RECORD + 1)];
     let stop = words::word() as usize;
     let colour = Rgba {
         r: words::float(),
@@ -96,7 +187,7 @@ pub fn refreshed(
         channels,
         codes,
         threshold,
-        &mut rows,
+        rows,
         &mut counts,
     );
     let made = refreshing::refresh_list(
@@ -107,10 +198,43 @@ pub fn refreshed(
         stop,
         colour,
         threshold,
-        &mut rows,
+        rows,
         &mut counts,
         &mut places,
         &mut colours,
     );
     compared(made, &places, &colours, before)
+}
+
+// With the room that the word after the threshold says.
+pub fn refreshed(
+    kind: Kind,
+    positions: &[f32],
+    channels: &[f32],
+    codes: &[u8],
+    before: Tally,
+) -> Tally {
+    let mut rows = [RUBBISH; RECORD];
+    let mut few = [RUBBISH; 2];
+    let threshold = words::float();
+    if words::word() == SHORT_RECORD {
+        return refresh(
+            kind,
+            positions,
+            channels,
+            codes,
+            threshold,
+            &mut few,
+            before,
+        );
+    }
+    refresh(
+        kind,
+        positions,
+        channels,
+        codes,
+        threshold,
+        &mut rows,
+        before,
+    )
 }

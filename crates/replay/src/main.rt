@@ -57,6 +57,7 @@ fn records(sort: u32) -> Tally {
 fn main() {
     print(b"colours ", records(ramps::COLOURS));
     print(b"lists ", records(ramps::LISTS));
+    print(b"thinned ", records(ramps::THINNED));
     print(b"refreshed ", records(ramps::REFRESHED));
     print(b"texts ", records(ramps::TEXTS));
     print(b"sharp ", records(ramps::BANDS));

@@ -9,11 +9,13 @@ pub const COLOURS: u32 = 1;
 
 pub const LISTS: u32 = 2;
 
-pub const REFRESHED: u32 = 3;
+pub const THINNED: u32 = 3;
 
-pub const TEXTS: u32 = 4;
+pub const REFRESHED: u32 = 4;
 
-pub const BANDS: u32 = 5;
+pub const TEXTS: u32 = 5;
+
+pub const BANDS: u32 = 6;
 
 // One more than a ramp may have, so that the refusal of it is stored too.
 const MOST_POSITIONS: usize = 3 * 257;
@@ -46,6 +48,9 @@ fn answers(
     }
     if sort == LISTS {
         return lists::flattened(kind, positions, channels, codes, before);
+    }
+    if sort == THINNED {
+        return lists::thinned(kind, positions, channels, codes, before);
     }
     lists::refreshed(kind, positions, channels, codes, before)
 }

@@ -66,6 +66,16 @@ pub fn floats(out: &mut [f32], n: usize) {
     }
 }
 
+// Takes n floats, each after its own place in out; those past its end are read and dropped.
+pub fn scattered(out: &mut [f32], n: u32) {
+    let mut i = 0;
+    while i < n {
+        let at = word() as usize;
+        put(out, at, float());
+        i += 1;
+    }
+}
+
 // The first n of s, or all of it.
 pub fn cut(s: &[f32], n: usize) -> &[f32] {
     if n < s.len() {
