@@ -104,8 +104,8 @@ def pair():
     rows, spent = sample(ramp, DEFAULT)
     assert len(rows) == CELLS
     positions, colours, evaluations = thin(ramp, DEFAULT, rows, 2)
-    stops = ", ".join(hexes(t, c[0]) for t, c in zip(positions, colours))
-    return f"{len(positions)} stops, {spent + evaluations} evaluations, {stops}"
+    channels = [x for colour in colours for x in colour]
+    return f"{len(positions)} stops, {spent + evaluations} evaluations, positions {hexes(*positions)}, channels {hexes(*channels)}"
 
 
 def stops(n):
@@ -129,7 +129,7 @@ def prints():
         ("smoothstep 0 to 1 at 0.25", hexes(smoothstep(black, white, 0.25)[0])),
         ("basis 0, 1 at 0.5", hexes(basis(0.5, -1.0, 0.0, 1.0, 2.0))),
         ("Catmull-Rom 0, 1 at 0.25", hexes(catmull_rom(0.25, -1.0, 0.0, 1.0, 2.0))),
-        ("sharp, 2 colours, softness 0.5 on 0..1", hexes(*sharp_positions(2, 0.0, 1.0, 0.5))),
+        ("sharp, 2 colours, softness 0.5 on 0..1", "positions " + hexes(*sharp_positions(2, 0.0, 1.0, 0.5))),
         ("root of 2", f"{root(0x40000000):08x}"),
         ("root of 2^-149", f"{root(1):08x}"),
         ("0.1", token("0.1")),

@@ -23,6 +23,14 @@ fn bits(x: f32) {
     io::print_hex(STDOUT_FILENO, float::to_bits(x) as u64, 8);
 }
 
+// Each number of xs, with a blank before it.
+fn row(xs: &[f32]) {
+    for i in 0..xs.len() {
+        out(b" ");
+        bits(xs[i]);
+    }
+}
+
 fn refused(n: u8) {
     out(b"refused ");
     number(n as usize);
@@ -57,17 +65,9 @@ fn sharp() {
     let colours = [0.0f32, 0.0, 0.0, 1.0, 1.0, 1.0, 1.0, 1.0];
     let mut positions = [9.0f32; 4];
     let mut channels = [9.0f32; 16];
-    out(b"sharp, 2 colours, softness 0.5 on 0..1\t");
+    out(b"sharp, 2 colours, softness 0.5 on 0..1\tpositions");
     match gradient::sharp::build(&colours, 0.0, 1.0, 0.5, &mut positions, &mut channels) {
-        Built::Stops(_) => {
-            bits(positions[0]);
-            out(b" ");
-            bits(positions[1]);
-            out(b" ");
-            bits(positions[2]);
-            out(b" ");
-            bits(positions[3]);
-        }
+        Built::Stops(_) => row(&positions),
         Built::Refused(n) => refused(n),
     }
     out(b"\n");
@@ -90,78 +90,57 @@ fn token(label: &[u8], s: &[u8]) {
     out(b"\n");
 }
 
-// One segment on 0..1 with its middle at 0.25, two that meet at 0.5, and two with a gap between them. The reds of the
-// two that meet tell which is taken; the others go from black to white, so that their red is the factor.
-fn segments() {
-    let meeting = [0.0f32, 0.25, 0.5, 0.5, 0.75, 1.0];
-    let told = [
-        0.0f32,
-        0.0,
-        0.0,
-        1.0,
-        0.25,
-        0.0,
-        0.0,
-        1.0,
-        0.75,
-        0.0,
-        0.0,
-        1.0,
-        1.0,
-        0.0,
-        0.0,
-        1.0,
-    ];
-    let bent = [0.0f32, 0.25, 1.0];
-    let white = [0.0f32, 0.0, 0.0, 1.0, 1.0, 1.0, 1.0, 1.0];
-    let parted = [0.0f32, 0.125, 0.25, 0.75, 0.875, 1.0];
-    let whites = [
-        0.0f32,
-        0.0,
-        0.0,
-        1.0,
-        1.0,
-        1.0,
-        1.0,
-        1.0,
-        0.0,
-        0.0,
-        0.0,
-        1.0,
-        1.0,
-        1.0,
-        1.0,
-        1.0,
-    ];
-    let one = [0u8; 2];
-    let two = [0u8; 4];
+// Two GIMP segments that meet: their reds tell which is taken.
+fn meeting() {
+    let positions = [0.0f32, 0.25, 0.5, 0.5, 0.75, 1.0];
+    let mut channels = [0.0f32; 16];
+    channels[4] = 0.25;
+    channels[8] = 0.75;
+    channels[12] = 1.0;
+    let codes = [0u8; 4];
     red(
         b"GIMP 0..0.5 and 0.5..1 at 0.5",
         Kind::Gimp,
-        &meeting,
-        &told,
-        &two,
-        0.5,
-    );
-    red(
-        b"GIMP middle 0.25 at 0.625",
-        Kind::Gimp,
-        &bent,
-        &white,
-        &one,
-        0.625,
-    );
-    red(
-        b"GIMP gap 0.25..0.75 at 0.5",
-        Kind::Gimp,
-        &parted,
-        &whites,
-        &two,
+        &positions,
+        &channels,
+        &codes,
         0.5,
     );
 }
 
-// Two stops at 0.5, flattened: each stop's position and red.
+// One from black to red, so that the red is the factor.
+fn bent() {
+    let positions = [0.0f32, 0.25, 1.0];
+    let channels = [0.0f32, 0.0, 0.0, 1.0, 1.0, 0.0, 0.0, 1.0];
+    let codes = [0u8; 2];
+    red(
+        b"GIMP middle 0.25 at 0.625",
+        Kind::Gimp,
+        &positions,
+        &channels,
+        &codes,
+        0.625,
+    );
+}
+
+// Two such with a gap between them.
+fn parted() {
+    let positions = [0.0f32, 0.125, 0.25, 0.75, 0.875, 1.0];
+    let mut channels = [0.0f32; 16];
+    channels[4] = 1.0;
+    channels[12] = 1.0;
+    let codes = [0u8; 4];
+    red(
+        b"GIMP gap 0.25..0.75 at 0.5",
+        Kind::Gimp,
+        &positions,
+        &channels,
+        &codes,
+        0.5,
+    );
+}
+
+// Two stops at 0.5, flattened: the positions and the channels.
 fn pair() {
     let positions = [0.5f32, 0.5];
     let channels = [0.25f32, 0.0, 0.0, 1.0, 0.75, 0.0, 0.0, 1.0];
@@ -185,27 +164,26 @@ fn pair() {
             number(stops);
             out(b" stops, ");
             number(evaluations);
-            out(b" evaluations, ");
-            bits(out_positions[0]);
-            out(b" ");
-            bits(out_channels[0]);
-            out(b", ");
-            bits(out_positions[1]);
-            out(b" ");
-            bits(out_channels[4]);
+            out(b" evaluations, positions");
+            row(&out_positions);
+            out(b", channels");
+            row(&out_channels);
         }
         Listed::Refused(n) => refused(n),
     }
     out(b"\n");
 }
 
-fn stops() {
-    let most = [0.5f32; 512];
+fn most_stops() {
+    let positions = [0.5f32; 512];
     let channels = [0.25f32; 2048];
-    red(b"512 stops", Kind::Linear, &most, &channels, b"", 0.5);
-    let over = [0.5f32; 513];
-    let wider = [0.25f32; 2052];
-    red(b"513 stops", Kind::Linear, &over, &wider, b"", 0.5);
+    red(b"512 stops", Kind::Linear, &positions, &channels, b"", 0.5);
+}
+
+fn too_many_stops() {
+    let positions = [0.5f32; 513];
+    let channels = [0.25f32; 2052];
+    red(b"513 stops", Kind::Linear, &positions, &channels, b"", 0.5);
 }
 
 // n bytes of the text from `at` on are those of s, over and over.
@@ -219,11 +197,7 @@ fn fill(text: &mut [u8], at: usize, s: &[u8], n: usize)
     }
 }
 
-// A GIMP file whose line 3 counts so many segments, with 257 lines for them.
-fn counted(label: &[u8], header: &[u8; 29]) {
-    let mut text = [0u8; 6968];
-    fill(&mut text, 0, header, 29);
-    fill(&mut text, 29, b"0 .5 1 0 0 0 1 1 1 1 1 0 0\n", 6939);
+fn read(label: &[u8], text: &[u8]) {
     let black = Rgba {
         r: 0.0,
         g: 0.0,
@@ -236,7 +210,7 @@ fn counted(label: &[u8], header: &[u8; 29]) {
     out(label);
     out(b"\t");
     match ggr::read(
-        &text,
+        text,
         black,
         black,
         &mut positions,
@@ -256,6 +230,14 @@ fn counted(label: &[u8], header: &[u8; 29]) {
     out(b"\n");
 }
 
+// A GIMP file whose line 3 counts so many segments, with 257 lines for them.
+fn counted(label: &[u8], header: &[u8; 29]) {
+    let mut text = [0u8; 6968];
+    fill(&mut text, 0, header, 29);
+    fill(&mut text, 29, b"0 .5 1 0 0 0 1 1 1 1 1 0 0\n", 6939);
+    read(label, &text);
+}
+
 fn main() {
     ramps();
     sharp();
@@ -263,9 +245,12 @@ fn main() {
     root(b"root of 2^-149", 1);
     token(b"0.1", b"0.1");
     token(b"16777217", b"16777217");
-    segments();
+    meeting();
+    bent();
+    parted();
     pair();
-    stops();
+    most_stops();
+    too_many_stops();
     token(b"18 digits", b"123456789012345678");
     token(b"19 digits", b"1234567890123456789");
     counted(b"count 256", b"GIMP Gradient\nName: many\n256\n");
