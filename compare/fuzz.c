@@ -1,0 +1,473 @@
+/* Fuzzed calls of the C face. Each lent output stands between two guard zones, which are poisoned while a call runs and
+ * looked at afterwards; each input is a block of its own size. An answer that is not a promised one ends the program. */
+#define _GNU_SOURCE
+#include "colorgrad.h"
+#include <sanitizer/asan_interface.h>
+#include <stdio.h>
+#include <stdlib.h>
+#include <string.h>
+
+#define GUARD 64
+#define MOST 64 /* stops or segments of a fuzzed ramp */
+
+static const uint8_t RUBBISH = 0xa5;
+static const ColorgradRgba BLACK = {0.0f, 0.0f, 0.0f, 1.0f}, WHITE = {1.0f, 1.0f, 1.0f, 1.0f};
+
+static void expect(bool is_so, const char *what)
+{
+    if (!is_so) {
+        fprintf(stderr, "NOT PROMISED: %s\n", what);
+        abort();
+    }
+}
+
+/* ---- lent memory */
+
+typedef struct {
+    uint8_t *block;
+    size_t bytes;
+} Lent;
+
+static void *items(Lent lent)
+{
+    return lent.block + GUARD;
+}
+
+/* An output of so many bytes, all rubbish, its guards poisoned. */
+static Lent lend(size_t bytes)
+{
+    Lent lent = {malloc(bytes + 2 * GUARD), bytes};
+    expect(lent.block != NULL, "memory");
+    memset(lent.block, RUBBISH, bytes + 2 * GUARD);
+    ASAN_POISON_MEMORY_REGION(lent.block, GUARD);
+    ASAN_POISON_MEMORY_REGION(lent.block + GUARD + bytes, GUARD);
+    return lent;
+}
+
+/* Whether every byte from one on is this. */
+static bool is_all(Lent lent, size_t from, uint8_t byte)
+{
+    const uint8_t *bytes = items(lent);
+    for (size_t i = from; i < lent.bytes; i++)
+        if (bytes[i] != byte)
+            return false;
+    return true;
+}
+
+static void give_back(Lent lent)
+{
+    ASAN_UNPOISON_MEMORY_REGION(lent.block, lent.bytes + 2 * GUARD);
+    for (size_t i = 0; i < GUARD; i++)
+        expect(lent.block[i] == RUBBISH && lent.block[GUARD + lent.bytes + i] == RUBBISH, "a guard zone was written");
+    free(lent.block);
+}
+
+/* A copy in a block of its own size, so that a read past its end shows. */
+static void *own(const void *data, size_t bytes)
+{
+    void *copy = malloc(bytes ? bytes : 1);
+    expect(copy != NULL, "memory");
+    if (bytes)
+        memcpy(copy, data, bytes);
+    return copy;
+}
+
+/* ---- bytes as they come */
+
+typedef struct {
+    const uint8_t *data;
+    size_t left;
+} Bytes;
+
+static uint8_t byte(Bytes *bytes)
+{
+    if (bytes->left == 0)
+        return 0;
+    bytes->left--;
+    return *bytes->data++;
+}
+
+static float number(Bytes *bytes)
+{
+    uint8_t raw[4];
+    float x;
+    for (int i = 0; i < 4; i++)
+        raw[i] = byte(bytes);
+    memcpy(&x, raw, sizeof x);
+    return x;
+}
+
+/* ---- reading */
+
+static void check_lines(ColorgradRead read)
+{
+    switch (read.refusal) {
+    case 2: case 10: expect(read.line == 0, "a refusal with no line"); break;
+    case 11: expect(read.line >= 1 && read.line <= 3, "the line of 11"); break;
+    case 12: case 16: expect(read.line >= 4 && read.line <= 259, "the line of a segment"); break;
+    case 13: case 15: expect(read.line == 3, "line 3"); break;
+    case 14: expect(read.line == 4, "line 4"); break;
+    default: expect(false, "a refusal that reading does not have");
+    }
+}
+
+/* What was read is a ramp that every call takes. */
+static void check_segments(const float *positions, const float *channels, const uint8_t *codes, size_t n)
+{
+    float ts[5] = {0.0f, 0.25f, 0.5f, 1.0f, 2.0f}, out[20];
+    expect(colorgrad_check(COLORGRAD_GIMP, positions, 3 * n, channels, 8 * n, codes, 2 * n) == 0, "read is checked");
+    expect(colorgrad_paint(COLORGRAD_GIMP, positions, 3 * n, channels, 8 * n, codes, 2 * n, ts, 5, out, 20) == 0,
+           "read is painted");
+}
+
+static void fuzz_read(Bytes in)
+{
+    size_t room = byte(&in);
+    uint8_t twist = byte(&in);
+    size_t few = room == 255 ? 256 : room % 8;
+    ColorgradRgba foreground = BLACK;
+    Lent positions, channels, codes, name;
+    ColorgradRead read;
+    size_t n, named;
+    uint8_t *text = own(in.data, in.left);
+    if (twist & 1)
+        foreground.g = (twist & 2) ? 1.0f / 0.0f : 0.0f / 0.0f;
+    positions = lend(sizeof(float) * (3 * few + (twist >> 2) % 3));
+    channels = lend(sizeof(float) * (8 * few + (twist >> 4) % 8));
+    codes = lend(2 * few + (twist >> 7));
+    read = colorgrad_read(text, in.left, foreground, WHITE, items(positions), positions.bytes / sizeof(float),
+                          items(channels), channels.bytes / sizeof(float), items(codes), codes.bytes);
+    n = read.segments;
+    if (read.refusal != 0) {
+        check_lines(read);
+        expect(n == 0, "a refusal has no segments");
+        expect(!(twist & 1) || read.refusal == 2, "a colour that is not finite comes first");
+        expect(is_all(positions, 0, 0) && is_all(channels, 0, 0) && is_all(codes, 0, 0), "a refusal sets zero");
+    } else {
+        expect(read.line == 0 && n >= 1 && n <= few && !(twist & 1), "segments within the room");
+        expect(is_all(positions, 3 * n * sizeof(float), RUBBISH) && is_all(channels, 8 * n * sizeof(float), RUBBISH) &&
+               is_all(codes, 2 * n, RUBBISH), "what lies past the last segment stays");
+        check_segments(items(positions), items(channels), items(codes), n);
+    }
+    name = lend(room);
+    named = colorgrad_name(text, in.left, items(name), name.bytes);
+    expect(named <= in.left, "a name is a part of the text");
+    expect(is_all(name, named <= room ? named : 0, RUBBISH), "what lies past the name stays");
+    expect(named == 0 || memmem(text, in.left, items(name), named <= room ? named : 0) != NULL, "the name's own bytes");
+    expect(named == 0 || read.refusal == 0 || read.refusal == 2 || read.refusal == 15, "no name of a refused text");
+    expect(memcmp(text, in.data, in.left) == 0, "the text stays");
+    give_back(name);
+    give_back(positions);
+    give_back(channels);
+    give_back(codes);
+    free(text);
+}
+
+/* ---- the tool */
+
+static bool starts(const char *text, const char *with)
+{
+    return strncmp(text, with, strlen(with)) == 0;
+}
+
+/* The text that is printed, from its first byte to its last. */
+static void check_printed(const char *text, size_t n)
+{
+    unsigned stops, evaluations, told;
+    int length = 0;
+    expect(n > 0 && text[n - 1] == '\n', "the last line ends");
+    if (starts(text, "stops\t")) {
+        expect(sscanf(text, "stops\t%u\tevaluations\t%u\n%n", &stops, &evaluations, &length) == 2, "the first line");
+        expect(stops >= 1 && stops <= 1000 && evaluations <= 45862, "counts in range");
+        expect(n == strcspn(text, "\n") + 1 + 50 * stops, "a line of 50 bytes for each stop");
+        for (unsigned i = 0; i < stops; i++)
+            expect(starts(text + strcspn(text, "\n") + 1 + 50 * i, "stop\t"), "a stop's line");
+    } else if (starts(text, "refused\t")) {
+        expect(sscanf(text, "refused\t%u\n%n", &told, &length) == 1 && (size_t)length == n, "one line");
+        expect(told == 1 || told == 3 || told == 6 || told == 7 || told == 8, "a refusal that the tool has");
+    } else {
+        expect(sscanf(text, "unread\t%u\n%n", &told, &length) == 1 && (size_t)length == n, "one line");
+    }
+}
+
+static void fuzz_desk(Bytes in)
+{
+    size_t room = 256 * (size_t)byte(&in);
+    Lent whole = lend(50100), some;
+    size_t n, again;
+    uint8_t *input;
+    char *text;
+    room += byte(&in);
+    input = own(in.data, in.left);
+    n = colorgrad_desk(input, in.left, items(whole), whole.bytes);
+    expect(n <= whole.bytes && is_all(whole, n, RUBBISH), "what lies past the text stays");
+    text = own(items(whole), n + 1);
+    text[n] = 0;
+    check_printed(text, n);
+    some = lend(room);
+    again = colorgrad_desk(input, in.left, items(some), some.bytes);
+    expect(again == n, "one input has one answer");
+    if (n <= room)
+        expect(memcmp(items(some), text, n) == 0 && is_all(some, n, RUBBISH), "the same text");
+    else
+        expect(is_all(some, 0, 0), "an output too short is zero");
+    expect(memcmp(input, in.data, in.left) == 0, "the input stays");
+    free(text);
+    free(input);
+    give_back(some);
+    give_back(whole);
+}
+
+/* ---- ramps */
+
+typedef struct {
+    uint32_t kind;
+    float threshold;
+    float *positions, *channels;
+    uint8_t *codes;
+    size_t positions_length, channels_length, codes_length;
+    uint8_t room;
+} Ramp;
+
+#define LENT_RAMP(r) \
+    (r).kind, (r).positions, (r).positions_length, (r).channels, (r).channels_length, (r).codes, (r).codes_length
+
+/* Kind, way, lengths, room, threshold, then items: as raw numbers, or from a byte each, in order. */
+static Ramp ramp_of(Bytes *in)
+{
+    Ramp ramp;
+    float positions[3 * MOST], channels[8 * MOST], at = 0.0f;
+    uint8_t codes[2 * MOST], way, twist;
+    size_t n, per;
+    ramp.kind = byte(in) % 7;
+    way = byte(in);
+    twist = byte(in);
+    ramp.room = byte(in);
+    ramp.threshold = number(in);
+    per = (ramp.kind == COLORGRAD_GIMP ? 11 : 5) * (way & 1 ? 4 : 1);
+    n = in->left / per < MOST ? in->left / per : MOST;
+    if (ramp.kind == COLORGRAD_SHARP)
+        n -= n % 2;
+    ramp.positions_length = (ramp.kind == COLORGRAD_GIMP ? 3 : 1) * n;
+    ramp.channels_length = (ramp.kind == COLORGRAD_GIMP ? 8 : 4) * n;
+    ramp.codes_length = ramp.kind == COLORGRAD_GIMP ? 2 * n : 0;
+    for (size_t i = 0; i < ramp.positions_length; i++) {
+        at += (float)byte(in) / 256.0f;
+        positions[i] = way & 1 ? number(in) : at;
+    }
+    for (size_t i = 0; i < ramp.channels_length; i++)
+        channels[i] = way & 1 ? number(in) : (float)byte(in) / 255.0f;
+    for (size_t i = 0; i < ramp.codes_length; i++)
+        codes[i] = i % 2 ? 0 : (uint8_t)((way >> 1) % 6);
+    /* now and then a length is off by one */
+    if (twist == 255 && ramp.channels_length)
+        ramp.channels_length--;
+    if (twist == 254 && ramp.positions_length)
+        ramp.positions_length--;
+    ramp.positions = own(positions, ramp.positions_length * sizeof(float));
+    ramp.channels = own(channels, ramp.channels_length * sizeof(float));
+    ramp.codes = own(codes, ramp.codes_length);
+    return ramp;
+}
+
+static void drop(Ramp ramp)
+{
+    free(ramp.positions);
+    free(ramp.channels);
+    free(ramp.codes);
+}
+
+typedef struct {
+    Lent rows, counts, places, colours;
+} Desk;
+
+static Desk desk_of(size_t rows, size_t counts, size_t places, size_t colours)
+{
+    Desk desk;
+    desk.rows = lend(rows * sizeof(float));
+    desk.counts = lend(counts);
+    desk.places = lend(places * sizeof(float));
+    desk.colours = lend(colours * sizeof(float));
+    return desk;
+}
+
+static Desk roomy(void)
+{
+    return desk_of(COLORGRAD_ROWS, COLORGRAD_CELLS, COLORGRAD_MOST_POINTS, 4 * COLORGRAD_MOST_POINTS);
+}
+
+#define LENT_RECORD(d) items((d).rows), (d).rows.bytes / sizeof(float), items((d).counts), (d).counts.bytes
+#define LENT_STOPS(d) items((d).places), (d).places.bytes / sizeof(float), items((d).colours), (d).colours.bytes / sizeof(float)
+
+static void clear_desk(Desk desk)
+{
+    give_back(desk.rows);
+    give_back(desk.counts);
+    give_back(desk.places);
+    give_back(desk.colours);
+}
+
+static bool same_record(Desk a, Desk b)
+{
+    return a.rows.bytes == b.rows.bytes && a.counts.bytes == b.counts.bytes &&
+           memcmp(items(a.rows), items(b.rows), a.rows.bytes) == 0 &&
+           memcmp(items(a.counts), items(b.counts), a.counts.bytes) == 0;
+}
+
+/* Counts of 1 to 128, and +0 after them in each row. */
+static void check_record(Desk desk)
+{
+    const float *rows = items(desk.rows);
+    const uint8_t *counts = items(desk.counts);
+    uint32_t bits;
+    for (size_t cell = 0; cell < COLORGRAD_CELLS; cell++) {
+        expect(counts[cell] >= 1 && counts[cell] <= COLORGRAD_ROW, "a count of 1 to 128");
+        for (size_t i = counts[cell]; i < COLORGRAD_ROW; i++) {
+            memcpy(&bits, rows + cell * COLORGRAD_ROW + i, sizeof bits);
+            expect(bits == 0, "+0 after a row's count");
+        }
+    }
+}
+
+static bool is_finite(float x)
+{
+    return x - x == 0.0f;
+}
+
+/* The outputs of a list, by its answer. */
+static void check_list(ColorgradListed made, Desk desk, Ramp ramp)
+{
+    const float *places = items(desk.places), *colours = items(desk.colours);
+    size_t n = made.stops;
+    if (made.refusal >= 7) {
+        expect(made.refusal <= 9 && n == 0 && made.evaluations == 0, "a refusal of a list");
+        expect(is_all(desk.places, 0, 0) && is_all(desk.colours, 0, 0), "it sets zero");
+        return;
+    }
+    if (made.refusal != 0) {
+        expect(n == 0 && made.evaluations == 0, "a refusal counts nothing");
+        expect(is_all(desk.places, 0, RUBBISH) && is_all(desk.colours, 0, RUBBISH), "it changes no output");
+        return;
+    }
+    expect(n >= 1 && n <= desk.places.bytes / sizeof(float) && 4 * n <= desk.colours.bytes / sizeof(float), "room");
+    expect(made.evaluations <= COLORGRAD_MOST_EVALUATIONS, "evaluations in range");
+    expect(is_all(desk.places, n * sizeof(float), RUBBISH) && is_all(desk.colours, 4 * n * sizeof(float), RUBBISH),
+           "what lies past the last stop stays");
+    for (size_t i = 0; i < n; i++) {
+        expect(is_finite(places[i]) && (i == 0 || places[i - 1] <= places[i]), "finite and not falling");
+        for (size_t j = 4 * i; j < 4 * i + 4; j++)
+            expect(is_finite(colours[j]), "finite colours");
+    }
+    expect(places[n - 1] == colorgrad_domain(LENT_RAMP(ramp)).max, "the last stop is at max");
+}
+
+static void fuzz_flatten(Bytes in)
+{
+    Ramp ramp = ramp_of(&in);
+    uint32_t checked = colorgrad_check(LENT_RAMP(ramp));
+    bool is_short = ramp.room == 255;
+    size_t places = ramp.room % 4 == 1 ? ramp.room / 4 : COLORGRAD_MOST_POINTS;
+    size_t colours = ramp.room % 4 == 2 ? ramp.room : 4 * COLORGRAD_MOST_POINTS;
+    Desk desk = desk_of(COLORGRAD_ROWS - is_short, COLORGRAD_CELLS, places, colours);
+    Desk twice = desk_of(COLORGRAD_ROWS - is_short, COLORGRAD_CELLS, places, colours);
+    ColorgradListed made = colorgrad_flatten(LENT_RAMP(ramp), ramp.threshold, LENT_RECORD(desk), LENT_STOPS(desk));
+    ColorgradSampled sampled = colorgrad_sample(LENT_RAMP(ramp), ramp.threshold, LENT_RECORD(twice));
+    expect(checked <= 3 && (checked == 0 || made.refusal == checked), "the check comes first");
+    check_list(made, desk, ramp);
+    if (made.refusal >= 1 && made.refusal <= 6) {
+        expect(made.refusal <= 5 && sampled.refusal == made.refusal, "sampling is refused alike");
+        expect(is_all(desk.rows, 0, RUBBISH) && is_all(desk.counts, 0, RUBBISH), "the record stays");
+        expect(is_all(twice.rows, 0, RUBBISH) && is_all(twice.counts, 0, RUBBISH), "the record stays");
+    } else {
+        ColorgradListed thinned = colorgrad_thin(LENT_RAMP(ramp), ramp.threshold, LENT_RECORD(twice), LENT_STOPS(twice));
+        expect(made.refusal != 9, "no list of our own sampling falls");
+        check_record(desk);
+        expect(sampled.refusal == 0 && sampled.evaluations <= 13716 && same_record(desk, twice), "sampled alike");
+        expect(thinned.refusal == made.refusal && thinned.stops == made.stops, "thinned alike");
+        expect(made.refusal != 0 || sampled.evaluations + thinned.evaluations == made.evaluations, "evaluations add");
+        expect(memcmp(items(desk.places), items(twice.places), desk.places.bytes) == 0 &&
+               memcmp(items(desk.colours), items(twice.colours), desk.colours.bytes) == 0, "one list");
+    }
+    clear_desk(desk);
+    clear_desk(twice);
+    drop(ramp);
+}
+
+/* ---- refreshing */
+
+/* Every row is the one that was there, or the fresh one of the changed ramp. */
+static void check_rows(Desk before, Desk after, Desk fresh)
+{
+    for (size_t cell = 0; cell < COLORGRAD_CELLS; cell++) {
+        size_t at = cell * COLORGRAD_ROW * sizeof(float), bytes = COLORGRAD_ROW * sizeof(float);
+        const uint8_t *was = items(before.rows), *is = items(after.rows), *new = items(fresh.rows);
+        uint8_t count = ((uint8_t *)items(after.counts))[cell];
+        bool kept = memcmp(is + at, was + at, bytes) == 0 && count == ((uint8_t *)items(before.counts))[cell];
+        bool redone = memcmp(is + at, new + at, bytes) == 0 && count == ((uint8_t *)items(fresh.counts))[cell];
+        expect(kept || redone, "a row is kept or redone");
+    }
+}
+
+static void check_fresh(Ramp ramp, size_t stop, ColorgradRgba colour, Desk before, Desk after, bool was_sampled,
+                        ColorgradListed made)
+{
+    Desk fresh = roomy();
+    ColorgradListed whole;
+    memcpy(ramp.channels + 4 * stop, &colour, sizeof colour);
+    whole = colorgrad_flatten(LENT_RAMP(ramp), ramp.threshold, LENT_RECORD(fresh), LENT_STOPS(fresh));
+    check_rows(before, after, fresh);
+    if (was_sampled) {
+        expect(same_record(after, fresh), "the refreshed record is the fresh one");
+        expect(made.refusal == whole.refusal && made.stops == whole.stops, "the refreshed list is the fresh one");
+        expect(made.evaluations <= whole.evaluations, "a refresh asks for no more");
+        expect(memcmp(items(after.places), items(fresh.places), after.places.bytes) == 0 &&
+               memcmp(items(after.colours), items(fresh.colours), after.colours.bytes) == 0, "stop by stop");
+    }
+    clear_desk(fresh);
+}
+
+static void fuzz_refresh(Bytes in)
+{
+    uint8_t how = byte(&in), far = byte(&in);
+    ColorgradRgba colour = {number(&in), (float)byte(&in) / 255.0f, (float)byte(&in) / 255.0f, 1.0f};
+    Ramp ramp = ramp_of(&in);
+    size_t n = ramp.channels_length / 4, stop = far == 255 ? (size_t)-1 : far % (n + 1);
+    Desk before = roomy(), desk = roomy(), again = roomy();
+    bool was_sampled = how & 1;
+    ColorgradSampled refreshed;
+    ColorgradListed made;
+    if (was_sampled)
+        colorgrad_sample(LENT_RAMP(ramp), ramp.threshold, LENT_RECORD(before));
+    else
+        memset(items(before.counts), how, before.counts.bytes);
+    memcpy(items(desk.rows), items(before.rows), before.rows.bytes);
+    memcpy(items(desk.counts), items(before.counts), before.counts.bytes);
+    memcpy(items(again.rows), items(before.rows), before.rows.bytes);
+    memcpy(items(again.counts), items(before.counts), before.counts.bytes);
+    refreshed = colorgrad_refresh(LENT_RAMP(ramp), stop, colour, ramp.threshold, LENT_RECORD(again));
+    made = colorgrad_refresh_list(LENT_RAMP(ramp), stop, colour, ramp.threshold, LENT_RECORD(desk), LENT_STOPS(desk));
+    expect(refreshed.refusal <= 6 && refreshed.evaluations <= 13716, "a refresh in range");
+    expect(same_record(desk, again), "both refresh alike");
+    if (refreshed.refusal != 0) {
+        expect(made.refusal == refreshed.refusal, "both are refused alike");
+        expect(refreshed.evaluations == 0 && same_record(desk, before), "a refusal leaves the record");
+        check_list(made, desk, ramp);
+    } else {
+        expect(ramp.kind <= COLORGRAD_SMOOTHSTEP && stop < n, "an edit that is one");
+        check_list(made, desk, ramp);
+        check_fresh(ramp, stop, colour, before, desk, was_sampled, made);
+    }
+    clear_desk(before);
+    clear_desk(desk);
+    clear_desk(again);
+    drop(ramp);
+}
+
+int LLVMFuzzerTestOneInput(const uint8_t *data, size_t size)
+{
+    /* the other targets are compiled all the same */
+    static void (*const targets[])(Bytes) = {fuzz_read, fuzz_desk, fuzz_flatten, fuzz_refresh, TARGET};
+    Bytes in = {data, size};
+    targets[4](in);
+    return 0;
+}
