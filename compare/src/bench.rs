@@ -1,6 +1,8 @@
-//! Times beside the Rust's: one run, the same buffers, medians of interleaved repetitions, processor time.
+//! Times beside the Rust's: one run, the same buffers, medians of interleaved repetitions, processor time. Below callgrind
+//! the same tables have instructions.
 
 use crate::clock;
+use crate::count;
 use crate::gimp_texts::tidy_text;
 use crate::lists::MOST_POINTS;
 use crate::options::Options;
@@ -17,7 +19,8 @@ const POINTS: usize = 4096;
 
 /// Every table, or the one that is asked for by name.
 pub fn run(options: &Options) {
-    println!("| call | beside | ours, ns | Rust, ns | ratio |");
+    let unit = if count::output().is_some() { "instructions" } else { "ns" };
+    println!("| call | beside | ours, {unit} | Rust, {unit} | ratio |");
     println!("|---|---|---|---|---|");
     let tables: [(&str, fn(&mut Random)); 6] = [
         ("root", roots),
@@ -44,8 +47,11 @@ fn row(call: &str, other: &str, ours: f64, rust: f64) {
     println!("| {call} | {other} | {ours:.1} | {rust:.1} | {:.2} |", ours / rust);
 }
 
-/// Runs the two in turn, each long enough to be timed: the medians.
+/// Runs the two in turn, each long enough to be timed: the medians. Instructions are the same in every run.
 fn timed(repetitions: usize, mut ours: impl FnMut(), mut rust: impl FnMut()) -> (f64, f64) {
+    if let Some(output) = count::output() {
+        return (count::instructions(&output, &mut ours), count::instructions(&output, &mut rust));
+    }
     let (turns, others) = (turns(&mut ours), turns(&mut rust));
     let mut times = (Vec::new(), Vec::new());
     for _ in 0..repetitions {

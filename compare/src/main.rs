@@ -3,6 +3,7 @@
 mod bench;
 mod clock;
 mod colours;
+mod count;
 mod files;
 mod gimp_texts;
 mod limits;
@@ -32,6 +33,7 @@ const USAGE: &str = "compare COMMAND [N] [--seed S] [--case I]
   all [PERCENT]      every comparison, at its full size or at that part of it
   files FOLDER       the .ggr files in it, as compare/fetch gets them
   bench [TABLE]      times beside the Rust's: root token paint read flatten refresh
+  count [TABLE]      instructions in place of times, by valgrind's callgrind
   sample FOLDER      the stored answers of the program replay, as FOLDER/stdin and FOLDER/stdout";
 
 type Comparison = (&'static str, fn(&Options) -> Vec<Tally>, u64);
@@ -78,6 +80,7 @@ fn run(words: &[String]) -> Result<bool, String> {
             bench::run(&options);
             Ok(true)
         }
+        "count" => count::run(rest),
         "sample" => {
             let folder = options.name.as_ref().ok_or("a folder is missing")?;
             sample::run(&options, Path::new(folder)).map_err(|e| e.to_string())?;
