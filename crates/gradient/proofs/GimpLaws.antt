@@ -1,6 +1,6 @@
 -- The check and the colour of GIMP segments, by the tests that the code makes. Assumes nothing.
-use mathlib.Core.Path.{_≡_, sym, _∙_, ap}
-use mathlib.Core.Bool.{Bool, true, false, _&&_}
+use mathlib.Core.Path.{_≡_, refl, sym, _∙_, ap}
+use mathlib.Core.Bool.{Bool, true, false, cond, _&&_}
 use mathlib.Core.List.{List}
 use Prim.Native.Nat.{ℕ, suc, _+_, _-_, _*_, _≤_, _<_}
 use native.Mathlib.Numerals.{add-one}
@@ -41,17 +41,26 @@ pub carried-start : (n : ℕ) (ks : List ℕ) → allCarried (n - 0) 0 ks ≡ al
 carried-start n ks = let e : n - 0 ≡ n = omega arith in ap (λ (k : ℕ). allCarried k 0 ks) e
 
 -- ---- the check
-pub record Shape (n k : ℕ) : Type 0 where
+pub record Shape (n p c k : ℕ) : Type 0 where
+  pub least : 1 ≤ n
   pub most : n ≤ mostSegments
+  pub positions : p ≡ 3 * n
+  pub channels : c ≡ 8 * n
   pub codes : k ≡ 2 * n
 
-pub shape : (n p c k : ℕ) → gimpShaped n p c k ≡ true → Shape n k
+pub shape : (n p c k : ℕ) → gimpShaped n p c k ≡ true → Shape n p c k
 unfolding gimpShaped
 shape n p c k h =
     let a = both-l (leb 1 n && leb n mostSegments && eqb p (3 * n) && eqb c (8 * n)) (eqb k (2 * n)) h in
     let b = both-l (leb 1 n && leb n mostSegments && eqb p (3 * n)) (eqb c (8 * n)) a in
     let d = both-l (leb 1 n && leb n mostSegments) (eqb p (3 * n)) b in
-    record { most = leb-true n mostSegments (both-r (leb 1 n) (leb n mostSegments) d); codes = eqb-true k (2 * n) (both-r (leb 1 n && leb n mostSegments && eqb p (3 * n) && eqb c (8 * n)) (eqb k (2 * n)) h) }
+    record {
+      least = leb-true 1 n (both-l (leb 1 n) (leb n mostSegments) d);
+      most = leb-true n mostSegments (both-r (leb 1 n) (leb n mostSegments) d);
+      positions = eqb-true p (3 * n) (both-r (leb 1 n && leb n mostSegments) (eqb p (3 * n)) b);
+      channels = eqb-true c (8 * n) (both-r (leb 1 n && leb n mostSegments && eqb p (3 * n)) (eqb c (8 * n)) a);
+      codes = eqb-true k (2 * n) (both-r (leb 1 n && leb n mostSegments && eqb p (3 * n) && eqb c (8 * n)) (eqb k (2 * n)) h);
+    }
 
 module _ (ps cs : List Float) (ks : List ℕ) where
   abbrev fits : Bool
@@ -79,6 +88,15 @@ module _ (ps cs : List Float) (ks : List ℕ) where
   pub check-fine : allFinite cs ≡ true → allFinite ps ≡ true → kinds ≡ true → fits ≡ true → Fine ≡ gimpCheck ps cs ks
   unfolding gimpCheck
   check-fine e d b a = simp (a, b, d, e)
+
+  -- what passes has the lengths that agree
+  pub fine-shape : gimpCheck ps cs ks ≡ Fine → Shape (segments ps) (length ps) (length cs) (length ks)
+  unfolding gimpCheck
+  fine-shape h = shape (segments ps) (length ps) (length cs) (length ks) (go fits h)
+    where
+      go : (b : Bool) → cond (b && kinds) (cond (allFinite ps && allFinite cs) Fine (Refused 2)) (Refused 1) ≡ Fine → b ≡ true
+      go true e = refl
+      go false e = let z : _≡_ {A = ℕ} 0 1 = cc in absurd (omega arith)
 
 -- ---- the colour
 module _ (k : ℕ) (f : Float) {z : Float} where

@@ -2,11 +2,16 @@
 use mathlib.Core.Path.{_≡_, refl, sym, _∙_, ap}
 use mathlib.Core.Bool.{Bool, true, false, cond}
 use mathlib.Core.List.{List}
-use Prim.Native.Nat.{ℕ, zero, suc, _+_, _-_, _/_, _≤_, _<_}
+use Prim.Native.Nat.{ℕ, zero, suc, _+_, _-_, _*_, _/_, _≤_, _<_}
+use native.Mathlib.Nat.{lt-of-not-le}
 use native.Mathlib.Omega.{arith}
-use lib.Dec.{ltb}
+use native.Mathlib.Decide.{decLe}
+use lib.Dec.{T, ltb}
 use lib.Ieee.{Float, lt}
+use lib.Ieee.Bits.{is-true}
 use borrow.Author.Tests.{ltb-true, lt-ltb, le-ltb}
+use Rattle.float.proofs.Order.{le-lt-trans, lt-le-trans, lt→le, le→not-lt}
+use Rattle.gradient.specs.Place.{Rising}
 use Rattle.gradient.specs.Gimp.{segments, leftAt, rightAt, search, segmentFor}
 
 -- one turn, at segment mid: up and down are what the two halves give
@@ -56,7 +61,7 @@ module _ (ps : List Float) (t : Float) where
   begun = let e : segments ps - 0 ≡ segments ps = omega arith in ap (λ (n : ℕ). search n ps t 0 0 (segments ps)) e
 
   -- a segment is found among those that there are
-  within : (n tried low high top : ℕ) → tried ≤ top → high ≤ top → search n ps t tried low high ≤ top
+  within : (n tried low high top : ℕ) → tried ≤ top → high ≤ suc top → search n ps t tried low high ≤ top
   unfolding search
   within zero tried low high top a b = a
   within (suc n) tried low high top a b =
@@ -75,3 +80,41 @@ module _ (ps : List Float) (t : Float) where
   pub found-within : segmentFor ps t ≤ segments ps
   unfolding segmentFor
   found-within = within (segments ps) 0 0 (segments ps) (segments ps) (omega arith) (omega arith)
+
+  pub found-inside : 1 ≤ segments ps → segmentFor ps t < segments ps
+  unfolding segmentFor
+  found-inside h = let w = within (segments ps) 0 0 (segments ps) (segments ps - 1) (omega arith) (omega arith) in omega arith
+
+  -- where the positions rise, a segment that t lies strictly inside is the one that is found
+  module _ (R : Rising ps) (i : ℕ) (there : i < segments ps) (past : T (lt (leftAt ps i) t)) (before : T (lt t (rightAt ps i))) where
+    passed : (m : ℕ) → m < i → lt (rightAt ps m) t ≡ true
+    passed m h = is-true (lt (rightAt ps m) t) (le-lt-trans (rightAt ps m) (leftAt ps i) t (R (3 * m + 2) (3 * i) (omega arith) (omega arith)) past)
+
+    not-passed : (m : ℕ) → i ≤ m → m < segments ps → lt (rightAt ps m) t ≡ false
+    not-passed m h l = le→not-lt (rightAt ps m) t (lt→le t (rightAt ps m) (lt-le-trans t (rightAt ps i) (rightAt ps m) before (R (3 * i + 2) (3 * m + 2) (omega arith) (omega arith))))
+
+    ahead : (m : ℕ) → i < m → m < segments ps → lt t (leftAt ps m) ≡ true
+    ahead m h l = is-true (lt t (leftAt ps m)) (lt-le-trans t (rightAt ps i) (leftAt ps m) before (R (3 * i + 2) (3 * m) (omega arith) (omega arith)))
+
+    reached : lt t (leftAt ps i) ≡ false
+    reached = le→not-lt t (leftAt ps i) (lt→le (leftAt ps i) t past)
+
+    strict : (n tried low high : ℕ) → high - low ≤ n → low ≤ i → i < high → high ≤ segments ps → search n ps t tried low high ≡ i
+    unfolding search
+    strict zero tried low high a b c d = absurd (omega arith)
+    strict (suc n) tried low high a b c d =
+        let mid = (low + high) / 2 in
+        simp (lt-ltb low high (omega arith))
+        (go mid (decLe mid i) (decLe i mid) (omega arith) (λ h. strict n mid (mid + 1) high (omega arith) (omega arith) c d) (λ h. strict n mid low mid (omega arith) b h (omega arith)))
+      where
+        go : (mid : ℕ) → Dec (mid ≤ i) → Dec (i ≤ mid) → mid < segments ps → {u v : ℕ} → (mid < i → u ≡ i) → (i < mid → v ≡ i)
+            → cond (lt (rightAt ps mid) t) u (cond (lt t (leftAt ps mid)) v mid) ≡ i
+        go mid (yes p) (yes q) l u v =
+            let e : mid ≡ i = omega arith in
+            simp (not-passed mid q l, ap (λ (m : ℕ). lt t (leftAt ps m)) e ∙ reached) e
+        go mid (yes p) (no q) l u v = let h = lt-of-not-le q in simp (passed mid h) (u h)
+        go mid (no p) q l u v = let h = lt-of-not-le p in simp (not-passed mid (omega arith) l, ahead mid h l) (v h)
+
+    pub strict-hit : segmentFor ps t ≡ i
+    unfolding segmentFor
+    strict-hit = strict (segments ps) 0 0 (segments ps) (omega arith) (omega arith) there (omega arith)

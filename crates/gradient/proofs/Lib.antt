@@ -3,6 +3,7 @@ pub mod Reading
 pub mod Checking
 pub mod Choice
 pub mod Narrowing
+pub mod Quarters
 pub mod Placing
 pub mod Valid
 pub mod Same

@@ -65,28 +65,28 @@ module _ (ps : List Float) (t : Float) where
     ends-one h = ap (λ (n : ℕ). n + 1) (sym (simp (le-ltb 1 left h)) ∙ sym (last-turn base left (omega arith)) ∙ e)
 
 -- ---- on positions that rise: the position at the base is below t, and the one past what is left is not
-record Bracket (ps : List Float) (t : Float) (base left : ℕ) : Type 0 where
-  some : 1 ≤ left
-  inside : base + left < length ps
-  below : lt (posAt ps base) t ≡ true
-  above : lt (posAt ps (base + left)) t ≡ false
+pub record Bracket (ps : List Float) (t : Float) (base left : ℕ) : Type 0 where
+  pub some : 1 ≤ left
+  pub inside : base + left < length ps
+  pub below : lt (posAt ps base) t ≡ true
+  pub above : lt (posAt ps (base + left)) t ≡ false
 
 module _ (ps : List Float) (t : Float) (R : Rising ps) (number : isNan t ≡ false) where
-  abbrev low : ℕ → Bool
+  abbrev pub low : ℕ → Bool
   low i = lt (posAt ps i) t
 
-  moved : {i j : ℕ} {b : Bool} → i ≡ j → low i ≡ b → low j ≡ b
+  pub moved : {i j : ℕ} {b : Bool} → i ≡ j → low i ≡ b → low j ≡ b
   moved {b = b} e h = subst (λ (k : ℕ). low k ≡ b) e h
 
   -- what is not below t has nothing below t after it
-  not-below : (i j : ℕ) → i ≤ j → j < length ps → low i ≡ false → low j ≡ false
+  pub not-below : (i j : ℕ) → i ≤ j → j < length ps → low i ≡ false → low j ≡ false
   not-below i j a b h = go (low j) refl
     where
       go : (c : Bool) → low j ≡ c → c ≡ false
       go true e = sym (is-true (low i) (le-lt-trans (posAt ps i) (posAt ps j) t (R i j a b) (subst T (sym e) tt))) ∙ h
       go false e = refl
 
-  bracket-start : 2 ≤ length ps → le t (posAt ps 0) ≡ false → le (posAt ps (length ps - 1)) t ≡ false → Bracket ps t 0 (length ps - 1)
+  pub bracket-start : 2 ≤ length ps → le t (posAt ps 0) ≡ false → le (posAt ps (length ps - 1)) t ≡ false → Bracket ps t 0 (length ps - 1)
   bracket-start n first last =
       record {
         some = omega arith;
@@ -122,7 +122,7 @@ module _ (ps : List Float) (t : Float) (R : Rising ps) (number : isNan t ≡ fal
   found i l a b =
       sym (first-is t ps (i + 1) number (rising-numbers ps R) (omega arith) (λ k m. is-true (low k) (le-lt-trans (posAt ps k) (posAt ps i) t (R k i (omega arith) (omega arith)) (subst T (sym a) tt))) (λ m. b))
 
-  bracket-end : (base left : ℕ) → left ≤ 2 → Bracket ps t base left → ended ps t base left + 1 ≡ firstAt t ps
+  pub bracket-end : (base left : ℕ) → left ≤ 2 → Bracket ps t base left → ended ps t base left + 1 ≡ firstAt t ps
   bracket-end base left h B = go (ltb 1 left) (low (base + 1)) refl refl
     where
       go : (c d : Bool) → ltb 1 left ≡ c → low (base + 1) ≡ d → cond c (base + cond d 1 0) base + 1 ≡ firstAt t ps

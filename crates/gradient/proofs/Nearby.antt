@@ -2,9 +2,9 @@
 use mathlib.Core.Path.{_≡_, refl, sym, _∙_, ap, subst}
 use mathlib.Core.Bool.{Bool, true, false, not, cond, _&&_}
 use mathlib.Core.List.{List}
-use Prim.Native.Nat.{ℕ, _+_, _-_, _≤_, _<_}
+use Prim.Native.Nat.{ℕ, _+_, _-_, _*_, _≤_, _<_}
 use native.Mathlib.Omega.{arith}
-use lib.Dec.{T, ltb, eqb}
+use lib.Dec.{T, ltb}
 use lib.ListN.{length}
 use lib.Ieee.{Float, le, lt, isNan}
 use lib.Ieee.Bits.{is-true}
@@ -25,14 +25,15 @@ use Rattle.gradient.proofs.Choice.{rising-numbers, le-is, first-is, pla
 use Rattle.gradient.proofs.Same.{same-place}
 
 -- ---- the test, step by step
-two-answers : (a b : Bool) → eqb (cond a 1 0 + cond b 1 0) 2 ≡ (a && b)
-two-answers true true = refl
-two-answers true false = refl
-two-answers false true = refl
-two-answers false false = refl
+-- n times the number of answers is above n + k only where both are yes
+two-answers : (n k : ℕ) → k < n → (a b : Bool) → ltb (n + k) (n * (cond a 1 0 + cond b 1 0)) ≡ (a && b)
+two-answers n k h true true = lt-ltb (n + k) (n * (1 + 1)) (omega arith)
+two-answers n k h true false = le-ltb (n + k) (n * (1 + 0)) (omega arith)
+two-answers n k h false true = le-ltb (n + k) (n * (0 + 1)) (omega arith)
+two-answers n k h false false = le-ltb (n + k) (n * (0 + 0)) (omega arith)
 
-both : (a b : Bool) {x y : ℕ} → x ≡ cond a 1 0 → y ≡ cond b 1 0 → eqb (x + y) 2 ≡ (a && b)
-both a b {x} {y} p q = ap (λ (n : ℕ). eqb (n + y) 2) p ∙ ap (λ (n : ℕ). eqb (cond a 1 0 + n) 2) q ∙ two-answers a b
+pub both-yes : (n k : ℕ) → k < n → (a b : Bool) {x y : ℕ} → x ≡ cond a 1 0 → y ≡ cond b 1 0 → ltb (n + k) (n * (x + y)) ≡ (a && b)
+both-yes n k h a b {x} {y} p q = ap (λ (m : ℕ). ltb (n + k) (n * (m + y))) p ∙ ap (λ (m : ℕ). ltb (n + k) (n * (cond a 1 0 + m))) q ∙ two-answers n k h a b
 
 module _ (ps : List Float) (t : Float) (k : ℕ) where
   pub no-pair : k ≡ 0 → false ≡ isBetween ps t k
@@ -45,9 +46,9 @@ module _ (ps : List Float) (t : Float) (k : ℕ) where
     past-all h = simp (lt-ltb 0 k some, le-ltb k (length ps) h)
 
     module _ (inside : k < length ps) where
-      pub is-pair : {x y : ℕ} → x ≡ cond (lt (posAt ps (k - 1)) t) 1 0 → y ≡ cond (lt t (posAt ps k)) 1 0 → eqb (x + y) 2 ≡ isBetween ps t k
+      pub is-pair : {x y : ℕ} → x ≡ cond (lt (posAt ps (k - 1)) t) 1 0 → y ≡ cond (lt t (posAt ps k)) 1 0 → ltb (length ps + k) (length ps * (x + y)) ≡ isBetween ps t k
       unfolding isBetween
-      is-pair p q = both (lt (posAt ps (k - 1)) t) (lt t (posAt ps k)) p q ∙ simp (lt-ltb 0 k some, lt-ltb k (length ps) inside)
+      is-pair p q = both-yes (length ps) k inside (lt (posAt ps (k - 1)) t) (lt t (posAt ps k)) p q ∙ simp (lt-ltb 0 k some, lt-ltb k (length ps) inside)
 
   pub near-pair : isBetween ps t k ≡ true → Between k ≡ placeNear ps t k
   unfolding placeNear

@@ -11,7 +11,8 @@ use borrow.Author.Tests.{eq-eqb}
 use Rattle.gradient.specs.Stops.{colourAt, finiteRgba, mostStops}
 use Rattle.gradient.specs.Ramp.{checkOf}
 use Rattle.gradient.specs.Finite.{allFinite}
-use Rattle.gradient.specs.Sharp.{sharpPositions, channelAt, sharpChannels, bands, buildOf}
+use Rattle.gradient.specs.Place.{Rising}
+use Rattle.gradient.specs.Sharp.{sharpPositions, channelAt, sharpChannels, steady, bands, buildOf}
 use Rattle.gradient.specs.declared.Kind.the-variants.{Sharp}
 use Rattle.gradient.specs.declared.Checked.the-variants.{Fine}
 use Rattle.gradient.specs.declared.sharp.Built.the-variants.{Stops}
@@ -32,6 +33,10 @@ all-four p q r s = simp (p, q, r, s)
 colour-of : (colours : List Float) (n i : ℕ) → allFinite colours ≡ true → length colours ≡ 4 * n → i < 2 * n → finiteRgba (colourAt (sharpChannels colours n) i) ≡ true
 colour-of colours n i h e l =
     all-four (channel-finite colours n (4 * i) h e (omega arith)) (channel-finite colours n (4 * i + 1) h e (omega arith)) (channel-finite colours n (4 * i + 2) h e (omega arith)) (channel-finite colours n (4 * i + 3) h e (omega arith))
+
+-- finite positions that do not fall
+pub steady-rising : (max prev : Float) (ps : List Float) → steady max prev ps ≡ true → Rising ps
+steady-rising max prev ps h = rises ps (λ i l. finite-number (getD ps i nan) (steady-finite max prev ps h i l)) (λ j l. steady-rises max prev ps h j l)
 
 sized-as : (n p c : ℕ) → 1 ≤ n → n ≤ 256 → p ≡ 2 * n → c ≡ 8 * n → Shape Sharp p c 0
 unfolding mostStops
@@ -55,7 +60,7 @@ module _ (colours : List Float) (min max s : Float) (p c m : ℕ) (built : build
         sized = sized-as n (length positions) (length (sharpChannels colours n)) (k .least) (k .most) long (length-channels colours n);
         finite-at = fin-at;
         colour-finite = λ i l. colour-of colours n i (w .all-finite) (r .whole) (omega arith);
-        rising = rises positions (λ i l. finite-number (getD positions i nan) (fin-at i l)) (λ j l. steady-rises max (inf true) positions (w .steadily) j l);
+        rising = steady-rising max (inf true) positions (w .steadily);
       }
 
   pub built-passes : checkOf Sharp positions (sharpChannels colours n) [] ≡ Fine

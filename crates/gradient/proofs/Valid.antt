@@ -163,6 +163,24 @@ first-pos t (p ∷ ps) l h = simp h (omega arith)
 lt-of : (t x : Float) → isNan t ≡ false → isNan x ≡ false → le x t ≡ false → le t x ≡ true
 lt-of t x p q h = is-true (le t x) (lt→le t x (subst T (sym (lt-is t x p q ∙ ap not h)) tt))
 
+-- of two or more positions, none of them not-a-number
+module _ (ps : List Float) (two : 2 ≤ length ps) (numbers : (i : ℕ) → i < length ps → isNan (posAt ps i) ≡ false) (t : Float) where
+  between-cases : (k : ℕ) (a b n : Bool) → le t (posAt ps 0) ≡ a → le (posAt ps (length ps - 1)) t ≡ b → isNan t ≡ n
+      → cond a (End 0) (cond b (End (length ps - 1)) (cond n Nowhere (Between (firstAt t ps)))) ≡ Between k → (1 ≤ k) × (k < length ps)
+  between-cases k true b n A B N h = let z : _≡_ {A = ℕ} 0 1 = cc in absurd (omega arith)
+  between-cases k false true n A B N h = let z : _≡_ {A = ℕ} 0 1 = cc in absurd (omega arith)
+  between-cases k false false true A B N h = let z : _≡_ {A = ℕ} 0 1 = cc in absurd (omega arith)
+  between-cases k false false false A B N h =
+      let e : firstAt t ps ≡ k = cc in
+      let last = length ps - 1 in
+      let p : 1 ≤ firstAt t ps = first-pos t ps (omega arith) A in
+      let q : firstAt t ps ≤ last = first-le t ps last (omega arith) (lt-of t (posAt ps last) N (numbers last (omega arith)) B) in
+      (omega arith, omega arith)
+
+  pub pair-inside : (k : ℕ) → placeOf ps t ≡ Between k → (1 ≤ k) × (k < length ps)
+  unfolding placeOf
+  pair-inside k h = between-cases k (le t (posAt ps 0)) (le (posAt ps (length ps - 1)) t) (isNan t) refl refl refl h
+
 module _ (kind : Kind) (ps cs : List Float) (ks : List ℕ) (ok : Valid kind ps cs ks) (t : Float) where
   end-cases : (i : ℕ) (a b n : Bool) → cond a (End 0) (cond b (End (length ps - 1)) (cond n Nowhere (Between (firstAt t ps)))) ≡ End i → i < length ps
   end-cases i true b n h = let e : 0 ≡ i = cc in let l = ok .sized .least in omega arith
@@ -174,20 +192,5 @@ module _ (kind : Kind) (ps cs : List Float) (ks : List ℕ) (ok : Valid kind ps 
   unfolding placeOf
   end-inside i h = end-cases i (le t (posAt ps 0)) (le (posAt ps (length ps - 1)) t) (isNan t) h
 
-  between-cases : (k : ℕ) (a b n : Bool) → le t (posAt ps 0) ≡ a → le (posAt ps (length ps - 1)) t ≡ b → isNan t ≡ n
-      → cond a (End 0) (cond b (End (length ps - 1)) (cond n Nowhere (Between (firstAt t ps)))) ≡ Between k → (1 ≤ k) × (k < length ps)
-  between-cases k true b n A B N h = let z : _≡_ {A = ℕ} 0 1 = cc in absurd (omega arith)
-  between-cases k false true n A B N h = let z : _≡_ {A = ℕ} 0 1 = cc in absurd (omega arith)
-  between-cases k false false true A B N h = let z : _≡_ {A = ℕ} 0 1 = cc in absurd (omega arith)
-  between-cases k false false false A B N h =
-      let e : firstAt t ps ≡ k = cc in
-      let l = ok .sized .least in
-      let last = length ps - 1 in
-      let f : finite (posAt ps last) ≡ true = ok .finite-at last (omega arith) in
-      let p : 1 ≤ firstAt t ps = first-pos t ps (omega arith) A in
-      let q : firstAt t ps ≤ last = first-le t ps last (omega arith) (lt-of t (posAt ps last) N (finite-number (posAt ps last) f) B) in
-      (omega arith, omega arith)
-
   pub between-inside : (k : ℕ) → placeOf ps t ≡ Between k → (1 ≤ k) × (k < length ps)
-  unfolding placeOf
-  between-inside k h = between-cases k (le t (posAt ps 0)) (le (posAt ps (length ps - 1)) t) (isNan t) refl refl refl h
+  between-inside k h = pair-inside ps (ok .sized .least) (λ i l. finite-number (posAt ps i) (ok .finite-at i l)) t k h

@@ -97,7 +97,7 @@ pub fn check(positions: &[f32], channels: &[f32], codes: &[u8]) -> Checked
 }
 
 // The segment whose colour is taken: the first hit, and in a gap the one tried last.
-fn find_segment(positions: &[f32], t: f32) -> usize
+pub fn find_segment(positions: &[f32], t: f32) -> usize
     ensures { λ r. ⌜ r ≡ segmentFor (now (positions .entry)) t ⌝ }
 {
     let mut low = 0;
@@ -129,7 +129,7 @@ fn code(codes: &[u8], i: usize) -> u8
 }
 
 // Where x lies from left, 0, to right, 1.
-fn place_along(left: f32, right: f32, x: f32) -> f32
+pub fn place_along(left: f32, right: f32, x: f32) -> f32
     ensures { λ r. ⌜ r ≡ along left right x ⌝ }
 {
     let length = right - left;
@@ -178,7 +178,7 @@ fn bend(blending: u8, f: f32) -> f32
     f
 }
 
-fn blend(blending: u8, p: Rgba, q: Rgba, middle: f32, place: f32) -> Rgba
+pub fn blend(blending: u8, p: Rgba, q: Rgba, middle: f32, place: f32) -> Rgba
     ensures { λ r. ⌜ r ≡ blended blending p q middle place ⌝ }
 {
     if blending == STEP {
@@ -208,7 +208,7 @@ fn segment_colour(positions: &[f32], channels: &[f32], codes: &[u8], i: usize, t
     )
 }
 
-fn is_off_domain(t: f32) -> bool
+pub fn is_off_domain(t: f32) -> bool
     ensures { λ r. ⌜ r ≡ offDomain t ⌝ }
 {
     if t < 0.0 {

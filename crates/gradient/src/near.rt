@@ -7,8 +7,9 @@ use super::stops;
 ghost use mathlib.Core.Path.{_≡_};
 ghost use Rattle.gradient.specs.Near.{isBetween, placeNear, pairOr, segmentFor, segmentIn};
 
-// Two answers are added: one branch, which is seldom guessed wrong.
-fn is_between(positions: &[f32], t: f32, k: usize) -> bool
+// t lies past stop k - 1 and before stop k. Two answers are weighed as one number, since two branches would
+// be guessed wrong too often.
+pub fn is_between(positions: &[f32], t: f32, k: usize) -> bool
     ensures { λ r. ⌜ r ≡ isBetween (now (positions .entry)) t k ⌝ }
 {
     if k == 0 {
@@ -17,7 +18,8 @@ fn is_between(positions: &[f32], t: f32, k: usize) -> bool
     if positions.len() <= k {
         return false;
     }
-    stops::below(positions[k - 1], t) + stops::below(t, positions[k]) == 2
+    let n = positions.len();
+    n + k < n * (stops::below(positions[k - 1], t) + stops::below(t, positions[k]))
 }
 
 pub fn find_place(positions: &[f32], t: f32, k: usize) -> Place

@@ -108,7 +108,7 @@ fn copy(from: &[f32], to: &mut [f32])
 }
 
 // Finite positions that do not fall and end at max.
-fn is_steady(positions: &[f32], max: f32) -> bool
+pub fn is_steady(positions: &[f32], max: f32) -> bool
     ensures { λ r. ⌜ r ≡ steady max (inf true) (now (positions .entry)) ⌝ }
 {
     let mut prev = -1.0 / 0.0;

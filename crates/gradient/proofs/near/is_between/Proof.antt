@@ -1,6 +1,8 @@
--- `near::is_between` meets its contract: both answers are 1 exactly where their sum is 2. Assumes nothing.
+-- `near::is_between` meets its contract: both answers are yes exactly where their sum, times the length, is above n + k. Assumes nothing.
 use denote.Ref.{now}
 use native.Mathlib.Omega.{arith}
+use lib.ListN.{length}
+use Rattle.gradient.proofs.Narrowing.{passed-over}
 use Rattle.gradient.proofs.Nearby.{no-pair, past-all, is-pair}
 use borrow.Author.Needs.{needs}
 use Rattle.gradient.proofs.near.is_between.Statement.{statement}
@@ -11,6 +13,9 @@ returns c = let s = c .before .before in no-pair (now (s .args .positions)) (s .
 
 returns-2 : tie.Need-returns-2
 returns-2 c = let s = c .before .before .before in past-all (now (s .args .positions)) (s .args .t) (s .args .k) (omega arith) (c .if2 .taken)
+
+add-result : tie.Need-add-result
+add-result c = search needs
 
 sub-below : tie.Need-sub-below
 sub-below c = search needs
@@ -33,8 +38,11 @@ shared-slice-read-below-2 c = search needs
 below-requires-2 : tie.Need-below-requires-2
 below-requires-2 c κs = search needs
 
-add-result : tie.Need-add-result
-add-result c = search needs
+add-result-2 : tie.Need-add-result-2
+add-result-2 c = search needs
+
+mul-result : tie.Need-mul-result
+mul-result c = let s = c .before .before .before .before .before .before .before in omega (arith, passed-over (length (now (s .args .positions))) _ _ (c .before .before .below .ensures .1) (c .below2 .ensures .1), s .good .0 .1)
 
 returns-3 : tie.Need-returns-3
 returns-3 c = let s = c .before .before .before .before .before .before .before in is-pair (now (s .args .positions)) (s .args .t) (s .args .k) (omega arith) (c .before .before .before .before .if2 .left) (c .before .before .below .ensures .0) (c .below2 .ensures .0)
@@ -45,6 +53,7 @@ is-between-spec =
     (tie.spec
     returns
     returns-2
+    add-result
     sub-below
     mul-below
     shared-slice-read-below
@@ -52,5 +61,6 @@ is-between-spec =
     mul-below-2
     shared-slice-read-below-2
     below-requires-2
-    add-result
+    add-result-2
+    mul-result
     returns-3)
