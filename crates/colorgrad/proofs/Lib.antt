@@ -1,3 +1,5 @@
 pub mod Filling
 pub mod Painting
+pub mod Searching
+pub mod Hits
 pub mod Refreshing

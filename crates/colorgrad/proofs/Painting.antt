@@ -22,9 +22,11 @@ use Rattle.gradient.specs.declared.Checked.the-variants as checked
 use Rattle.gradient.proofs.Same.{same-colour}
 use Rattle.gradient.proofs.Nearby.{near-same, segment-colour}
 use Rattle.gradient.proofs.Valid.{valid}
+use Rattle.gradient.proofs.GimpLaws.{fine-shape}
 use Rattle.colorgrad.specs.Answers.{atAnswer, paintCheck, paintAnswer}
 use Rattle.colorgrad.specs.Canvas.{paintedOver, stopColour, roomOf, canvas}
 use Rattle.colorgrad.specs.Promises.{Ready, AtIs, PaintIs}
+use Rattle.colorgrad.specs.Unchecked.{Cut}
 use Rattle.colorgrad.specs.declared.Answer.the-variants as answer
 use Rattle.colorgrad.specs.declared.Painted.the-variants as painted
 
@@ -85,8 +87,12 @@ module _ (kind : Kind) (ps cs : List Float) (ks : List ℕ) (ts out : List Float
     pub as-kept : {out′ : List Float} → out′ ≡ paintedOver (stopColour v ps cs) ts out → out′ ≡ paintedOver (colourOf kind ps cs ks) ts out
     as-kept e = as-stops (e ∙ ap (λ (u : Kind). paintedOver (stopColour u ps cs) ts out) (sym h))
 
-    pub ready : checkOf kind ps cs ks ≡ checked.Fine → 4 * length ts ≤ length out → Ready ps ts out
-    ready fine l = let ok = valid kind ps cs ks (ap isGimp h ∙ stops) fine in record { two = ok .sized .least; rising = ok .rising; room = l }
+    pub ready : checkOf kind ps cs ks ≡ checked.Fine → 4 * length ts ≤ length out → Ready ps cs ts out
+    ready fine l = let ok = valid kind ps cs ks (ap isGimp h ∙ stops) fine in record { two = ok .sized .least; rising = ok .rising; four = ok .sized .four; room = l }
+
+  pub cut : kind ≡ Gimp → checkOf kind ps cs ks ≡ checked.Fine → Cut ps cs ks
+  unfolding checkOf
+  cut h fine = let s = fine-shape ps cs ks (sym (simp (ap isGimp h)) ∙ fine) in record { least = s .least; channels = s .channels; codes = s .codes }
 
   is-gimp : kind ≡ Gimp → (t : Float) → gimpColour ps cs ks t ≡ colourOf kind ps cs ks t
   unfolding colourOf

@@ -1,4 +1,5 @@
 pub mod Answers
 pub mod Canvas
+pub mod Unchecked
 pub mod Promises
 pub mod Fresh

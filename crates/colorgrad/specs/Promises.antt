@@ -14,9 +14,10 @@ use Rattle.colorgrad.specs.declared.Answer.{Answer}
 use Rattle.colorgrad.specs.declared.Painted.{Painted}
 
 -- what painting asks of stops and of the room
-pub record Ready (ps ts out : List Float) : Type 0 where
+pub record Ready (ps cs ts out : List Float) : Type 0 where
   pub two : 2 ≤ length ps
   pub rising : Rising ps
+  pub four : length cs ≡ 4 * length ps
   pub room : 4 * length ts ≤ length out
 
 module _ (kind : Kind) (ps cs : List Float) (ks : List ℕ) where

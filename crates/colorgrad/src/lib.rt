@@ -2,9 +2,7 @@
 use gradient::Checked;
 use gradient::Kind;
 use gradient::Rgba;
-use gradient::gimp;
 use gradient::near;
-use gradient::stops;
 ghost use mathlib.Core.Path.{_≡_};
 ghost use Prim.Native.Nat.{_+_, _*_, _≤_};
 ghost use lib.ListN.{length, replicate};
@@ -16,6 +14,10 @@ ghost use Rattle.gradient.specs.Ramp.{checkOf, colourOf};
 ghost use Rattle.gradient.specs.declared.Checked.the-variants.{Fine};
 ghost use Rattle.colorgrad.specs.Canvas.{channelsOf, paintedOver, stopColour};
 ghost use Rattle.colorgrad.specs.Promises.{Ready, AtIs, PaintIs};
+ghost use Rattle.colorgrad.specs.Unchecked.{Cut};
+
+mod pairs;
+mod segments;
 
 pub mod edits;
 pub mod lists;
@@ -63,14 +65,18 @@ fn put(out: &mut [f32], at: usize, c: Rgba)
     out[at + 3] = c.a;
 }
 
-// GIMP segments at ts, one after the other.
+// GIMP segments at ts. Where they are many and orderly, the segment of the last point is tried before the search.
 fn paint_gimp(positions: &[f32], channels: &[f32], codes: &[u8], ts: &[f32], out: &mut [f32])
-    requires { ⌜ 4 * length (now ts) ≤ length (now out) ⌝ }
+    requires { ⌜ Cut (now positions) (now channels) (now codes) × (4 * length (now ts) ≤ length (now out)) ⌝ }
     ensures { λ _. ⌜ now (out .exit) ≡ paintedOver (gimpColour (now (positions .entry)) (now (channels .entry)) (now (codes .entry))) (now (ts .entry)) (now (out .entry)) ⌝ }
 {
+    let orderly = segments::is_orderly(positions);
+    let mut s = 0;
     let mut i = 0;
     while i < ts.len() {
-        let c = gimp::colour_at(positions, channels, codes, ts[i]);
+        let t = ts[i];
+        s = segments::find_segment(positions, t, orderly, s);
+        let c = segments::colour_in(positions, channels, codes, s, t);
         put(out, 4 * i, c);
         i += 1;
     }
@@ -78,16 +84,17 @@ fn paint_gimp(positions: &[f32], channels: &[f32], codes: &[u8], ts: &[f32], out
 
 // Stops at ts. The pair of the last point is tried before the search.
 fn paint_stops(kind: Kind, positions: &[f32], channels: &[f32], ts: &[f32], out: &mut [f32])
-    requires { ⌜ Ready (now positions) (now ts) (now out) ⌝ }
+    requires { ⌜ Ready (now positions) (now channels) (now ts) (now out) ⌝ }
     ensures { λ _. ⌜ now (out .exit) ≡ paintedOver (stopColour kind (now (positions .entry)) (now (channels .entry))) (now (ts .entry)) (now (out .entry)) ⌝ }
 {
+    let span = pairs::span_of(positions.len());
     let mut k = 0;
     let mut i = 0;
     while i < ts.len() {
         let t = ts[i];
-        let place = near::find_place(positions, t, k);
+        let place = pairs::find_place(positions, t, k, span);
         k = near::pair_or(place, k);
-        let c = stops::colour_in(kind, positions, channels, t, place);
+        let c = pairs::colour_in(kind, positions, channels, t, place);
         put(out, 4 * i, c);
         i += 1;
     }
@@ -106,7 +113,7 @@ fn renewed(channels: &[f32], n: usize, s: [[f32; 4]; 4], k: usize, j: usize) -> 
 
 // Catmull-Rom stops at ts. A segment costs twelve roots, so it is kept while the pair stays.
 fn paint_catmull(positions: &[f32], channels: &[f32], ts: &[f32], out: &mut [f32])
-    requires { ⌜ Ready (now positions) (now ts) (now out) ⌝ }
+    requires { ⌜ Ready (now positions) (now channels) (now ts) (now out) ⌝ }
     ensures { λ _. ⌜ now (out .exit) ≡ paintedOver (stopColour Kind.CatmullRom (now (positions .entry)) (now (channels .entry))) (now (ts .entry)) (now (out .entry)) ⌝ }
 {
     let n = positions.len();

@@ -2,7 +2,7 @@
 use mathlib.Core.Path.{refl}
 use denote.Ref.{now}
 use Rattle.gradient.specs.declared.Kind.the-variants.{Linear, Smoothstep, Sharp, Basis, CatmullRom}
-use Rattle.colorgrad.proofs.Painting.{ready, as-stops, as-kept, as-gimp}
+use Rattle.colorgrad.proofs.Painting.{ready, cut, as-stops, as-kept, as-gimp}
 use borrow.Author.Needs.{needs}
 use Rattle.colorgrad.proofs.paint_all.Statement.{statement}
 use Rattle.colorgrad.proofs.paint_all.Tie as tie
@@ -41,7 +41,7 @@ enum-told-6 : tie.Need-enum-told-6
 enum-told-6 c = search needs
 
 paint-gimp-requires : tie.Need-paint-gimp-requires
-paint-gimp-requires c κs = search needs
+paint-gimp-requires c κs = let s = c .before .before .before .before .before .before .before .before in (cut (s .args .kind) (now (s .args .positions)) (now (s .args .channels)) (now (s .args .codes)) (now (s .args .ts)) (now (s .args .out)) (c .before .enum-told6 .given .1) (s .pre .0), s .pre .1)
 
 same-length : tie.Need-same-length
 same-length c = search needs
