@@ -11,8 +11,7 @@ use Rattle.gradient.specs.declared.Rgba.{Rgba}
 use Rattle.gradient.specs.declared.Kind.{Kind}
 use Rattle.gradient.specs.declared.Checked.the-variants as checked
 use Rattle.gradient.proofs.Same.{same-function}
-use Rattle.linearize.specs.Constants.{cells, thresholdOf}
-use Rattle.linearize.specs.Difference.{differs}
+use Rattle.linearize.specs.Constants.{cells}
 use Rattle.linearize.specs.Midpoints.{Gradient, Far}
 use Rattle.linearize.specs.Cells.{summed}
 use Rattle.linearize.specs.Places.{listOf}
@@ -55,19 +54,19 @@ module _ (kind : Kind) (ps cs : List Float) (ks : List ℕ) (k : ℕ) (colour : 
         ∙ same-function kind ps (changed cs k colour) ks (changed-fine ps cs k colour (channels-there kind ps cs ks k colour d .0) (d .colour-fine) kind ks (d .stops) (d .ramp))
 
     -- a record refreshed with the values in hand is the definition's
-    pub anew-of : (th lo hi : Float) (cs′ rows′ : List Float) (counts′ : List ℕ) (n : ℕ)
-        → th ≡ thresholdOf asked → lo ≡ minOf kind ps → hi ≡ maxOf kind ps → cs′ ≡ changed cs k colour
-        → RecordAnew (anyColour kind ps cs′ ks) (differs th) (outsideOf (reachOf kind) ps k) lo hi rows rows′ counts counts′ n
+    pub anew-of : (far : Far) (lo hi : Float) (cs′ rows′ : List Float) (counts′ : List ℕ) (n : ℕ)
+        → far ≡ farOf asked → lo ≡ minOf kind ps → hi ≡ maxOf kind ps → cs′ ≡ changed cs k colour
+        → RecordAnew (anyColour kind ps cs′ ks) far (outsideOf (reachOf kind) ps k) lo hi rows rows′ counts counts′ n
         → RecordAnew (newColour kind ps cs ks k colour) (farOf asked) (away kind ps cs ks k colour) (minOf kind ps) (maxOf kind ps) rows rows′ counts counts′ n
-    anew-of th lo hi cs′ rows′ counts′ n p q r e w = rw (← p, ← q, ← r, ← new-function cs′ e) w
+    anew-of far lo hi cs′ rows′ counts′ n p q r e w = rw (← p, ← q, ← r, ← new-function cs′ e) w
 
-    pub refresh-done : (th lo hi : Float) (cs′ rows′ : List Float) (counts′ : List ℕ) (n : ℕ)
-        → th ≡ thresholdOf asked → lo ≡ minOf kind ps → hi ≡ maxOf kind ps → cs′ ≡ changed cs k colour
-        → RecordAnew (anyColour kind ps cs′ ks) (differs th) (outsideOf (reachOf kind) ps k) lo hi rows rows′ counts counts′ n
+    pub refresh-done : (far : Far) (lo hi : Float) (cs′ rows′ : List Float) (counts′ : List ℕ) (n : ℕ)
+        → far ≡ farOf asked → lo ≡ minOf kind ps → hi ≡ maxOf kind ps → cs′ ≡ changed cs k colour
+        → RecordAnew (anyColour kind ps cs′ ks) far (outsideOf (reachOf kind) ps k) lo hi rows rows′ counts counts′ n
         → Refreshes kind ps cs ks k colour asked rows counts rows′ counts′ (refreshed.Done (3 * n))
     unfolding refreshAnswer refreshEvaluations refreshRows refreshCounts newRows newCounts newEvaluations anewEvaluations
-    refresh-done th lo hi cs′ rows′ counts′ n p q r e w =
-        let d = anew-of th lo hi cs′ rows′ counts′ n p q r e w in
+    refresh-done far lo hi cs′ rows′ counts′ n p q r e w =
+        let d = anew-of far lo hi cs′ rows′ counts′ n p q r e w in
         record {
           answer = rw (h, d .tried);
           number = rw h;
@@ -83,15 +82,15 @@ module _ (kind : Kind) (ps cs : List Float) (ks : List ℕ) (k : ℕ) (colour : 
   unfolding refreshRows refreshCounts refreshPositions refreshChannels
   refresh-list-refused n e = record { told = tells _ _ _ _ _ (rw e); written = rw e; counted = rw e; positions = rw e; channels = rw e }
 
-  pub refresh-list-done : (h : refreshCheck kind ps cs ks k colour rows counts ≡ checked.Fine) (th lo hi : Float) (cs′ rows′ : List Float) (counts′ : List ℕ) (n : ℕ) (ops′ ocs′ : List Float) (made r : Listed)
-      → th ≡ thresholdOf asked → lo ≡ minOf kind ps → hi ≡ maxOf kind ps → cs′ ≡ changed cs k colour
-      → RecordAnew (anyColour kind ps cs′ ks) (differs th) (outsideOf (reachOf kind) ps k) lo hi rows rows′ counts counts′ n
-      → ListMade (anyColour kind ps cs′ ks) (differs th) (roomOf ops ocs) (listOf rows′ counts′ hi) ops ops′ ocs ocs′ made
+  pub refresh-list-done : (h : refreshCheck kind ps cs ks k colour rows counts ≡ checked.Fine) (far : Far) (lo hi : Float) (cs′ rows′ : List Float) (counts′ : List ℕ) (n : ℕ) (ops′ ocs′ : List Float) (made r : Listed)
+      → far ≡ farOf asked → lo ≡ minOf kind ps → hi ≡ maxOf kind ps → cs′ ≡ changed cs k colour
+      → RecordAnew (anyColour kind ps cs′ ks) far (outsideOf (reachOf kind) ps k) lo hi rows rows′ counts counts′ n
+      → ListMade (anyColour kind ps cs′ ks) far (roomOf ops ocs) (listOf rows′ counts′ hi) ops ops′ ocs ocs′ made
       → r ≡ withSampling (3 * n) made
       → RefreshLists kind ps cs ks k colour asked rows counts rows′ counts′ ops ops′ ocs ocs′ r
   unfolding refreshRows refreshCounts refreshPositions refreshChannels newRows newCounts newEvaluations anewEvaluations listAnswer
-  refresh-list-done h th lo hi cs′ rows′ counts′ n ops′ ocs′ made r p q b e w l f =
-      let d = anew-of kind ps cs ks k colour asked rows counts h th lo hi cs′ rows′ counts′ n p q b e w in
+  refresh-list-done h far lo hi cs′ rows′ counts′ n ops′ ocs′ made r p q b e w l f =
+      let d = anew-of kind ps cs ks k colour asked rows counts h far lo hi cs′ rows′ counts′ n p q b e w in
       let m : ListMade (newColour kind ps cs ks k colour) (farOf asked) (roomOf ops ocs) (newList kind ps cs ks k colour asked rows counts) ops ops′ ocs ocs′ made =
       rw (← d .written, ← d .counted, ← p, ← b, ← new-function kind ps cs ks k colour asked rows counts h cs′ e) l in
       record {

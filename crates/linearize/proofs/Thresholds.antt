@@ -1,9 +1,13 @@
--- A sampler's threshold, by the tests that lead to it. Assumes nothing.
-use mathlib.Core.Path.{_≡_}
+-- A sampler's threshold, by the tests that lead to it; and that its cutoff makes the same test without a root. Assumes nothing.
+use mathlib.Core.Path.{_≡_, sym, ap, _∙_, fun-ext}
 use mathlib.Core.Bool.{true, false}
-use lib.Ieee.{Float, lt}
+use lib.Ieee.{Float, binary32, lt}
+use lib.Ieee.Fits.{add-fits}
 use lib.Ieee.Scale.{finite}
+use Rattle.sqrt.specs.Cutoff.{IsCutoff}
 use Rattle.linearize.specs.Constants.{thresholdOf, leastThreshold, mostThreshold, defaultThreshold}
+use Rattle.linearize.specs.Difference.{clampedOf, squaresOf, differs, exceeds}
+use Rattle.linearize.specs.Desk.{farOf}
 
 module _ (x : Float) where
   pub is-default : finite x ≡ false → defaultThreshold ≡ thresholdOf x
@@ -21,3 +25,8 @@ module _ (x : Float) where
   pub is-same : finite x ≡ true → lt x leastThreshold ≡ false → lt mostThreshold x ≡ false → x ≡ thresholdOf x
   unfolding thresholdOf
   is-same f l m = simp (f, l, m)
+
+pub far-by-cutoff : (asked th cutoff : Float) → th ≡ thresholdOf asked → IsCutoff th cutoff → exceeds cutoff ≡ farOf asked
+unfolding exceeds differs squaresOf
+far-by-cutoff asked th cutoff e w =
+    fun-ext (λ x. fun-ext (λ y. sym (w .cuts (squaresOf (clampedOf x) (clampedOf y)) (add-fits binary32 _ _)) ∙ ap (λ (t : Float). differs t x y) e))

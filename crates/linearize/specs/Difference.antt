@@ -18,3 +18,7 @@ squaresOf x y = square (x .r ⊖ y .r) ⊕ square (x .g ⊖ y .g) ⊕ square (x 
 
 unfoldable pub differs : Float → Rgba → Rgba → Bool
 differs threshold x y = lt threshold (rootOf (squaresOf (clampedOf x) (clampedOf y)) ⊘ f2)
+
+-- the same by one comparison, with the cutoff of a threshold
+unfoldable pub exceeds : Float → Rgba → Rgba → Bool
+exceeds cutoff x y = lt cutoff (squaresOf (clampedOf x) (clampedOf y))

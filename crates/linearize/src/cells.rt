@@ -12,7 +12,7 @@ ghost use lib.Seq.{sets};
 ghost use Rattle.float.specs.F32.{f0};
 ghost use Rattle.gradient.specs.Ramp.{anyColour};
 ghost use Rattle.linearize.specs.Constants.{cells, rowLength, recordLength};
-ghost use Rattle.linearize.specs.Difference.{differs};
+ghost use Rattle.linearize.specs.Difference.{exceeds};
 ghost use Rattle.linearize.specs.Cells.{edgeOf};
 ghost use Rattle.linearize.specs.Promises.{Coloured, HalvesTo, RowIs, CellAnew, RecordIs};
 
@@ -37,7 +37,7 @@ fn halve(
     positions: &[f32],
     channels: &[f32],
     codes: &[u8],
-    threshold: f32,
+    cutoff: f32,
     row: &mut [f32],
     at: usize,
     p: Point,
@@ -46,32 +46,21 @@ fn halve(
 ) -> Halved
     requires { ⌜ at + 2 ^ left ≤ length (now row) + 1 ⌝ }
     requires { ⌜ Coloured (anyColour kind (now positions) (now channels) (now codes)) p × Coloured (anyColour kind (now positions) (now channels) (now codes)) q ⌝ }
-    ensures { λ r. ⌜ HalvesTo (anyColour kind (now (positions .entry)) (now (channels .entry)) (now (codes .entry))) (differs threshold) left (p .t) (q .t) at (now (row .entry)) (now (row .exit)) r ⌝ }
+    ensures { λ r. ⌜ HalvesTo (anyColour kind (now (positions .entry)) (now (channels .entry)) (now (codes .entry))) (exceeds cutoff) left (p .t) (q .t) at (now (row .entry)) (now (row .exit)) r ⌝ }
 {
     if left == 0 {
         return Halved { at, tries: 0 };
     }
     let m = evaluate(kind, positions, channels, codes, (p.t + q.t) / 2.0);
     if !stands_out(
-        threshold,
+        cutoff,
         m.colour,
         interpolate_linear(p.colour, q.colour, 0.5),
     ) {
         return Halved { at, tries: 1 };
     }
     let n = left - 1;
-    let a = halve(
-        kind,
-        positions,
-        channels,
-        codes,
-        threshold,
-        row,
-        at,
-        p,
-        m,
-        n,
-    );
+    let a = halve(kind, positions, channels, codes, cutoff, row, at, p, m, n);
     let k = a.at;
     row[k] = m.t;
     let b = halve(
@@ -79,7 +68,7 @@ fn halve(
         positions,
         channels,
         codes,
-        threshold,
+        cutoff,
         row,
         k + 1,
         m,
@@ -109,14 +98,14 @@ fn row_into(
     positions: &[f32],
     channels: &[f32],
     codes: &[u8],
-    threshold: f32,
+    cutoff: f32,
     row: &mut [f32],
     p: Point,
     q: Point,
 ) -> Halved
     requires { ⌜ length (now row) ≡ rowLength ⌝ }
     requires { ⌜ Coloured (anyColour kind (now positions) (now channels) (now codes)) p × Coloured (anyColour kind (now positions) (now channels) (now codes)) q ⌝ }
-    ensures { λ r. ⌜ RowIs (anyColour kind (now (positions .entry)) (now (channels .entry)) (now (codes .entry))) (differs threshold) (p .t) (q .t) (now (row .exit)) r ⌝ }
+    ensures { λ r. ⌜ RowIs (anyColour kind (now (positions .entry)) (now (channels .entry)) (now (codes .entry))) (exceeds cutoff) (p .t) (q .t) (now (row .exit)) r ⌝ }
 {
     row[0] = p.t;
     let h = halve(
@@ -124,7 +113,7 @@ fn row_into(
         positions,
         channels,
         codes,
-        threshold,
+        cutoff,
         row,
         1,
         p,
@@ -150,7 +139,7 @@ pub(crate) fn cell_into(
     positions: &[f32],
     channels: &[f32],
     codes: &[u8],
-    threshold: f32,
+    cutoff: f32,
     min: f32,
     max: f32,
     i: usize,
@@ -162,7 +151,7 @@ pub(crate) fn cell_into(
     requires { ⌜ (i < cells) × ((length (now rows) ≡ recordLength) × (length (now counts) ≡ cells)) ⌝ }
     requires { ⌜ (p .t ≡ edgeOf min max i) × (q .t ≡ edgeOf min max (i + 1)) ⌝ }
     requires { ⌜ Coloured (anyColour kind (now positions) (now channels) (now codes)) p × Coloured (anyColour kind (now positions) (now channels) (now codes)) q ⌝ }
-    ensures { λ r. ⌜ CellAnew (anyColour kind (now (positions .entry)) (now (channels .entry)) (now (codes .entry))) (differs threshold) min max i (now (rows .entry)) (now (rows .exit)) (now (counts .entry)) (now (counts .exit)) r ⌝ }
+    ensures { λ r. ⌜ CellAnew (anyColour kind (now (positions .entry)) (now (channels .entry)) (now (codes .entry))) (exceeds cutoff) min max i (now (rows .entry)) (now (rows .exit)) (now (counts .entry)) (now (counts .exit)) r ⌝ }
 {
     let a = i * Sampler::ROW;
     let e = a + Sampler::ROW;
@@ -171,7 +160,7 @@ pub(crate) fn cell_into(
         positions,
         channels,
         codes,
-        threshold,
+        cutoff,
         &mut rows[a..e],
         p,
         q,
@@ -186,14 +175,14 @@ pub(crate) fn sample_cells(
     positions: &[f32],
     channels: &[f32],
     codes: &[u8],
-    threshold: f32,
+    cutoff: f32,
     min: f32,
     max: f32,
     rows: &mut [f32],
     counts: &mut [u8],
 ) -> usize
     requires { ⌜ (length (now rows) ≡ recordLength) × (length (now counts) ≡ cells) ⌝ }
-    ensures { λ r. ⌜ RecordIs (anyColour kind (now (positions .entry)) (now (channels .entry)) (now (codes .entry))) (differs threshold) min max (now (rows .exit)) (now (counts .exit)) r ⌝ }
+    ensures { λ r. ⌜ RecordIs (anyColour kind (now (positions .entry)) (now (channels .entry)) (now (codes .entry))) (exceeds cutoff) min max (now (rows .exit)) (now (counts .exit)) r ⌝ }
 {
     let mut n = 0;
     let mut i = 0;
@@ -206,7 +195,7 @@ pub(crate) fn sample_cells(
             positions,
             channels,
             codes,
-            threshold,
+            cutoff,
             min,
             max,
             i,

@@ -1,7 +1,9 @@
 // How far apart two colours are.
+use crate::Sampler;
 use gradient::Rgba;
 ghost use mathlib.Core.Path.{_≡_};
-ghost use Rattle.linearize.specs.Difference.{clampedOf, squaresOf, differs};
+ghost use Rattle.linearize.specs.Difference.{clampedOf, squaresOf, exceeds};
+ghost use Rattle.linearize.specs.Desk.{farOf};
 
 pub(crate) fn clamped(x: Rgba) -> Rgba
     ensures { λ r. ⌜ r ≡ clampedOf x ⌝ }
@@ -24,9 +26,17 @@ pub(crate) fn squares(x: Rgba, y: Rgba) -> f32
     dr * dr + dg * dg + db * db + da * da
 }
 
-// Whether the clamped colours differ by more than the threshold. The only place where that is tested.
-pub(crate) fn stands_out(threshold: f32, x: Rgba, y: Rgba) -> bool
-    ensures { λ r. ⌜ r ≡ differs threshold x y ⌝ }
+// The cutoff of a threshold as it was asked for: colours differ by more where their squares are above it.
+pub(crate) fn cutoff_of(threshold: f32) -> f32
+    ensures { λ r. ⌜ exceeds r ≡ farOf threshold ⌝ }
 {
-    sqrt::root(squares(clamped(x), clamped(y))) / 2.0 > threshold
+    let sampler = Sampler::new(threshold);
+    sqrt::half_root::cutoff(sampler.threshold)
+}
+
+// Whether the clamped colours differ by more than the threshold of the cutoff. The only place where that is tested.
+pub(crate) fn stands_out(cutoff: f32, x: Rgba, y: Rgba) -> bool
+    ensures { λ r. ⌜ r ≡ exceeds cutoff x y ⌝ }
+{
+    squares(clamped(x), clamped(y)) > cutoff
 }

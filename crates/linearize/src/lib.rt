@@ -56,10 +56,11 @@ impl Sampler {
     }
 }
 
-// A number and its colour, so that no point is evaluated twice.
+// A number and its colour, so that no point is evaluated twice. The colour comes first, so that a point is read in the
+// same parts in which it was written.
 pub(crate) struct Point {
-    pub(crate) t: f32,
     pub(crate) colour: Rgba,
+    pub(crate) t: f32,
 }
 
 // Where the next point goes, and how many stretches were tried.
@@ -160,7 +161,7 @@ pub fn sample(
     match check_sample(kind, positions, channels, codes, rows.len(), counts.len()) {
         Checked::Refused(n) => Sampled::Refused(n),
         Checked::Fine => {
-            let sampler = Sampler::new(threshold);
+            let cutoff = difference::cutoff_of(threshold);
             let min = gradient::min_of(kind, positions);
             let max = gradient::max_of(kind, positions);
             let n = cells::sample_cells(
@@ -168,7 +169,7 @@ pub fn sample(
                 positions,
                 channels,
                 codes,
-                sampler.threshold,
+                cutoff,
                 min,
                 max,
                 rows,
@@ -232,14 +233,14 @@ pub fn thin(
     match check_thin(kind, positions, channels, codes, rows, counts) {
         Checked::Refused(n) => Listed::Refused(n),
         Checked::Fine => {
-            let sampler = Sampler::new(threshold);
+            let cutoff = difference::cutoff_of(threshold);
             let max = gradient::max_of(kind, positions);
             thinning::thin_record(
                 kind,
                 positions,
                 channels,
                 codes,
-                sampler.threshold,
+                cutoff,
                 max,
                 rows,
                 counts,
@@ -285,7 +286,7 @@ pub fn flatten(
     match check_sample(kind, positions, channels, codes, rows.len(), counts.len()) {
         Checked::Refused(n) => Listed::Refused(n),
         Checked::Fine => {
-            let sampler = Sampler::new(threshold);
+            let cutoff = difference::cutoff_of(threshold);
             let min = gradient::min_of(kind, positions);
             let max = gradient::max_of(kind, positions);
             let n = cells::sample_cells(
@@ -293,7 +294,7 @@ pub fn flatten(
                 positions,
                 channels,
                 codes,
-                sampler.threshold,
+                cutoff,
                 min,
                 max,
                 rows,
@@ -304,7 +305,7 @@ pub fn flatten(
                 positions,
                 channels,
                 codes,
-                sampler.threshold,
+                cutoff,
                 max,
                 rows,
                 counts,

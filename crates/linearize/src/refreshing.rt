@@ -6,6 +6,7 @@ use crate::cells::cell_into;
 use crate::cells::edge;
 use crate::cells::evaluate;
 use crate::check_thin;
+use crate::difference::cutoff_of;
 use crate::thinning::put_colour;
 use crate::thinning::thin_record;
 use crate::with_sampling;
@@ -18,7 +19,7 @@ ghost use lib.ListN.{length, take};
 ghost use Rattle.float.specs.Number.{Within};
 ghost use Rattle.gradient.specs.Ramp.{anyColour};
 ghost use Rattle.linearize.specs.Constants.{cells, recordLength};
-ghost use Rattle.linearize.specs.Difference.{differs};
+ghost use Rattle.linearize.specs.Difference.{exceeds};
 ghost use Rattle.linearize.specs.Stretch.{reachOf, beforeOf, afterOf, outsideOf, midsOutside, clearOf};
 ghost use Rattle.linearize.specs.Anew.{Domain, CellRefreshed, RecordAnew};
 ghost use Rattle.linearize.specs.Edit.{changed};
@@ -134,7 +135,7 @@ fn refresh_cell(
     positions: &[f32],
     channels: &[f32],
     codes: &[u8],
-    threshold: f32,
+    cutoff: f32,
     min: f32,
     max: f32,
     reach: usize,
@@ -145,7 +146,7 @@ fn refresh_cell(
 ) -> usize
     requires { ⌜ (i < cells) × ((length (now rows) ≡ recordLength) × (length (now counts) ≡ cells)) ⌝ }
     requires { ⌜ (k < length (now positions)) × Domain min max ⌝ }
-    ensures { λ r. ⌜ CellRefreshed (anyColour kind (now (positions .entry)) (now (channels .entry)) (now (codes .entry))) (differs threshold) (outsideOf reach (now (positions .entry)) k) min max i (now (rows .entry)) (now (rows .exit)) (now (counts .entry)) (now (counts .exit)) r ⌝ }
+    ensures { λ r. ⌜ CellRefreshed (anyColour kind (now (positions .entry)) (now (channels .entry)) (now (codes .entry))) (exceeds cutoff) (outsideOf reach (now (positions .entry)) k) min max i (now (rows .entry)) (now (rows .exit)) (now (counts .entry)) (now (counts .exit)) r ⌝ }
 {
     let t0 = edge(min, max, i);
     let t1 = edge(min, max, i + 1);
@@ -159,7 +160,7 @@ fn refresh_cell(
         positions,
         channels,
         codes,
-        threshold,
+        cutoff,
         min,
         max,
         i,
@@ -176,7 +177,7 @@ pub(crate) fn refresh_cells(
     positions: &[f32],
     channels: &[f32],
     codes: &[u8],
-    threshold: f32,
+    cutoff: f32,
     min: f32,
     max: f32,
     k: usize,
@@ -185,7 +186,7 @@ pub(crate) fn refresh_cells(
 ) -> usize
     requires { ⌜ (length (now rows) ≡ recordLength) × (length (now counts) ≡ cells) ⌝ }
     requires { ⌜ (k < length (now positions)) × Domain min max ⌝ }
-    ensures { λ r. ⌜ RecordAnew (anyColour kind (now (positions .entry)) (now (channels .entry)) (now (codes .entry))) (differs threshold) (outsideOf (reachOf kind) (now (positions .entry)) k) min max (now (rows .entry)) (now (rows .exit)) (now (counts .entry)) (now (counts .exit)) r ⌝ }
+    ensures { λ r. ⌜ RecordAnew (anyColour kind (now (positions .entry)) (now (channels .entry)) (now (codes .entry))) (exceeds cutoff) (outsideOf (reachOf kind) (now (positions .entry)) k) min max (now (rows .entry)) (now (rows .exit)) (now (counts .entry)) (now (counts .exit)) r ⌝ }
 {
     let reach = reach_of(kind);
     let mut n = 0;
@@ -196,7 +197,7 @@ pub(crate) fn refresh_cells(
             positions,
             channels,
             codes,
-            threshold,
+            cutoff,
             min,
             max,
             reach,
@@ -289,7 +290,7 @@ pub fn refresh(
     match check_refresh(kind, positions, channels, codes, k, colour, rows, counts) {
         Checked::Refused(n) => Refreshed::Refused(n),
         Checked::Fine => {
-            let sampler = Sampler::new(threshold);
+            let cutoff = cutoff_of(threshold);
             let min = gradient::min_of(kind, positions);
             let max = gradient::max_of(kind, positions);
             let mut copy = [0.0f32; 4 * gradient::stops::MOST_STOPS];
@@ -300,7 +301,7 @@ pub fn refresh(
                 positions,
                 &copy[..m],
                 codes,
-                sampler.threshold,
+                cutoff,
                 min,
                 max,
                 k,
@@ -333,7 +334,7 @@ pub fn refresh_list(
     match check_refresh(kind, positions, channels, codes, k, colour, rows, counts) {
         Checked::Refused(n) => Listed::Refused(n),
         Checked::Fine => {
-            let sampler = Sampler::new(threshold);
+            let cutoff = cutoff_of(threshold);
             let min = gradient::min_of(kind, positions);
             let max = gradient::max_of(kind, positions);
             let mut copy = [0.0f32; 4 * gradient::stops::MOST_STOPS];
@@ -344,7 +345,7 @@ pub fn refresh_list(
                 positions,
                 &copy[..m],
                 codes,
-                sampler.threshold,
+                cutoff,
                 min,
                 max,
                 k,
@@ -356,7 +357,7 @@ pub fn refresh_list(
                 positions,
                 &copy[..m],
                 codes,
-                sampler.threshold,
+                cutoff,
                 max,
                 rows,
                 counts,

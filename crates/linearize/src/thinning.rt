@@ -17,7 +17,7 @@ ghost use lib.ListN.{length, drop};
 ghost use lib.Seq.{sets};
 ghost use Rattle.gradient.specs.Ramp.{anyColour};
 ghost use Rattle.linearize.specs.Constants.{cells, rowLength, recordLength};
-ghost use Rattle.linearize.specs.Difference.{differs};
+ghost use Rattle.linearize.specs.Difference.{exceeds};
 ghost use Rattle.linearize.specs.Places.{listOf, nextPlace, pointAt};
 ghost use Rattle.linearize.specs.Kept.{nearOf, stopRefusal, channelsOf, roomOf, writtenOf};
 ghost use Rattle.linearize.specs.Walk.{run, emitRun, stepRun, outcome};
@@ -124,7 +124,7 @@ fn emit(
 
 // Weighs x between the last point kept and the next: it is skipped, dropped or kept.
 fn step(
-    threshold: f32,
+    cutoff: f32,
     room: usize,
     s: Progress,
     x: Point,
@@ -134,7 +134,7 @@ fn step(
 ) -> Progress
     requires { ⌜ (room ≤ length (now «out_positions»)) × (4 * room ≤ length (now «out_channels»)) ⌝ }
     requires { ⌜ s .tried < recordLength ⌝ }
-    ensures { λ r. ⌜ run r (now («out_positions» .exit)) (now («out_channels» .exit)) ≡ stepRun (differs threshold) room (run s (now («out_positions» .entry)) (now («out_channels» .entry))) x next ⌝ }
+    ensures { λ r. ⌜ run r (now («out_positions» .exit)) (now («out_channels» .exit)) ≡ stepRun (exceeds cutoff) room (run s (now («out_positions» .entry)) (now («out_channels» .entry))) x next ⌝ }
 {
     let kept = s.last;
     if near(kept.t, x.t) {
@@ -147,7 +147,7 @@ fn step(
         refusal: s.refusal,
     };
     let foretold = interpolate_linear(kept.colour, next.colour, (x.t - kept.t) / (next.t - kept.t));
-    if !stands_out(threshold, x.colour, foretold) {
+    if !stands_out(cutoff, x.colour, foretold) {
         return weighed;
     }
     emit(room, weighed, x, out_positions, out_channels)
@@ -159,7 +159,7 @@ fn thin_points(
     positions: &[f32],
     channels: &[f32],
     codes: &[u8],
-    threshold: f32,
+    cutoff: f32,
     max: f32,
     room: usize,
     start: Progress,
@@ -170,7 +170,7 @@ fn thin_points(
 ) -> Progress
     requires { ⌜ (room ≤ length (now «out_positions»)) × (4 * room ≤ length (now «out_channels»)) ⌝ }
     requires { ⌜ Ready (now rows) (now counts) × Started (anyColour kind (now positions) (now channels) (now codes)) room start ⌝ }
-    ensures { λ r. ⌜ Thinned (outcome (anyColour kind (now (positions .entry)) (now (channels .entry)) (now (codes .entry))) (differs threshold) room (run start (now («out_positions» .entry)) (now («out_channels» .entry))) (drop 1 (listOf (now (rows .entry)) (now (counts .entry)) max))) room (run r (now («out_positions» .exit)) (now («out_channels» .exit))) ⌝ }
+    ensures { λ r. ⌜ Thinned (outcome (anyColour kind (now (positions .entry)) (now (channels .entry)) (now (codes .entry))) (exceeds cutoff) room (run start (now («out_positions» .entry)) (now («out_channels» .entry))) (drop 1 (listOf (now (rows .entry)) (now (counts .entry)) max))) room (run r (now («out_positions» .exit)) (now («out_channels» .exit))) ⌝ }
 {
     let mut s = start;
     let mut place = next_place(counts, Place { row: 0, index: 0 });
@@ -178,7 +178,7 @@ fn thin_points(
     while place.row < Sampler::CELLS {
         let after = next_place(counts, place);
         let next = evaluate(kind, positions, channels, codes, point_at(rows, max, after));
-        s = step(threshold, room, s, x, next, out_positions, out_channels);
+        s = step(cutoff, room, s, x, next, out_positions, out_channels);
         let refusal = s.refusal;
         if refusal != 0 {
             return s;
@@ -225,7 +225,7 @@ pub(crate) fn thin_record(
     positions: &[f32],
     channels: &[f32],
     codes: &[u8],
-    threshold: f32,
+    cutoff: f32,
     max: f32,
     rows: &[f32],
     counts: &[u8],
@@ -233,7 +233,7 @@ pub(crate) fn thin_record(
     out_channels: &mut [f32],
 ) -> Listed
     requires { ⌜ Ready (now rows) (now counts) ⌝ }
-    ensures { λ r. ⌜ ListMade (anyColour kind (now (positions .entry)) (now (channels .entry)) (now (codes .entry))) (differs threshold) (roomOf (now («out_positions» .entry)) (now («out_channels» .entry))) (listOf (now (rows .entry)) (now (counts .entry)) max) (now («out_positions» .entry)) (now («out_positions» .exit)) (now («out_channels» .entry)) (now («out_channels» .exit)) r ⌝ }
+    ensures { λ r. ⌜ ListMade (anyColour kind (now (positions .entry)) (now (channels .entry)) (now (codes .entry))) (exceeds cutoff) (roomOf (now («out_positions» .entry)) (now («out_channels» .entry))) (listOf (now (rows .entry)) (now (counts .entry)) max) (now («out_positions» .entry)) (now («out_positions» .exit)) (now («out_channels» .entry)) (now («out_channels» .exit)) r ⌝ }
 {
     let room = room_of(out_positions.len(), out_channels.len());
     let first = evaluate(kind, positions, channels, codes, rows[0]);
@@ -253,7 +253,7 @@ pub(crate) fn thin_record(
         positions,
         channels,
         codes,
-        threshold,
+        cutoff,
         max,
         room,
         s,

@@ -2,7 +2,7 @@
 use mathlib.Core.Path.{sym, ap, _∙_}
 use native.Mathlib.Omega.{arith}
 use Rattle.gradient.specs.Ramp.{anyColour}
-use Rattle.linearize.specs.Difference.{differs}
+use Rattle.linearize.specs.Difference.{exceeds}
 use Rattle.linearize.specs.Places.{listOf}
 use Rattle.linearize.specs.Kept.{roomOf}
 use Rattle.linearize.specs.Desk.{evaluationsOfListed}
@@ -24,8 +24,8 @@ enum-known-n c = search needs
 enum-told : tie.Need-enum-told
 enum-told c = search needs
 
-new-requires : tie.Need-new-requires
-new-requires c κs = search needs
+cutoff-of-requires : tie.Need-cutoff-of-requires
+cutoff-of-requires c κs = search needs
 
 min-of-requires : tie.Need-min-of-requires
 min-of-requires c κs = search needs
@@ -40,7 +40,7 @@ thin-record-requires : tie.Need-thin-record-requires
 thin-record-requires c κs =
     let a = c .before .before .before .before .before .before .before .before .before .before .before .before .before .before .before .before .before .before .before .before .before .before .before .before .args in
     let g = anyColour (a .kind) (a .positions .now) (a .channels .now) (a .codes .now) in
-    let far = differs (c .before .before .before .before .before .before .before .before .before .before .before .before .before .new .result .threshold) in
+    let far = exceeds (c .before .before .before .before .before .before .before .before .before .before .before .before .before .cutoff-of .result) in
     let k = (c .before .before .before .before .before .before .before .before .sample-cells) in
     let rows = k .last .1 .1 .1 .1 .1 .1 .1 .0 in
     let counts = k .last .1 .1 .1 .1 .1 .1 .1 .1 .0 in
@@ -51,7 +51,7 @@ mul-evaluations : tie.Need-mul-evaluations
 mul-evaluations c =
     let a = c .before .before .before .before .before .before .before .before .before .before .before .before .before .before .before .before .before .before .before .before .before .before .before .before .before .before .before .before .before .args in
     let g = anyColour (a .kind) (a .positions .now) (a .channels .now) (a .codes .now) in
-    let far = differs (c .before .before .before .before .before .before .before .before .before .before .before .before .before .before .before .before .before .before .new .result .threshold) in
+    let far = exceeds (c .before .before .before .before .before .before .before .before .before .before .before .before .before .before .before .before .before .before .cutoff-of .result) in
     let k = (c .before .before .before .before .before .before .before .before .before .before .before .before .before .sample-cells) in
     let rows = k .last .1 .1 .1 .1 .1 .1 .1 .0 in
     let counts = k .last .1 .1 .1 .1 .1 .1 .1 .1 .0 in
@@ -62,7 +62,7 @@ with-sampling-requires : tie.Need-with-sampling-requires
 with-sampling-requires c κs =
     let a = c .before .before .before .before .before .before .before .before .before .before .before .before .before .before .before .before .before .before .before .before .before .before .before .before .before .before .before .before .before .args in
     let g = anyColour (a .kind) (a .positions .now) (a .channels .now) (a .codes .now) in
-    let far = differs (c .before .before .before .before .before .before .before .before .before .before .before .before .before .before .before .before .before .before .new .result .threshold) in
+    let far = exceeds (c .before .before .before .before .before .before .before .before .before .before .before .before .before .before .before .before .before .before .cutoff-of .result) in
     let k = (c .before .before .before .before .before .before .before .before .before .before .before .before .before .sample-cells) in
     let rows = k .last .1 .1 .1 .1 .1 .1 .1 .0 in
     let counts = k .last .1 .1 .1 .1 .1 .1 .1 .1 .0 in
@@ -93,15 +93,15 @@ returns-2 : tie.Need-returns-2
 returns-2 c =
     let a = c .before .before .before .before .before .before .before .before .before .before .before .before .before .before .before .before .before .before .before .before .before .before .before .before .before .before .before .before .before .before .args in
     let g = anyColour (a .kind) (a .positions .now) (a .channels .now) (a .codes .now) in
-    let far = differs (c .before .before .before .before .before .before .before .before .before .before .before .before .before .before .before .before .before .before .before .new .result .threshold) in
+    let far = exceeds (c .before .before .before .before .before .before .before .before .before .before .before .before .before .before .before .before .before .before .before .cutoff-of .result) in
     let k = (c .before .before .before .before .before .before .before .before .before .before .before .before .before .before .sample-cells) in
     let rows = k .last .1 .1 .1 .1 .1 .1 .1 .0 in
     let counts = k .last .1 .1 .1 .1 .1 .1 .1 .1 .0 in
     let ok = record-ready g far (c .before .before .before .before .before .before .before .before .before .before .before .before .before .before .before .before .before .before .min-of .result) (c .before .before .before .before .before .before .before .before .before .before .before .before .before .before .before .before .before .max-of .result) rows counts (k .result) (k .ensures) in
     let h = (c .before .before .before .before .before .thin-record) in
-    flatten-done (a .kind) (a .positions .now) (a .channels .now) (a .codes .now) (a .threshold) (a .rows .now) (a .counts .now) (a .out-positions .now) (a .out-channels .now) (differs (c .before .before .before .before .before .before .before .before .before .before .before .before .before .before .before .before .before .before .before .new .result .threshold)) (c .before .before .before .before .before .before .before .before .before .before .before .before .before .before .before .before .before .before .min-of .result) (c .before .before .before .before .before .before .before .before .before .before .before .before .before .before .before .before .before .max-of .result)
+    flatten-done (a .kind) (a .positions .now) (a .channels .now) (a .codes .now) (a .threshold) (a .rows .now) (a .counts .now) (a .out-positions .now) (a .out-channels .now) (exceeds (c .before .before .before .before .before .before .before .before .before .before .before .before .before .before .before .before .before .before .before .cutoff-of .result)) (c .before .before .before .before .before .before .before .before .before .before .before .before .before .before .before .before .before .before .min-of .result) (c .before .before .before .before .before .before .before .before .before .before .before .before .before .before .before .before .before .max-of .result)
     rows counts (k .result) (h .last .1 .1 .1 .1 .1 .1 .1 .1 .0) (h .last .1 .1 .1 .1 .1 .1 .1 .1 .1 .0) (h .result) (c .with-sampling .result)
-    (sym (c .before .before .before .before .before .before .before .before .before .before .before .before .before .before .before .before .before .before .before .before .before .before .check-sample .ensures) ∙ c .before .before .before .before .before .before .before .before .before .before .before .before .before .before .before .before .before .before .before .before .enum-told .given .1) (ap differs (c .before .before .before .before .before .before .before .before .before .before .before .before .before .before .before .before .before .before .before .new .ensures)) (c .before .before .before .before .before .before .before .before .before .before .before .before .before .before .before .before .before .before .min-of .ensures) (c .before .before .before .before .before .before .before .before .before .before .before .before .before .before .before .before .before .max-of .ensures) (k .ensures) (h .ensures) (c .with-sampling .ensures)
+    (sym (c .before .before .before .before .before .before .before .before .before .before .before .before .before .before .before .before .before .before .before .before .before .before .check-sample .ensures) ∙ c .before .before .before .before .before .before .before .before .before .before .before .before .before .before .before .before .before .before .before .before .enum-told .given .1) (c .before .before .before .before .before .before .before .before .before .before .before .before .before .before .before .before .before .before .before .cutoff-of .ensures) (c .before .before .before .before .before .before .before .before .before .before .before .before .before .before .before .before .before .before .min-of .ensures) (c .before .before .before .before .before .before .before .before .before .before .before .before .before .before .before .before .before .max-of .ensures) (k .ensures) (h .ensures) (c .with-sampling .ensures)
 
 pub flatten-spec : {M : Type 1} → statement M
 flatten-spec =
@@ -110,7 +110,7 @@ flatten-spec =
     check-sample-requires
     enum-known-n
     enum-told
-    new-requires
+    cutoff-of-requires
     min-of-requires
     max-of-requires
     sample-cells-requires

@@ -1,8 +1,8 @@
 -- `sample` meets its contract: a refusal changes nothing; else the record is the ramp's. Assumes nothing.
-use mathlib.Core.Path.{sym, ap, _∙_}
+use mathlib.Core.Path.{sym, _∙_}
 use native.Mathlib.Omega.{arith}
 use Rattle.gradient.specs.Ramp.{anyColour}
-use Rattle.linearize.specs.Difference.{differs}
+use Rattle.linearize.specs.Difference.{exceeds}
 use Rattle.linearize.proofs.Bounds.{tries-bound}
 use Rattle.linearize.proofs.Checks.{record-lengths}
 use Rattle.linearize.proofs.Answers.{sample-refused, sample-done}
@@ -19,8 +19,8 @@ enum-known-n c = search needs
 enum-told : tie.Need-enum-told
 enum-told c = search needs
 
-new-requires : tie.Need-new-requires
-new-requires c κs = search needs
+cutoff-of-requires : tie.Need-cutoff-of-requires
+cutoff-of-requires c κs = search needs
 
 min-of-requires : tie.Need-min-of-requires
 min-of-requires c κs = search needs
@@ -35,7 +35,7 @@ mul-evaluations : tie.Need-mul-evaluations
 mul-evaluations c =
     let s = (c .before .before .before .before .before .before .before .before .before .before .before .before .before .before .before .before .before .before) in
     let g = anyColour (s .args .kind) (s .args .positions .now) (s .args .channels .now) (s .args .codes .now) in
-    omega (arith, c .before .before .before .before .sample-cells .ensures .tried, tries-bound g (differs (c .before .before .before .before .before .before .before .before .before .new .result .threshold)) (c .before .before .before .before .before .before .before .before .min-of .result) (c .before .before .before .before .before .before .before .max-of .result))
+    omega (arith, c .before .before .before .before .sample-cells .ensures .tried, tries-bound g (exceeds (c .before .before .before .before .before .before .before .before .before .cutoff-of .result)) (c .before .before .before .before .before .before .before .before .min-of .result) (c .before .before .before .before .before .before .before .max-of .result))
 
 returns : tie.Need-returns
 returns c = sample-refused _ _ _ _ _ _ _ _ (sym (c .before .before .before .check-sample .ensures) ∙ c .before .n .given .1)
@@ -49,8 +49,8 @@ same-length-2 c = search needs
 returns-2 : tie.Need-returns-2
 returns-2 c =
     let s = (c .before .before .before .before .before .before .before .before .before .before .before .before .before .before .before .before .before .before) in
-    sample-done (s .args .kind) (s .args .positions .now) (s .args .channels .now) (s .args .codes .now) (s .args .threshold) (s .args .rows .now) (s .args .counts .now) (differs (c .before .before .before .before .before .before .before .before .before .new .result .threshold)) (c .before .before .before .before .before .before .before .before .min-of .result) (c .before .before .before .before .before .before .before .max-of .result) (c .before .before .before .before .sample-cells .last .1 .1 .1 .1 .1 .1 .1 .0) (c .before .before .before .before .sample-cells .last .1 .1 .1 .1 .1 .1 .1 .1 .0) (c .before .before .before .before .sample-cells .result)
-    (sym (c .before .before .before .before .before .before .before .before .before .before .before .before .check-sample .ensures) ∙ c .before .before .before .before .before .before .before .before .before .before .enum-told .given .1) (ap differs (c .before .before .before .before .before .before .before .before .before .new .ensures)) (c .before .before .before .before .before .before .before .before .min-of .ensures) (c .before .before .before .before .before .before .before .max-of .ensures) (c .before .before .before .before .sample-cells .ensures)
+    sample-done (s .args .kind) (s .args .positions .now) (s .args .channels .now) (s .args .codes .now) (s .args .threshold) (s .args .rows .now) (s .args .counts .now) (exceeds (c .before .before .before .before .before .before .before .before .before .cutoff-of .result)) (c .before .before .before .before .before .before .before .before .min-of .result) (c .before .before .before .before .before .before .before .max-of .result) (c .before .before .before .before .sample-cells .last .1 .1 .1 .1 .1 .1 .1 .0) (c .before .before .before .before .sample-cells .last .1 .1 .1 .1 .1 .1 .1 .1 .0) (c .before .before .before .before .sample-cells .result)
+    (sym (c .before .before .before .before .before .before .before .before .before .before .before .before .check-sample .ensures) ∙ c .before .before .before .before .before .before .before .before .before .before .enum-told .given .1) (c .before .before .before .before .before .before .before .before .before .cutoff-of .ensures) (c .before .before .before .before .before .before .before .before .min-of .ensures) (c .before .before .before .before .before .before .before .max-of .ensures) (c .before .before .before .before .sample-cells .ensures)
 
 pub sample-spec : {M : Type 1} → statement M
 sample-spec =
@@ -59,7 +59,7 @@ sample-spec =
     check-sample-requires
     enum-known-n
     enum-told
-    new-requires
+    cutoff-of-requires
     min-of-requires
     max-of-requires
     sample-cells-requires

@@ -1,8 +1,8 @@
 -- `thin` meets its contract: a refusal before the list changes nothing; else the list of the record's points. Assumes nothing.
-use mathlib.Core.Path.{sym, ap, _∙_}
+use mathlib.Core.Path.{sym, _∙_}
 use Rattle.linearize.proofs.Checks.{ready}
 use Rattle.linearize.proofs.Answers.{thin-refused, thin-done}
-use Rattle.linearize.specs.Difference.{differs}
+use Rattle.linearize.specs.Difference.{exceeds}
 use borrow.Author.Needs.{needs}
 use Rattle.linearize.proofs.thin.Statement.{statement}
 use Rattle.linearize.proofs.thin.Tie as tie
@@ -16,8 +16,8 @@ enum-known-n c = search needs
 enum-told : tie.Need-enum-told
 enum-told c = search needs
 
-new-requires : tie.Need-new-requires
-new-requires c κs = search needs
+cutoff-of-requires : tie.Need-cutoff-of-requires
+cutoff-of-requires c κs = search needs
 
 max-of-requires : tie.Need-max-of-requires
 max-of-requires c κs = search needs
@@ -38,8 +38,8 @@ returns-2 : tie.Need-returns-2
 returns-2 c =
     let a = c .before .before .before .before .before .before .before .before .before .before .before .before .before .before .before .before .before .before .before .args in
     let h = (c .before .before .before .before .thin-record) in
-    thin-done (a .kind) (a .positions .now) (a .channels .now) (a .codes .now) (a .threshold) (a .rows .now) (a .counts .now) (a .out-positions .now) (a .out-channels .now) (differs (c .before .before .before .before .before .before .before .before .new .result .threshold)) (c .before .before .before .before .before .before .before .max-of .result)
-    (h .last .1 .1 .1 .1 .1 .1 .1 .1 .0) (h .last .1 .1 .1 .1 .1 .1 .1 .1 .1 .0) (h .result) (sym (c .before .before .before .before .before .before .before .before .before .before .before .check-thin .ensures) ∙ c .before .before .before .before .before .before .before .before .before .enum-told .given .1) (ap differs (c .before .before .before .before .before .before .before .before .new .ensures)) (c .before .before .before .before .before .before .before .max-of .ensures) (h .ensures)
+    thin-done (a .kind) (a .positions .now) (a .channels .now) (a .codes .now) (a .threshold) (a .rows .now) (a .counts .now) (a .out-positions .now) (a .out-channels .now) (exceeds (c .before .before .before .before .before .before .before .before .cutoff-of .result)) (c .before .before .before .before .before .before .before .max-of .result)
+    (h .last .1 .1 .1 .1 .1 .1 .1 .1 .0) (h .last .1 .1 .1 .1 .1 .1 .1 .1 .1 .0) (h .result) (sym (c .before .before .before .before .before .before .before .before .before .before .before .check-thin .ensures) ∙ c .before .before .before .before .before .before .before .before .before .enum-told .given .1) (c .before .before .before .before .before .before .before .before .cutoff-of .ensures) (c .before .before .before .before .before .before .before .max-of .ensures) (h .ensures)
 
 pub thin-spec : {M : Type 1} → statement M
 thin-spec =
@@ -48,7 +48,7 @@ thin-spec =
     check-thin-requires
     enum-known-n
     enum-told
-    new-requires
+    cutoff-of-requires
     max-of-requires
     thin-record-requires
     returns

@@ -6,7 +6,7 @@ use borrow.Author.Needs.{needs, scaled-fits}
 use borrow.Author.Tests.{not-true, not-false}
 use lib.ListN.{length, length-set, length-append}
 use Rattle.gradient.specs.Ramp.{anyColour}
-use Rattle.linearize.specs.Difference.{differs}
+use Rattle.linearize.specs.Difference.{exceeds}
 use Rattle.linearize.specs.Midpoints.{midOf, halves, tries}
 use Rattle.linearize.proofs.Halves.{keeps-by, halves-yes, halves-no, tries-yes, tries-no, short, few, written, pow-left}
 use Prim.Native.Nat.{ℕ, _<_, _+_, _-_}
@@ -96,7 +96,7 @@ unfolding midOf
 halve-returns-2 t c =
     let s = (c .before .before .before .before .before .before .before .before .before .before .before) in
     let g = anyColour (s .args .kind) (s .args .positions .now) (s .args .channels .now) (s .args .codes .now) in
-    let far = differs (s .args .threshold) in
+    let far = exceeds (s .args .cutoff) in
     let t0 = s .args .p .t in
     let t1 = s .args .q .t in
     let n = s .args .left in
@@ -148,7 +148,7 @@ unfolding midOf
 halve-mul-row t c =
     let s = (c .before .before .before .before .before .before .before .before .before .before .before .before .before .before .before) in
     let g = anyColour (s .args .kind) (s .args .positions .now) (s .args .channels .now) (s .args .codes .now) in
-    let far = differs (s .args .threshold) in
+    let far = exceeds (s .args .cutoff) in
     let t0 = s .args .p .t in
     let t1 = s .args .q .t in
     let n = s .args .left in
@@ -172,7 +172,7 @@ unfolding midOf
 halve-slice-write-row t c =
     let s = (c .before .before .before .before .before .before .before .before .before .before .before .before .before .before .before) in
     let g = anyColour (s .args .kind) (s .args .positions .now) (s .args .channels .now) (s .args .codes .now) in
-    let far = differs (s .args .threshold) in
+    let far = exceeds (s .args .cutoff) in
     let t0 = s .args .p .t in
     let t1 = s .args .q .t in
     let n = s .args .left in
@@ -196,7 +196,7 @@ unfolding midOf
 halve-add-halve t c =
     let s = (c .before .before .before .before .before .before .before .before .before .before .before .before .before .before .before .before) in
     let g = anyColour (s .args .kind) (s .args .positions .now) (s .args .channels .now) (s .args .codes .now) in
-    let far = differs (s .args .threshold) in
+    let far = exceeds (s .args .cutoff) in
     let t0 = s .args .p .t in
     let t1 = s .args .q .t in
     let n = s .args .left in
@@ -220,7 +220,7 @@ unfolding midOf
 halve-halve-requires-2 t c κs =
     let s = (c .before .before .before .before .before .before .before .before .before .before .before .before .before .before .before .before) in
     let g = anyColour (s .args .kind) (s .args .positions .now) (s .args .channels .now) (s .args .codes .now) in
-    let far = differs (s .args .threshold) in
+    let far = exceeds (s .args .cutoff) in
     let t0 = s .args .p .t in
     let t1 = s .args .q .t in
     let n = s .args .left in
@@ -244,7 +244,7 @@ unfolding midOf
 halve-add-t23 t c =
     let s = (c .before .before .before .before .before .before .before .before .before .before .before .before .before .before .before .before .before .before .before .before .before) in
     let g = anyColour (s .args .kind) (s .args .positions .now) (s .args .channels .now) (s .args .codes .now) in
-    let far = differs (s .args .threshold) in
+    let far = exceeds (s .args .cutoff) in
     let t0 = s .args .p .t in
     let t1 = s .args .q .t in
     let n = s .args .left in
@@ -271,7 +271,7 @@ unfolding midOf
 halve-add-t27 t c =
     let s = (c .before .before .before .before .before .before .before .before .before .before .before .before .before .before .before .before .before .before .before .before .before) in
     let g = anyColour (s .args .kind) (s .args .positions .now) (s .args .channels .now) (s .args .codes .now) in
-    let far = differs (s .args .threshold) in
+    let far = exceeds (s .args .cutoff) in
     let t0 = s .args .p .t in
     let t1 = s .args .q .t in
     let n = s .args .left in
@@ -310,7 +310,7 @@ unfolding midOf
 halve-returns-3 t c =
     let s = (c .before .before .before .before .before .before .before .before .before .before .before .before .before .before .before .before .before .before .before .before .before) in
     let g = anyColour (s .args .kind) (s .args .positions .now) (s .args .channels .now) (s .args .codes .now) in
-    let far = differs (s .args .threshold) in
+    let far = exceeds (s .args .cutoff) in
     let t0 = s .args .p .t in
     let t1 = s .args .q .t in
     let n = s .args .left in

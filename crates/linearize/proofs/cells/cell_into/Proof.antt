@@ -1,7 +1,7 @@
 -- `cell_into` meets its contract: the part of the rows that was lent is the cell's row. Assumes nothing.
 use native.Mathlib.Omega.{arith}
 use Rattle.gradient.specs.Ramp.{anyColour}
-use Rattle.linearize.specs.Difference.{differs}
+use Rattle.linearize.specs.Difference.{exceeds}
 use Rattle.linearize.proofs.Rows.{points-most, cell-anew}
 use borrow.Author.Needs.{needs}
 use Rattle.linearize.proofs.cells.cell_into.Statement.{statement}
@@ -32,7 +32,7 @@ cast-counts : tie.Need-cast-counts
 cast-counts c =
     let s = (c .before .before .before .before .before .before .before .before .before .before) in
     let g = anyColour (s .args .kind) (s .args .positions .now) (s .args .channels .now) (s .args .codes .now) in
-    omega (arith, c .before .before .before .row-into .ensures .count, points-most g (differs (s .args .threshold)) (s .args .p .t) (s .args .q .t))
+    omega (arith, c .before .before .before .row-into .ensures .count, points-most g (exceeds (s .args .cutoff)) (s .args .p .t) (s .args .q .t))
 
 slice-write-counts : tie.Need-slice-write-counts
 slice-write-counts c = search needs
@@ -47,7 +47,7 @@ returns : tie.Need-returns
 returns c =
     let s = (c .before .before .before .before .before .before .before .before .before .before) in
     let g = anyColour (s .args .kind) (s .args .positions .now) (s .args .channels .now) (s .args .codes .now) in
-    cell-anew g (differs (s .args .threshold)) (s .args .min) (s .args .max) (s .args .i) (s .args .p .t) (s .args .q .t) (s .pre .1 .0 .0) (s .pre .1 .0 .1)
+    cell-anew g (exceeds (s .args .cutoff)) (s .args .min) (s .args .max) (s .args .i) (s .args .p .t) (s .args .q .t) (s .pre .1 .0 .0) (s .pre .1 .0 .1)
     (s .args .rows .now) (c .before .before .before .row-into .last .1 .1 .1 .1 .1 .0) (s .args .counts .now) (c .before .before .before .row-into .result) (s .pre .0 .0) (s .pre .0 .1 .0) (c .before .before .before .row-into .ensures)
 
 pub cell-into-spec : {M : Type 1} → statement M

@@ -3,18 +3,18 @@ use mathlib.Core.Path.{_∙_}
 use Prim.Native.Nat.{_-_}
 use native.Mathlib.Omega.{arith}
 use Rattle.gradient.specs.Ramp.{anyColour}
-use Rattle.linearize.specs.Difference.{differs}
+use Rattle.linearize.specs.Difference.{exceeds}
 use Rattle.linearize.proofs.Rows.{cell-tries-most}
 use Rattle.linearize.proofs.Filling.{Sampling, start, anew, sampled}
 use Rattle.linearize.proofs.cells.sample_cells.Statement.{statement}
 use Rattle.linearize.proofs.cells.sample_cells.Tie as tie
 
 abbrev Inv-loop : tie.InvT-loop
-Inv-loop kind positions channels codes threshold min max rows₀ counts₀ n₀ i₀ p₀ rows counts n i p =
-    Sampling (anyColour kind positions channels codes) (differs threshold) min max rows₀ counts₀ rows counts n i p
+Inv-loop kind positions channels codes cutoff min max rows₀ counts₀ n₀ i₀ p₀ rows counts n i p =
+    Sampling (anyColour kind positions channels codes) (exceeds cutoff) min max rows₀ counts₀ rows counts n i p
 
 abbrev μ-loop : tie.MeasureT-loop
-μ-loop kind positions channels codes threshold min max rows₀ counts₀ n₀ i₀ p₀ rows counts n i p = 36 - i
+μ-loop kind positions channels codes cutoff min max rows₀ counts₀ n₀ i₀ p₀ rows counts n i p = 36 - i
 
 edge-requires : tie.Need-edge-requires Inv-loop μ-loop
 edge-requires c κs = omega arith
@@ -50,7 +50,7 @@ add-n c =
     let s = (c .before .before .before .before .before .before .before .before .before .before .before .before .before .before .before .before .before .before) in
     let l = (c .before .before .before .before .before .before .before .before .before .before .loop) in
     let g = anyColour (s .args .kind) (s .args .positions .now) (s .args .channels .now) (s .args .codes .now) in
-    omega (arith, c .before .before .before .before .cell-into .ensures .tried, cell-tries-most g (differs (s .args .threshold)) (s .args .min) (s .args .max) (l .i), l .inv .filled .few, l .inv .filled .within)
+    omega (arith, c .before .before .before .before .cell-into .ensures .tried, cell-tries-most g (exceeds (s .args .cutoff)) (s .args .min) (s .args .max) (l .i), l .inv .filled .few, l .inv .filled .within)
 
 loop-less : tie.Need-loop-less Inv-loop μ-loop
 loop-less c = omega arith
@@ -62,7 +62,7 @@ loop-again c =
     let h = (c .before .before .before .before .cell-into) in
     let g = anyColour (s .args .kind) (s .args .positions .now) (s .args .channels .now) (s .args .codes .now) in
     record {
-      filled = anew g (differs (s .args .threshold)) (s .args .min) (s .args .max) _ _ (s .pre .0) (s .pre .1) (l .rows) (h .last .1 .1 .1 .1 .1 .1 .1 .1 .1 .1 .0) (l .counts) (h .last .1 .1 .1 .1 .1 .1 .1 .1 .1 .1 .1 .0) (l .n) (h .result) (l .i) (l .inv .filled) (c .before .before .before .before .before .before .before .before .before .loop-test .taken) (h .ensures);
+      filled = anew g (exceeds (s .args .cutoff)) (s .args .min) (s .args .max) _ _ (s .pre .0) (s .pre .1) (l .rows) (h .last .1 .1 .1 .1 .1 .1 .1 .1 .1 .1 .0) (l .counts) (h .last .1 .1 .1 .1 .1 .1 .1 .1 .1 .1 .1 .0) (l .n) (h .result) (l .i) (l .inv .filled) (c .before .before .before .before .before .before .before .before .before .loop-test .taken) (h .ensures);
       ended = c .before .before .before .before .before .before .before .evaluate2 .ensures .0 ∙ c .before .before .before .before .before .before .before .before .edge2 .ensures;
       coloured = c .before .before .before .before .before .before .before .evaluate2 .ensures .1;
     }
@@ -78,7 +78,7 @@ returns c =
     let s = (c .before .before .before .before .before .before .before .before .before) in
     let l = (c .before .loop) in
     let g = anyColour (s .args .kind) (s .args .positions .now) (s .args .channels .now) (s .args .codes .now) in
-    sampled g (differs (s .args .threshold)) (s .args .min) (s .args .max) _ _ (s .pre .0) (s .pre .1) (l .rows) (l .counts) (l .n) (l .i) (l .inv .filled) (c .loop-test .left)
+    sampled g (exceeds (s .args .cutoff)) (s .args .min) (s .args .max) _ _ (s .pre .0) (s .pre .1) (l .rows) (l .counts) (l .n) (l .i) (l .inv .filled) (c .loop-test .left)
 
 pub sample-cells-spec : {M : Type 1} → statement M
 sample-cells-spec =

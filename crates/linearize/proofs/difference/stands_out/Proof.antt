@@ -1,17 +1,15 @@
 -- `stands_out` meets its contract: the parts, one within the other, are the definition. Assumes nothing.
 use mathlib.Core.Path.{_≡_}
 use lib.Ieee.{Float, lt}
-use Rattle.float.specs.F32.{_⊘_, f2}
-use Rattle.sqrt.specs.Root.{rootOf}
 use Rattle.gradient.specs.declared.Rgba.{Rgba}
-use Rattle.linearize.specs.Difference.{clampedOf, squaresOf, differs}
+use Rattle.linearize.specs.Difference.{clampedOf, squaresOf, exceeds}
 use borrow.Author.Needs.{needs}
 use Rattle.linearize.proofs.difference.stands_out.Statement.{statement}
 use Rattle.linearize.proofs.difference.stands_out.Tie as tie
 
-is : (th q d : Float) (x y u v : Rgba) → u ≡ clampedOf x → v ≡ clampedOf y → q ≡ squaresOf u v → d ≡ rootOf q → lt th (d ⊘ f2) ≡ differs th x y
-unfolding differs
-is th q d x y u v a b e f = rw (f, e, a, b)
+is : (cutoff q : Float) (x y u v : Rgba) → u ≡ clampedOf x → v ≡ clampedOf y → q ≡ squaresOf u v → lt cutoff q ≡ exceeds cutoff x y
+unfolding exceeds
+is cutoff q x y u v a b e = rw (e, a, b)
 
 clamped-requires : tie.Need-clamped-requires
 clamped-requires c κs = search needs
@@ -22,12 +20,9 @@ clamped-requires-2 c κs = search needs
 squares-requires : tie.Need-squares-requires
 squares-requires c κs = search needs
 
-root-requires : tie.Need-root-requires
-root-requires c κs = search needs
-
 returns : tie.Need-returns
-returns c = is _ _ _ _ _ _ _ (c .before .before .before .clamped .ensures) (c .before .before .clamped2 .ensures) (c .before .squares .ensures) (c .root .ensures)
+returns c = is _ _ _ _ _ _ (c .before .before .clamped .ensures) (c .before .clamped2 .ensures) (c .squares .ensures)
 
 pub stands-out-spec : {M : Type 1} → statement M
 stands-out-spec =
-    tie.close (tie.spec clamped-requires clamped-requires-2 squares-requires root-requires returns)
+    tie.close (tie.spec clamped-requires clamped-requires-2 squares-requires returns)

@@ -3,6 +3,7 @@ use mathlib.Core.Path.{sym, _∙_}
 use native.Mathlib.Omega.{arith}
 use lib.ListN.{length, take}
 use lib.Seq.{length-take-le}
+use Rattle.linearize.specs.Difference.{exceeds}
 use Rattle.linearize.proofs.Checks.{ready}
 use Rattle.linearize.proofs.EditChecks.{channels-there, edited, thin-fine}
 use Rattle.linearize.proofs.RefreshAnswers.{anew-bound, refresh-refused, refresh-done, domain-of}
@@ -19,8 +20,8 @@ enum-known-n c = search needs
 enum-told : tie.Need-enum-told
 enum-told c = search needs
 
-new-requires : tie.Need-new-requires
-new-requires c κs = search needs
+cutoff-of-requires : tie.Need-cutoff-of-requires
+cutoff-of-requires c κs = search needs
 
 min-of-requires : tie.Need-min-of-requires
 min-of-requires c κs = search needs
@@ -84,8 +85,8 @@ returns-2 c =
     let s = c .before .before .before .before .before .before .before .before .before .before .before .before .before .before .before .before .before .before .before .before .before .before .before .before in
     let h = sym (c .before .before .before .before .before .before .before .before .before .before .before .before .before .before .before .before .check-refresh .ensures) ∙ c .before .before .before .before .before .before .before .before .before .before .before .before .before .before .enum-told .given .1 in
     let w = c .before .before .before .before .refresh-cells in
-    refresh-done (s .args .kind) (s .args .positions .now) (s .args .channels .now) (s .args .codes .now) (s .args .k) (s .args .colour) (s .args .threshold) (s .args .rows .now) (s .args .counts .now) h (c .before .before .before .before .before .before .before .before .before .before .before .before .before .new .result .threshold) (c .before .before .before .before .before .before .before .before .before .before .before .before .min-of .result) (c .before .before .before .before .before .before .before .before .before .before .before .max-of .result) (take (length (s .args .channels .now)) (c .before .before .before .before .before .before .before .before .before .change .last .1 .1 .1 .0)) (w .last .1 .1 .1 .1 .1 .1 .1 .1 .0) (w .last .1 .1 .1 .1 .1 .1 .1 .1 .1 .0) (w .result)
-    (c .before .before .before .before .before .before .before .before .before .before .before .before .before .new .ensures) (c .before .before .before .before .before .before .before .before .before .before .before .before .min-of .ensures) (c .before .before .before .before .before .before .before .before .before .before .before .max-of .ensures) (c .before .before .before .before .before .before .before .before .before .change .ensures) (w .ensures)
+    refresh-done (s .args .kind) (s .args .positions .now) (s .args .channels .now) (s .args .codes .now) (s .args .k) (s .args .colour) (s .args .threshold) (s .args .rows .now) (s .args .counts .now) h (exceeds (c .before .before .before .before .before .before .before .before .before .before .before .before .before .cutoff-of .result)) (c .before .before .before .before .before .before .before .before .before .before .before .before .min-of .result) (c .before .before .before .before .before .before .before .before .before .before .before .max-of .result) (take (length (s .args .channels .now)) (c .before .before .before .before .before .before .before .before .before .change .last .1 .1 .1 .0)) (w .last .1 .1 .1 .1 .1 .1 .1 .1 .0) (w .last .1 .1 .1 .1 .1 .1 .1 .1 .1 .0) (w .result)
+    (c .before .before .before .before .before .before .before .before .before .before .before .before .before .cutoff-of .ensures) (c .before .before .before .before .before .before .before .before .before .before .before .before .min-of .ensures) (c .before .before .before .before .before .before .before .before .before .before .before .max-of .ensures) (c .before .before .before .before .before .before .before .before .before .change .ensures) (w .ensures)
 
 pub refresh-spec : {M : Type 1} → statement M
 refresh-spec =
@@ -94,7 +95,7 @@ refresh-spec =
     check-refresh-requires
     enum-known-n
     enum-told
-    new-requires
+    cutoff-of-requires
     min-of-requires
     max-of-requires
     slice-aggregate-change

@@ -4,7 +4,7 @@ use native.Mathlib.Omega.{arith}
 use lib.ListN.{length, take}
 use lib.Seq.{length-take-le}
 use Rattle.gradient.specs.Ramp.{anyColour}
-use Rattle.linearize.specs.Difference.{differs}
+use Rattle.linearize.specs.Difference.{exceeds}
 use Rattle.linearize.specs.Places.{listOf}
 use Rattle.linearize.specs.Kept.{roomOf}
 use Rattle.linearize.specs.Desk.{evaluationsOfListed}
@@ -28,8 +28,8 @@ enum-known-n c = search needs
 enum-told : tie.Need-enum-told
 enum-told c = search needs
 
-new-requires : tie.Need-new-requires
-new-requires c κs = search needs
+cutoff-of-requires : tie.Need-cutoff-of-requires
+cutoff-of-requires c κs = search needs
 
 min-of-requires : tie.Need-min-of-requires
 min-of-requires c κs = search needs
@@ -92,7 +92,7 @@ thin-record-requires c κs =
     let max = c .before .before .before .before .before .before .before .before .before .before .before .before .before .before .before .before .max-of .result in
     let cs′ = take (length (s .args .channels .now)) (c .before .before .before .before .before .before .before .before .before .before .before .before .before .before .change .last .1 .1 .1 .0) in
     let g = anyColour (s .args .kind) (s .args .positions .now) cs′ (s .args .codes .now) in
-    let far = differs (c .before .before .before .before .before .before .before .before .before .before .before .before .before .before .before .before .before .before .new .result .threshold) in
+    let far = exceeds (c .before .before .before .before .before .before .before .before .before .before .before .before .before .before .before .before .before .before .cutoff-of .result) in
     let ok = renewed-ready g far (outsideOf (reachOf (s .args .kind)) (s .args .positions .now) (s .args .k)) (c .before .before .before .before .before .before .before .before .before .before .before .before .before .before .before .before .before .min-of .result) max (s .args .rows .now) (s .args .counts .now) (ready (s .args .kind) (s .args .positions .now) (s .args .channels .now) (s .args .codes .now) (s .args .rows .now) (s .args .counts .now) (thin-fine (s .args .kind) (s .args .positions .now) (s .args .channels .now) (s .args .codes .now) (s .args .k) (s .args .colour) (s .args .rows .now) (s .args .counts .now) h)) rows′ counts′ (k .result) (k .ensures) in
     ok
 
@@ -109,7 +109,7 @@ with-sampling-requires c κs =
     let max = c .before .before .before .before .before .before .before .before .before .before .before .before .before .before .before .before .before .before .before .before .before .max-of .result in
     let cs′ = take (length (s .args .channels .now)) (c .before .before .before .before .before .before .before .before .before .before .before .before .before .before .before .before .before .before .before .change .last .1 .1 .1 .0) in
     let g = anyColour (s .args .kind) (s .args .positions .now) cs′ (s .args .codes .now) in
-    let far = differs (c .before .before .before .before .before .before .before .before .before .before .before .before .before .before .before .before .before .before .before .before .before .before .before .new .result .threshold) in
+    let far = exceeds (c .before .before .before .before .before .before .before .before .before .before .before .before .before .before .before .before .before .before .before .before .before .before .before .cutoff-of .result) in
     let ok = renewed-ready g far (outsideOf (reachOf (s .args .kind)) (s .args .positions .now) (s .args .k)) (c .before .before .before .before .before .before .before .before .before .before .before .before .before .before .before .before .before .before .before .before .before .before .min-of .result) max (s .args .rows .now) (s .args .counts .now) (ready (s .args .kind) (s .args .positions .now) (s .args .channels .now) (s .args .codes .now) (s .args .rows .now) (s .args .counts .now) (thin-fine (s .args .kind) (s .args .positions .now) (s .args .channels .now) (s .args .codes .now) (s .args .k) (s .args .colour) (s .args .rows .now) (s .args .counts .now) h)) rows′ counts′ (k .result) (k .ensures) in
     let ts = listOf rows′ counts′ max in
     let some = list-some rows′ counts′ max ok in (
@@ -146,8 +146,8 @@ returns-2 c =
     let h = sym (c .before .before .before .before .before .before .before .before .before .before .before .before .before .before .before .before .before .before .before .before .before .before .before .before .before .before .before .check-refresh .ensures) ∙ c .before .before .before .before .before .before .before .before .before .before .before .before .before .before .before .before .before .before .before .before .before .before .before .before .before .enum-told .given .1 in
     let k = c .before .before .before .before .before .before .before .before .before .before .before .before .before .before .before .refresh-cells in
     let made = c .before .before .before .before .before .thin-record in
-    refresh-list-done (s .args .kind) (s .args .positions .now) (s .args .channels .now) (s .args .codes .now) (s .args .k) (s .args .colour) (s .args .threshold) (s .args .rows .now) (s .args .counts .now) (s .args .out-positions .now) (s .args .out-channels .now) h (c .before .before .before .before .before .before .before .before .before .before .before .before .before .before .before .before .before .before .before .before .before .before .before .before .new .result .threshold) (c .before .before .before .before .before .before .before .before .before .before .before .before .before .before .before .before .before .before .before .before .before .before .before .min-of .result) (c .before .before .before .before .before .before .before .before .before .before .before .before .before .before .before .before .before .before .before .before .before .before .max-of .result) (take (length (s .args .channels .now)) (c .before .before .before .before .before .before .before .before .before .before .before .before .before .before .before .before .before .before .before .before .change .last .1 .1 .1 .0)) (k .last .1 .1 .1 .1 .1 .1 .1 .1 .0) (k .last .1 .1 .1 .1 .1 .1 .1 .1 .1 .0) (k .result) (made .last .1 .1 .1 .1 .1 .1 .1 .1 .0) (made .last .1 .1 .1 .1 .1 .1 .1 .1 .1 .0) (made .result) (c .with-sampling .result)
-    (c .before .before .before .before .before .before .before .before .before .before .before .before .before .before .before .before .before .before .before .before .before .before .before .before .new .ensures) (c .before .before .before .before .before .before .before .before .before .before .before .before .before .before .before .before .before .before .before .before .before .before .before .min-of .ensures) (c .before .before .before .before .before .before .before .before .before .before .before .before .before .before .before .before .before .before .before .before .before .before .max-of .ensures) (c .before .before .before .before .before .before .before .before .before .before .before .before .before .before .before .before .before .before .before .before .change .ensures) (k .ensures) (made .ensures) (c .with-sampling .ensures)
+    refresh-list-done (s .args .kind) (s .args .positions .now) (s .args .channels .now) (s .args .codes .now) (s .args .k) (s .args .colour) (s .args .threshold) (s .args .rows .now) (s .args .counts .now) (s .args .out-positions .now) (s .args .out-channels .now) h (exceeds (c .before .before .before .before .before .before .before .before .before .before .before .before .before .before .before .before .before .before .before .before .before .before .before .before .cutoff-of .result)) (c .before .before .before .before .before .before .before .before .before .before .before .before .before .before .before .before .before .before .before .before .before .before .before .min-of .result) (c .before .before .before .before .before .before .before .before .before .before .before .before .before .before .before .before .before .before .before .before .before .before .max-of .result) (take (length (s .args .channels .now)) (c .before .before .before .before .before .before .before .before .before .before .before .before .before .before .before .before .before .before .before .before .change .last .1 .1 .1 .0)) (k .last .1 .1 .1 .1 .1 .1 .1 .1 .0) (k .last .1 .1 .1 .1 .1 .1 .1 .1 .1 .0) (k .result) (made .last .1 .1 .1 .1 .1 .1 .1 .1 .0) (made .last .1 .1 .1 .1 .1 .1 .1 .1 .1 .0) (made .result) (c .with-sampling .result)
+    (c .before .before .before .before .before .before .before .before .before .before .before .before .before .before .before .before .before .before .before .before .before .before .before .before .cutoff-of .ensures) (c .before .before .before .before .before .before .before .before .before .before .before .before .before .before .before .before .before .before .before .before .before .before .before .min-of .ensures) (c .before .before .before .before .before .before .before .before .before .before .before .before .before .before .before .before .before .before .before .before .before .before .max-of .ensures) (c .before .before .before .before .before .before .before .before .before .before .before .before .before .before .before .before .before .before .before .before .change .ensures) (k .ensures) (made .ensures) (c .with-sampling .ensures)
 
 pub refresh-list-spec : {M : Type 1} → statement M
 refresh-list-spec =
@@ -156,7 +156,7 @@ refresh-list-spec =
     check-refresh-requires
     enum-known-n
     enum-told
-    new-requires
+    cutoff-of-requires
     min-of-requires
     max-of-requires
     slice-aggregate-change

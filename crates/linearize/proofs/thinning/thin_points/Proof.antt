@@ -4,7 +4,7 @@ use Prim.Native.Nat.{_-_}
 use native.Mathlib.Omega.{arith}
 use lib.ListN.{length}
 use Rattle.gradient.specs.Ramp.{anyColour}
-use Rattle.linearize.specs.Difference.{differs}
+use Rattle.linearize.specs.Difference.{exceeds}
 use Rattle.linearize.specs.Places.{listOf, pointsBefore}
 use Rattle.linearize.specs.Walk.{run}
 use Rattle.linearize.proofs.Following.{second-within, within-index, before-next, next-within, more-follow, list-most}
@@ -13,11 +13,11 @@ use Rattle.linearize.proofs.thinning.thin_points.Statement.{statement}
 use Rattle.linearize.proofs.thinning.thin_points.Tie as tie
 
 abbrev Inv-loop : tie.InvT-loop
-Inv-loop kind positions channels codes threshold max room rows counts out-positions₀ out-channels₀ s₀ place₀ x₀ out-positions out-channels s place x =
-    Going (anyColour kind positions channels codes) (differs threshold) room rows counts max (run s₀ out-positions₀ out-channels₀) out-positions out-channels s place x
+Inv-loop kind positions channels codes cutoff max room rows counts out-positions₀ out-channels₀ s₀ place₀ x₀ out-positions out-channels s place x =
+    Going (anyColour kind positions channels codes) (exceeds cutoff) room rows counts max (run s₀ out-positions₀ out-channels₀) out-positions out-channels s place x
 
 abbrev μ-loop : tie.MeasureT-loop
-μ-loop kind positions channels codes threshold max room rows counts out-positions₀ out-channels₀ s₀ place₀ x₀ out-positions out-channels s place x =
+μ-loop kind positions channels codes cutoff max room rows counts out-positions₀ out-channels₀ s₀ place₀ x₀ out-positions out-channels s place x =
     length (listOf rows counts max) - pointsBefore counts place
 
 next-place-requires : tie.Need-next-place-requires Inv-loop μ-loop
@@ -36,7 +36,7 @@ loop-holds : tie.Need-loop-holds Inv-loop μ-loop
 loop-holds c =
     let a = c .before .before .before .before .before .before .before .before .before .before .args in
     let g = anyColour (a .kind) (a .positions .now) (a .channels .now) (a .codes .now) in
-    let far = differs (a .threshold) in
+    let far = exceeds (a .cutoff) in
     let ok = c .before .before .before .before .before .before .before .before .before .before .pre .1 .0 in
     started g far (a .room) (a .rows .now) (a .counts .now) (a .max) ok (a .start) (a .out-positions .now) (a .out-channels .now) (c .before .before .next-place .result) (c .evaluate .result) (c .before .before .before .before .before .before .before .before .before .before .pre .1 .1) (c .before .before .next-place .ensures) (c .evaluate .ensures .0 ∙ c .before .point-at .ensures) (c .evaluate .ensures .1)
 
@@ -71,7 +71,7 @@ returns : tie.Need-returns Inv-loop μ-loop
 returns c =
     let a = c .before .before .before .before .before .before .before .before .before .before .before .before .before .before .before .before .before .before .before .before .before .before .before .before .args in
     let g = anyColour (a .kind) (a .positions .now) (a .channels .now) (a .codes .now) in
-    let far = differs (a .threshold) in
+    let far = exceeds (a .cutoff) in
     let ok = c .before .before .before .before .before .before .before .before .before .before .before .before .before .before .before .before .before .before .before .before .before .before .before .before .pre .1 .0 in
     stopped g far (a .room) (a .rows .now) (a .counts .now) (a .max) ok _ (c .before .before .before .before .before .before .before .before .before .before .before .before .before .loop .out-positions) (c .before .before .before .before .before .before .before .before .before .before .before .before .before .loop .out-channels) (c .before .before .before .before .before .before .before .before .before .before .before .before .before .loop .s) (c .before .before .before .before .before .before .before .before .before .before .before .before .before .loop .place) (c .before .before .before .before .before .before .before .before .before .before .before .before .before .loop .x) (c .before .before .before .before .before .before .before .before .before .before .before .before .before .loop .inv) (c .before .before .before .before .before .before .before .before .before .before .before .if1 .taken) (c .before .before .before .before .before .before .before .before .before .before .next-place2 .result) (c .before .before .before .before .before .before .before .before .evaluate2 .result) (c .before .before .before .before .before .before .before .before .before .before .next-place2 .ensures) (c .before .before .before .before .before .before .before .before .evaluate2 .ensures .0 ∙ c .before .before .before .before .before .before .before .before .before .point-at2 .ensures) (c .before .before .before .before .before .before .before .before .evaluate2 .ensures .1) (c .before .before .before .before .before .step .last .1 .1 .1 .1 .1 .0) (c .before .before .before .before .before .step .last .1 .1 .1 .1 .1 .1 .0) (c .before .before .before .before .before .step .result) (c .before .before .before .before .before .step .ensures) (c .if2 .taken)
 
@@ -85,7 +85,7 @@ loop-again : tie.Need-loop-again Inv-loop μ-loop
 loop-again c =
     let a = c .before .before .before .before .before .before .before .before .before .before .before .before .before .before .before .before .before .before .before .before .before .before .before .before .args in
     let g = anyColour (a .kind) (a .positions .now) (a .channels .now) (a .codes .now) in
-    let far = differs (a .threshold) in
+    let far = exceeds (a .cutoff) in
     let ok = c .before .before .before .before .before .before .before .before .before .before .before .before .before .before .before .before .before .before .before .before .before .before .before .before .pre .1 .0 in
     next g far (a .room) (a .rows .now) (a .counts .now) (a .max) ok _ (c .before .before .before .before .before .before .before .before .before .before .before .before .before .loop .out-positions) (c .before .before .before .before .before .before .before .before .before .before .before .before .before .loop .out-channels) (c .before .before .before .before .before .before .before .before .before .before .before .before .before .loop .s) (c .before .before .before .before .before .before .before .before .before .before .before .before .before .loop .place) (c .before .before .before .before .before .before .before .before .before .before .before .before .before .loop .x) (c .before .before .before .before .before .before .before .before .before .before .before .before .before .loop .inv) (c .before .before .before .before .before .before .before .before .before .before .before .if1 .taken) (c .before .before .before .before .before .before .before .before .before .before .next-place2 .result) (c .before .before .before .before .before .before .before .before .evaluate2 .result) (c .before .before .before .before .before .before .before .before .before .before .next-place2 .ensures) (c .before .before .before .before .before .before .before .before .evaluate2 .ensures .0 ∙ c .before .before .before .before .before .before .before .before .before .point-at2 .ensures) (c .before .before .before .before .before .before .before .before .evaluate2 .ensures .1) (c .before .before .before .before .before .step .last .1 .1 .1 .1 .1 .0) (c .before .before .before .before .before .step .last .1 .1 .1 .1 .1 .1 .0) (c .before .before .before .before .before .step .result) (c .before .before .before .before .before .step .ensures) (c .if2 .left) (c .before .before .before .before .before .step .kept .1 .1 .1 .1 .1 .0) (c .before .before .before .before .before .step .kept .1 .1 .1 .1 .1 .1 .0)
 
@@ -102,7 +102,7 @@ returns-2 : tie.Need-returns-2 Inv-loop μ-loop
 returns-2 c =
     let a = c .before .before .before .before .before .before .before .before .before .before .before .before .before .before .before .before .before .before .before .before .args in
     let g = anyColour (a .kind) (a .positions .now) (a .channels .now) (a .codes .now) in
-    let far = differs (a .threshold) in
+    let far = exceeds (a .cutoff) in
     let ok = c .before .before .before .before .before .before .before .before .before .before .before .before .before .before .before .before .before .before .before .before .pre .1 .0 in
     ended g far (a .room) (a .rows .now) (a .counts .now) (a .max) ok _ (c .before .before .before .before .before .before .before .before .before .loop .out-positions) (c .before .before .before .before .before .before .before .before .before .loop .out-channels) (c .before .before .before .before .before .before .before .before .before .loop .s) (c .before .before .before .before .before .before .before .before .before .loop .place) (c .before .before .before .before .before .before .before .before .before .loop .x) (c .before .before .before .before .before .before .before .before .before .loop .inv) (λ h. absurd (omega (arith, h, c .before .before .before .before .before .before .before .if1 .left))) (c .before .before .before .before .emit .last .1 .1 .1 .0) (c .before .before .before .before .emit .last .1 .1 .1 .1 .0) (c .before .before .before .before .emit .result) (c .before .before .before .before .emit .ensures)
 

@@ -2,7 +2,7 @@
 use mathlib.Core.Path.{_∙_}
 use native.Mathlib.Omega.{arith}
 use Rattle.gradient.specs.Ramp.{anyColour}
-use Rattle.linearize.specs.Difference.{differs}
+use Rattle.linearize.specs.Difference.{exceeds}
 use Rattle.linearize.specs.Places.{listOf}
 use Rattle.linearize.specs.Walk.{run}
 use Rattle.linearize.proofs.Walks.{emitted-as}
@@ -28,7 +28,7 @@ finish-requires : tie.Need-finish-requires
 finish-requires c κs =
     let a = c .before .before .before .before .before .before .before .before .before .before .before .before .before .before .before .before .before .before .before .before .args in
     let g = anyColour (a .kind) (a .positions .now) (a .channels .now) (a .codes .now) in
-    let far = differs (a .threshold) in
+    let far = exceeds (a .cutoff) in
     let ps = a .out-positions .now in
     let cs = a .out-channels .now in
     let ts = listOf (a .rows .now) (a .counts .now) (a .max) in
@@ -49,7 +49,7 @@ returns : tie.Need-returns
 returns c =
     let a = c .before .before .before .before .before .before .before .before .before .before .before .before .before .before .before .before .before .before .before .before .before .before .before .before .before .args in
     let g = anyColour (a .kind) (a .positions .now) (a .channels .now) (a .codes .now) in
-    let far = differs (a .threshold) in
+    let far = exceeds (a .cutoff) in
     let ps = a .out-positions .now in
     let cs = a .out-channels .now in
     let ts = listOf (a .rows .now) (a .counts .now) (a .max) in
@@ -67,7 +67,7 @@ thin-points-requires : tie.Need-thin-points-requires
 thin-points-requires c κs =
     let a = c .before .before .before .before .before .before .before .before .before .before .before .before .before .before .before .before .before .before .before .before .args in
     let g = anyColour (a .kind) (a .positions .now) (a .channels .now) (a .codes .now) in
-    let far = differs (a .threshold) in
+    let far = exceeds (a .cutoff) in
     let ps = a .out-positions .now in
     let cs = a .out-channels .now in
     let ts = listOf (a .rows .now) (a .counts .now) (a .max) in
@@ -84,7 +84,7 @@ finish-requires-2 : tie.Need-finish-requires-2
 finish-requires-2 c κs =
     let a = c .before .before .before .before .before .before .before .before .before .before .before .before .before .before .before .before .before .before .before .before .before .before .before .before .before .before .before .args in
     let g = anyColour (a .kind) (a .positions .now) (a .channels .now) (a .codes .now) in
-    let far = differs (a .threshold) in
+    let far = exceeds (a .cutoff) in
     let ps = a .out-positions .now in
     let cs = a .out-channels .now in
     let ts = listOf (a .rows .now) (a .counts .now) (a .max) in
@@ -106,7 +106,7 @@ returns-2 : tie.Need-returns-2
 returns-2 c =
     let a = c .before .before .before .before .before .before .before .before .before .before .before .before .before .before .before .before .before .before .before .before .before .before .before .before .before .before .before .before .before .before .before .before .args in
     let g = anyColour (a .kind) (a .positions .now) (a .channels .now) (a .codes .now) in
-    let far = differs (a .threshold) in
+    let far = exceeds (a .cutoff) in
     let ps = a .out-positions .now in
     let cs = a .out-channels .now in
     let ts = listOf (a .rows .now) (a .counts .now) (a .max) in

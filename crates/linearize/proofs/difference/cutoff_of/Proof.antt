@@ -1,0 +1,17 @@
+-- `cutoff_of` meets its contract: the cutoff of the sampler's threshold. Assumes nothing.
+use Rattle.linearize.proofs.Thresholds.{far-by-cutoff}
+use borrow.Author.Needs.{needs}
+use Rattle.linearize.proofs.difference.cutoff_of.Statement.{statement}
+use Rattle.linearize.proofs.difference.cutoff_of.Tie as tie
+
+new-requires : tie.Need-new-requires
+new-requires c κs = search needs
+
+cutoff-requires : tie.Need-cutoff-requires
+cutoff-requires c κs = search needs
+
+returns : tie.Need-returns
+returns c = far-by-cutoff _ _ _ (c .before .new .ensures) (c .cutoff .ensures)
+
+pub cutoff-of-spec : {M : Type 1} → statement M
+cutoff-of-spec = tie.close (tie.spec new-requires cutoff-requires returns)
