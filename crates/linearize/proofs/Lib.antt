@@ -1,5 +1,6 @@
 pub mod Stores
 pub mod Joined
+pub mod Tabled
 pub mod Thresholds
 pub mod Halves
 pub mod Rows

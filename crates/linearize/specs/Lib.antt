@@ -2,6 +2,7 @@ pub mod Constants
 pub mod Difference
 pub mod Midpoints
 pub mod Cells
+pub mod Segments
 pub mod Places
 pub mod Kept
 pub mod Walk

@@ -3,6 +3,7 @@ use crate::Halved;
 use crate::Point;
 use crate::Sampler;
 use crate::difference::stands_out;
+use crate::segments;
 use gradient::Kind;
 use gradient::utils::interpolate_linear;
 ghost use mathlib.Core.Path.{_≡_};
@@ -14,9 +15,10 @@ ghost use Rattle.gradient.specs.Ramp.{anyColour};
 ghost use Rattle.linearize.specs.Constants.{cells, rowLength, recordLength};
 ghost use Rattle.linearize.specs.Difference.{exceeds};
 ghost use Rattle.linearize.specs.Cells.{edgeOf};
+ghost use Rattle.linearize.specs.Segments.{Segments};
 ghost use Rattle.linearize.specs.Promises.{Coloured, HalvesTo, RowIs, CellAnew, RecordIs};
 
-pub(crate) fn evaluate(
+pub(crate) fn point_of(
     kind: Kind,
     positions: &[f32],
     channels: &[f32],
@@ -31,6 +33,25 @@ pub(crate) fn evaluate(
     }
 }
 
+// The same with a table of segments in hand, which is empty where the ramp has none.
+pub(crate) fn evaluate(
+    kind: Kind,
+    positions: &[f32],
+    channels: &[f32],
+    codes: &[u8],
+    t: f32,
+    table: &[[[f32; 4]; 4]],
+) -> Point
+    requires { ⌜ Segments (now channels) (length (now positions)) (now table) ⌝ }
+    ensures { λ r. ⌜ (r .t ≡ t) × Coloured (anyColour kind (now (positions .entry)) (now (channels .entry)) (now (codes .entry))) r ⌝ }
+{
+    if segments::is_catmull_rom(kind) {
+        let colour = segments::colour_at(positions, channels, table, t);
+        return Point { colour, t };
+    }
+    point_of(kind, positions, channels, codes, t)
+}
+
 // Writes the midpoints kept between p and q into the row from `at` on, in order, with `left` halvings left.
 fn halve(
     kind: Kind,
@@ -43,15 +64,17 @@ fn halve(
     p: Point,
     q: Point,
     left: usize,
+    table: &[[[f32; 4]; 4]],
 ) -> Halved
     requires { ⌜ at + 2 ^ left ≤ length (now row) + 1 ⌝ }
     requires { ⌜ Coloured (anyColour kind (now positions) (now channels) (now codes)) p × Coloured (anyColour kind (now positions) (now channels) (now codes)) q ⌝ }
+    requires { ⌜ Segments (now channels) (length (now positions)) (now table) ⌝ }
     ensures { λ r. ⌜ HalvesTo (anyColour kind (now (positions .entry)) (now (channels .entry)) (now (codes .entry))) (exceeds cutoff) left (p .t) (q .t) at (now (row .entry)) (now (row .exit)) r ⌝ }
 {
     if left == 0 {
         return Halved { at, tries: 0 };
     }
-    let m = evaluate(kind, positions, channels, codes, (p.t + q.t) / 2.0);
+    let m = evaluate(kind, positions, channels, codes, (p.t + q.t) / 2.0, table);
     if !stands_out(
         cutoff,
         m.colour,
@@ -60,7 +83,19 @@ fn halve(
         return Halved { at, tries: 1 };
     }
     let n = left - 1;
-    let a = halve(kind, positions, channels, codes, cutoff, row, at, p, m, n);
+    let a = halve(
+        kind,
+        positions,
+        channels,
+        codes,
+        cutoff,
+        row,
+        at,
+        p,
+        m,
+        n,
+        table,
+    );
     let k = a.at;
     row[k] = m.t;
     let b = halve(
@@ -74,6 +109,7 @@ fn halve(
         m,
         q,
         n,
+        table,
     );
     Halved {
         at: b.at,
@@ -102,9 +138,11 @@ fn row_into(
     row: &mut [f32],
     p: Point,
     q: Point,
+    table: &[[[f32; 4]; 4]],
 ) -> Halved
     requires { ⌜ length (now row) ≡ rowLength ⌝ }
     requires { ⌜ Coloured (anyColour kind (now positions) (now channels) (now codes)) p × Coloured (anyColour kind (now positions) (now channels) (now codes)) q ⌝ }
+    requires { ⌜ Segments (now channels) (length (now positions)) (now table) ⌝ }
     ensures { λ r. ⌜ RowIs (anyColour kind (now (positions .entry)) (now (channels .entry)) (now (codes .entry))) (exceeds cutoff) (p .t) (q .t) (now (row .exit)) r ⌝ }
 {
     row[0] = p.t;
@@ -119,6 +157,7 @@ fn row_into(
         p,
         q,
         Sampler::DEPTH,
+        table,
     );
     let at = h.at;
     clear_from(row, at);
@@ -147,10 +186,12 @@ pub(crate) fn cell_into(
     q: Point,
     rows: &mut [f32],
     counts: &mut [u8],
+    table: &[[[f32; 4]; 4]],
 ) -> usize
     requires { ⌜ (i < cells) × ((length (now rows) ≡ recordLength) × (length (now counts) ≡ cells)) ⌝ }
     requires { ⌜ (p .t ≡ edgeOf min max i) × (q .t ≡ edgeOf min max (i + 1)) ⌝ }
     requires { ⌜ Coloured (anyColour kind (now positions) (now channels) (now codes)) p × Coloured (anyColour kind (now positions) (now channels) (now codes)) q ⌝ }
+    requires { ⌜ Segments (now channels) (length (now positions)) (now table) ⌝ }
     ensures { λ r. ⌜ CellAnew (anyColour kind (now (positions .entry)) (now (channels .entry)) (now (codes .entry))) (exceeds cutoff) min max i (now (rows .entry)) (now (rows .exit)) (now (counts .entry)) (now (counts .exit)) r ⌝ }
 {
     let a = i * Sampler::ROW;
@@ -164,12 +205,57 @@ pub(crate) fn cell_into(
         &mut rows[a..e],
         p,
         q,
+        table,
     );
     counts[i] = h.at as u8;
     h.tries
 }
 
 // Samples every cell; a cell's right end is the next one's left. Gives the tries.
+fn sample_each(
+    kind: Kind,
+    positions: &[f32],
+    channels: &[f32],
+    codes: &[u8],
+    cutoff: f32,
+    min: f32,
+    max: f32,
+    rows: &mut [f32],
+    counts: &mut [u8],
+    table: &[[[f32; 4]; 4]],
+) -> usize
+    requires { ⌜ (length (now rows) ≡ recordLength) × (length (now counts) ≡ cells) ⌝ }
+    requires { ⌜ Segments (now channels) (length (now positions)) (now table) ⌝ }
+    ensures { λ r. ⌜ RecordIs (anyColour kind (now (positions .entry)) (now (channels .entry)) (now (codes .entry))) (exceeds cutoff) min max (now (rows .exit)) (now (counts .exit)) r ⌝ }
+{
+    let mut n = 0;
+    let mut i = 0;
+    let mut p = evaluate(kind, positions, channels, codes, edge(min, max, 0), table);
+    while i < Sampler::CELLS {
+        let j = i + 1;
+        let q = evaluate(kind, positions, channels, codes, edge(min, max, j), table);
+        n += cell_into(
+            kind,
+            positions,
+            channels,
+            codes,
+            cutoff,
+            min,
+            max,
+            i,
+            p,
+            q,
+            rows,
+            counts,
+            table,
+        );
+        p = q;
+        i = j;
+    }
+    n
+}
+
+// Samples every cell. Gives the tries. The segments of a Catmull-Rom ramp are worked out once, in a table.
 pub(crate) fn sample_cells(
     kind: Kind,
     positions: &[f32],
@@ -184,13 +270,9 @@ pub(crate) fn sample_cells(
     requires { ⌜ (length (now rows) ≡ recordLength) × (length (now counts) ≡ cells) ⌝ }
     ensures { λ r. ⌜ RecordIs (anyColour kind (now (positions .entry)) (now (channels .entry)) (now (codes .entry))) (exceeds cutoff) min max (now (rows .exit)) (now (counts .exit)) r ⌝ }
 {
-    let mut n = 0;
-    let mut i = 0;
-    let mut p = evaluate(kind, positions, channels, codes, edge(min, max, 0));
-    while i < Sampler::CELLS {
-        let j = i + 1;
-        let q = evaluate(kind, positions, channels, codes, edge(min, max, j));
-        n += cell_into(
+    if !segments::is_catmull_rom(kind) {
+        let none = [[[0.0f32; 4]; 4]; 1];
+        return sample_each(
             kind,
             positions,
             channels,
@@ -198,14 +280,23 @@ pub(crate) fn sample_cells(
             cutoff,
             min,
             max,
-            i,
-            p,
-            q,
             rows,
             counts,
+            &none[..0],
         );
-        p = q;
-        i = j;
     }
-    n
+    let mut table = [[[0.0f32; 4]; 4]; segments::ROOM];
+    let m = segments::fill(channels, positions.len(), &mut table);
+    sample_each(
+        kind,
+        positions,
+        channels,
+        codes,
+        cutoff,
+        min,
+        max,
+        rows,
+        counts,
+        &table[..m],
+    )
 }

@@ -11,6 +11,7 @@ ghost use Rattle.linearize.specs.Promises.{Samples, Thins, Flattens};
 mod cells;
 mod difference;
 pub mod refreshing;
+mod segments;
 mod thinning;
 
 // The shape of a record, the depth of the halving, the thresholds, and how far a domain may reach.

@@ -4,7 +4,7 @@ use crate::Listed;
 use crate::Sampler;
 use crate::cells::cell_into;
 use crate::cells::edge;
-use crate::cells::evaluate;
+use crate::cells::point_of;
 use crate::check_thin;
 use crate::difference::cutoff_of;
 use crate::thinning::put_colour;
@@ -153,8 +153,9 @@ fn refresh_cell(
     if is_clear(positions, reach, k, t0, t1) {
         return 0;
     }
-    let p = evaluate(kind, positions, channels, codes, t0);
-    let q = evaluate(kind, positions, channels, codes, t1);
+    let p = point_of(kind, positions, channels, codes, t0);
+    let q = point_of(kind, positions, channels, codes, t1);
+    let none = [[[0.0f32; 4]; 4]; 1];
     cell_into(
         kind,
         positions,
@@ -168,6 +169,7 @@ fn refresh_cell(
         q,
         rows,
         counts,
+        &none[..0],
     )
 }
 

@@ -7,6 +7,7 @@ use crate::Sampler;
 use crate::cells::clear_from;
 use crate::cells::evaluate;
 use crate::difference::stands_out;
+use crate::segments;
 use gradient::Kind;
 use gradient::Rgba;
 use gradient::stops::is_finite_colour;
@@ -22,6 +23,7 @@ ghost use Rattle.linearize.specs.Places.{listOf, nextPlace, pointAt};
 ghost use Rattle.linearize.specs.Kept.{nearOf, stopRefusal, channelsOf, roomOf, writtenOf};
 ghost use Rattle.linearize.specs.Walk.{run, emitRun, stepRun, outcome};
 ghost use Rattle.linearize.specs.Desk.{listedOf};
+ghost use Rattle.linearize.specs.Segments.{Segments};
 ghost use Rattle.linearize.specs.Promises.{Ready, Started, Thinned, ListMade};
 
 fn next_place(counts: &[u8], place: Place) -> Place
@@ -167,17 +169,33 @@ fn thin_points(
     counts: &[u8],
     out_positions: &mut [f32],
     out_channels: &mut [f32],
+    table: &[[[f32; 4]; 4]],
 ) -> Progress
     requires { ⌜ (room ≤ length (now «out_positions»)) × (4 * room ≤ length (now «out_channels»)) ⌝ }
     requires { ⌜ Ready (now rows) (now counts) × Started (anyColour kind (now positions) (now channels) (now codes)) room start ⌝ }
+    requires { ⌜ Segments (now channels) (length (now positions)) (now table) ⌝ }
     ensures { λ r. ⌜ Thinned (outcome (anyColour kind (now (positions .entry)) (now (channels .entry)) (now (codes .entry))) (exceeds cutoff) room (run start (now («out_positions» .entry)) (now («out_channels» .entry))) (drop 1 (listOf (now (rows .entry)) (now (counts .entry)) max))) room (run r (now («out_positions» .exit)) (now («out_channels» .exit))) ⌝ }
 {
     let mut s = start;
     let mut place = next_place(counts, Place { row: 0, index: 0 });
-    let mut x = evaluate(kind, positions, channels, codes, point_at(rows, max, place));
+    let mut x = evaluate(
+        kind,
+        positions,
+        channels,
+        codes,
+        point_at(rows, max, place),
+        table,
+    );
     while place.row < Sampler::CELLS {
         let after = next_place(counts, place);
-        let next = evaluate(kind, positions, channels, codes, point_at(rows, max, after));
+        let next = evaluate(
+            kind,
+            positions,
+            channels,
+            codes,
+            point_at(rows, max, after),
+            table,
+        );
         s = step(cutoff, room, s, x, next, out_positions, out_channels);
         let refusal = s.refusal;
         if refusal != 0 {
@@ -219,8 +237,8 @@ fn finish(s: Progress, out_positions: &mut [f32], out_channels: &mut [f32]) -> L
     }
 }
 
-// Thins a record's points, and writes the stops.
-pub(crate) fn thin_record(
+// The same with the table in hand: a stop for the first point, and the others thinned.
+fn thin_each(
     kind: Kind,
     positions: &[f32],
     channels: &[f32],
@@ -231,12 +249,14 @@ pub(crate) fn thin_record(
     counts: &[u8],
     out_positions: &mut [f32],
     out_channels: &mut [f32],
+    table: &[[[f32; 4]; 4]],
 ) -> Listed
     requires { ⌜ Ready (now rows) (now counts) ⌝ }
+    requires { ⌜ Segments (now channels) (length (now positions)) (now table) ⌝ }
     ensures { λ r. ⌜ ListMade (anyColour kind (now (positions .entry)) (now (channels .entry)) (now (codes .entry))) (exceeds cutoff) (roomOf (now («out_positions» .entry)) (now («out_channels» .entry))) (listOf (now (rows .entry)) (now (counts .entry)) max) (now («out_positions» .entry)) (now («out_positions» .exit)) (now («out_channels» .entry)) (now («out_channels» .exit)) r ⌝ }
 {
     let room = room_of(out_positions.len(), out_channels.len());
-    let first = evaluate(kind, positions, channels, codes, rows[0]);
+    let first = evaluate(kind, positions, channels, codes, rows[0], table);
     let start = Progress {
         last: first,
         stops: 0,
@@ -261,6 +281,56 @@ pub(crate) fn thin_record(
         counts,
         out_positions,
         out_channels,
+        table,
     );
     finish(e, out_positions, out_channels)
+}
+
+// Thins a record's points, and writes the stops. The segments of a Catmull-Rom ramp are worked out once, in a table.
+pub(crate) fn thin_record(
+    kind: Kind,
+    positions: &[f32],
+    channels: &[f32],
+    codes: &[u8],
+    cutoff: f32,
+    max: f32,
+    rows: &[f32],
+    counts: &[u8],
+    out_positions: &mut [f32],
+    out_channels: &mut [f32],
+) -> Listed
+    requires { ⌜ Ready (now rows) (now counts) ⌝ }
+    ensures { λ r. ⌜ ListMade (anyColour kind (now (positions .entry)) (now (channels .entry)) (now (codes .entry))) (exceeds cutoff) (roomOf (now («out_positions» .entry)) (now («out_channels» .entry))) (listOf (now (rows .entry)) (now (counts .entry)) max) (now («out_positions» .entry)) (now («out_positions» .exit)) (now («out_channels» .entry)) (now («out_channels» .exit)) r ⌝ }
+{
+    if !segments::is_catmull_rom(kind) {
+        let none = [[[0.0f32; 4]; 4]; 1];
+        return thin_each(
+            kind,
+            positions,
+            channels,
+            codes,
+            cutoff,
+            max,
+            rows,
+            counts,
+            out_positions,
+            out_channels,
+            &none[..0],
+        );
+    }
+    let mut table = [[[0.0f32; 4]; 4]; segments::ROOM];
+    let m = segments::fill(channels, positions.len(), &mut table);
+    thin_each(
+        kind,
+        positions,
+        channels,
+        codes,
+        cutoff,
+        max,
+        rows,
+        counts,
+        out_positions,
+        out_channels,
+        &table[..m],
+    )
 }

@@ -21,14 +21,14 @@ use Rattle.linearize.proofs.difference.stands_out.Reads as stands-out-r
 use Rattle.linearize.proofs.cells.+halve.{statement}
 use Rattle.linearize.proofs.cells.+halve.Tie.{close}
 
-abbrev μ-halve : Measures 4 halve-kinds.ps ℕ
+abbrev μ-halve : Measures 5 halve-kinds.ps ℕ
 μ-halve κs a = a .1 .1 .1 .1 .1 .1 .1 .1 .1 .0
 
-abbrev halve-at : ℕ → In 4 halve-kinds.ps
-halve-at t = and 4 halve-kinds.ps (is 4 halve-kinds.ps μ-halve t) halve.Pre
+abbrev halve-at : ℕ → In 5 halve-kinds.ps
+halve-at t = and 5 halve-kinds.ps (is 5 halve-kinds.ps μ-halve t) halve.Pre
 
-abbrev halve-below : ℕ → In 4 halve-kinds.ps
-halve-below t = and 4 halve-kinds.ps (falls 4 halve-kinds.ps _<_ μ-halve t) halve.Pre
+abbrev halve-below : ℕ → In 5 halve-kinds.ps
+halve-below t = and 5 halve-kinds.ps (falls 5 halve-kinds.ps _<_ μ-halve t) halve.Pre
 
 halve-returns : (t : ℕ) → halve-lts.Need-returns (
   evaluate-reads.Asked,
@@ -56,7 +56,7 @@ halve-evaluate-requires : (t : ℕ) → halve-lts.Need-evaluate-requires (
   halve-below t,
   halve.Post,
 ) (halve-at t) halve.Post
-halve-evaluate-requires t c κs = search needs
+halve-evaluate-requires t c κs = c .before .before .before .before .before .before .before .pre .1 .1 .1
 
 halve-interpolate-linear-requires : (t : ℕ) → halve-lts.Need-interpolate-linear-requires (
   evaluate-reads.Asked,
@@ -102,7 +102,7 @@ halve-returns-2 t c =
     let n = s .args .left in
     let mid = c .before .before .before .evaluate .result .t in
     let ne = c .before .before .before .before .before .before .if1 .left in
-    let nope = keeps-by g far t0 t1 _ _ _ _ _ _ _ (s .pre .1 .1 .0) (s .pre .1 .1 .1) (c .before .before .before .evaluate .ensures .0) (c .before .before .before .evaluate .ensures .1) (c .before .before .interpolate-linear .ensures) (c .before .stands-out .ensures) (not-true _ (c .if2 .taken)) in
+    let nope = keeps-by g far t0 t1 _ _ _ _ _ _ _ (s .pre .1 .1 .0 .0) (s .pre .1 .1 .0 .1) (c .before .before .before .evaluate .ensures .0) (c .before .before .before .evaluate .ensures .1) (c .before .before .interpolate-linear .ensures) (c .before .stands-out .ensures) (not-true _ (c .if2 .taken)) in
     let e = halves-no g far t0 t1 n nope in
     record { next = rw e (omega arith); tried = sym (tries-no g far t0 t1 n ne nope); written = rw e }
 
@@ -132,7 +132,7 @@ unfolding midOf
 halve-halve-requires t c κs =
     let s = (c .before .before .before .before .before .before .before .before .before .before .before .before) in
     let ne = c .before .before .before .before .before .before .before .if1 .left in
-    (omega (arith, s .pre .0, ne), (omega (arith, pow-left (s .args .left) ne, s .pre .1 .0), (s .pre .1 .1 .0, c .before .before .before .before .evaluate .ensures .1)))
+    (omega (arith, s .pre .0, ne), (omega (arith, pow-left (s .args .left) ne, s .pre .1 .0), ((s .pre .1 .1 .0 .0, c .before .before .before .before .evaluate .ensures .1), s .pre .1 .1 .1)))
 
 halve-mul-row : (t : ℕ) → halve-lts.Need-mul-row (
   evaluate-reads.Asked,
@@ -228,9 +228,9 @@ halve-halve-requires-2 t c κs =
     let ne = c .before .before .before .before .before .before .before .before .before .before .before .if1 .left in
     let h1 = (c .before .before .before .halve) in
     let e1 : h1 .result .at ≡ s .args .at + length (halves g far (n - 1) t0 mid) = h1 .ensures .next in
-    (omega (arith, s .pre .0, ne), (simp length-set (omega (arith, h1 .kept .1 .1 .1 .1 .1 .0, e1, short g far (n - 1) t0 mid, pow-left n ne, s .pre .1 .0)), (c .before .before .before .before .before .before .before .before .evaluate .ensures .1, s .pre .1 .1 .1)))
+    (omega (arith, s .pre .0, ne), (simp length-set (omega (arith, h1 .kept .1 .1 .1 .1 .1 .0, e1, short g far (n - 1) t0 mid, pow-left n ne, s .pre .1 .0)), ((c .before .before .before .before .before .before .before .before .evaluate .ensures .1, s .pre .1 .1 .0 .1), s .pre .1 .1 .1)))
 
-halve-add-t23 : (t : ℕ) → halve-lts.Need-add-t23 (
+halve-add-t24 : (t : ℕ) → halve-lts.Need-add-t24 (
   evaluate-reads.Asked,
   evaluate-reads.Learnt,
   interpolate-linear-reads.Asked,
@@ -241,7 +241,7 @@ halve-add-t23 : (t : ℕ) → halve-lts.Need-add-t23 (
   halve.Post,
 ) (halve-at t) halve.Post
 unfolding midOf
-halve-add-t23 t c =
+halve-add-t24 t c =
     let s = (c .before .before .before .before .before .before .before .before .before .before .before .before .before .before .before .before .before .before .before .before .before) in
     let g = anyColour (s .args .kind) (s .args .positions .now) (s .args .channels .now) (s .args .codes .now) in
     let far = exceeds (s .args .cutoff) in
@@ -257,7 +257,7 @@ halve-add-t23 t c =
     let e4 : h2 .result .tries ≡ tries g far (n - 1) mid t1 = h2 .ensures .tried in
     omega (arith, e3, e4, few g far (n - 1) t0 mid, few g far (n - 1) mid t1, pow-left n ne, s .pre .1 .0, s .good .1 .1 .1 .1 .1 .0 .0)
 
-halve-add-t27 : (t : ℕ) → halve-lts.Need-add-t27 (
+halve-add-t28 : (t : ℕ) → halve-lts.Need-add-t28 (
   evaluate-reads.Asked,
   evaluate-reads.Learnt,
   interpolate-linear-reads.Asked,
@@ -268,7 +268,7 @@ halve-add-t27 : (t : ℕ) → halve-lts.Need-add-t27 (
   halve.Post,
 ) (halve-at t) halve.Post
 unfolding midOf
-halve-add-t27 t c =
+halve-add-t28 t c =
     let s = (c .before .before .before .before .before .before .before .before .before .before .before .before .before .before .before .before .before .before .before .before .before) in
     let g = anyColour (s .args .kind) (s .args .positions .now) (s .args .channels .now) (s .args .codes .now) in
     let far = exceeds (s .args .cutoff) in
@@ -321,7 +321,7 @@ halve-returns-3 t c =
     let h2 = (c .before .before .before .before .halve2) in
     let e3 : h1 .result .tries ≡ tries g far (n - 1) t0 mid = h1 .ensures .tried in
     let e4 : h2 .result .tries ≡ tries g far (n - 1) mid t1 = h2 .ensures .tried in
-    let yes = keeps-by g far t0 t1 _ _ _ _ _ _ _ (s .pre .1 .1 .0) (s .pre .1 .1 .1) (c .before .before .before .before .before .before .before .before .before .before .before .before .before .evaluate .ensures .0) (c .before .before .before .before .before .before .before .before .before .before .before .before .before .evaluate .ensures .1) (c .before .before .before .before .before .before .before .before .before .before .before .before .interpolate-linear .ensures) (c .before .before .before .before .before .before .before .before .before .before .before .stands-out .ensures) (not-false _ (c .before .before .before .before .before .before .before .before .before .before .if2 .left)) in
+    let yes = keeps-by g far t0 t1 _ _ _ _ _ _ _ (s .pre .1 .1 .0 .0) (s .pre .1 .1 .0 .1) (c .before .before .before .before .before .before .before .before .before .before .before .before .before .evaluate .ensures .0) (c .before .before .before .before .before .before .before .before .before .before .before .before .before .evaluate .ensures .1) (c .before .before .before .before .before .before .before .before .before .before .before .before .interpolate-linear .ensures) (c .before .before .before .before .before .before .before .before .before .before .before .stands-out .ensures) (not-false _ (c .before .before .before .before .before .before .before .before .before .before .if2 .left)) in
     let all = halves-yes g far t0 t1 n mid ne (c .before .before .before .before .before .before .before .before .before .before .before .before .before .evaluate .ensures .0) yes in
     let xs = halves g far (n - 1) t0 mid in
     let ys = halves g far (n - 1) mid t1 in
@@ -355,7 +355,7 @@ pub +halve-spec : {M : Type 1} → statement M
     (halve-slice-write-row t)
     (halve-add-halve t)
     (halve-halve-requires-2 t)
-    (halve-add-t23 t)
-    (halve-add-t27 t)
+    (halve-add-t24 t)
+    (halve-add-t28 t)
     (halve-same-length t)
     (halve-returns-3 t)

@@ -11,7 +11,7 @@ slice-write-row : tie.Need-slice-write-row
 slice-write-row c = search needs
 
 halve-requires : tie.Need-halve-requires
-halve-requires c κs = (simp length-set (omega arith), (c .before .before .before .before .before .pre .1 .0, c .before .before .before .before .before .pre .1 .1))
+halve-requires c κs = (simp length-set (omega arith), c .before .before .before .before .before .pre .1)
 
 clear-from-requires : tie.Need-clear-from-requires
 clear-from-requires c κs = search needs

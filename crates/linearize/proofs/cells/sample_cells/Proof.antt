@@ -1,101 +1,73 @@
--- `sample_cells` meets its contract: after i turns the first i cells are sampled, and p is the end where the next one starts. Assumes nothing.
-use mathlib.Core.Path.{_∙_}
-use Prim.Native.Nat.{_-_}
-use native.Mathlib.Omega.{arith}
-use Rattle.gradient.specs.Ramp.{anyColour}
-use Rattle.linearize.specs.Difference.{exceeds}
-use Rattle.linearize.proofs.Rows.{cell-tries-most}
-use Rattle.linearize.proofs.Filling.{Sampling, start, anew, sampled}
+-- `sample_cells` meets its contract: the cells are sampled with a table of segments, or with none. Assumes nothing.
+use mathlib.Core.Path.{sym}
+use mathlib.Core.List.{[]}
+use lib.Seq.{length-take-le}
+use Rattle.linearize.proofs.Tabled.{no-segments}
+use borrow.Author.Needs.{needs}
 use Rattle.linearize.proofs.cells.sample_cells.Statement.{statement}
 use Rattle.linearize.proofs.cells.sample_cells.Tie as tie
 
-abbrev Inv-loop : tie.InvT-loop
-Inv-loop kind positions channels codes cutoff min max rows₀ counts₀ n₀ i₀ p₀ rows counts n i p =
-    Sampling (anyColour kind positions channels codes) (exceeds cutoff) min max rows₀ counts₀ rows counts n i p
+is-catmull-rom-requires : tie.Need-is-catmull-rom-requires
+is-catmull-rom-requires c κs = search needs
 
-abbrev μ-loop : tie.MeasureT-loop
-μ-loop kind positions channels codes cutoff min max rows₀ counts₀ n₀ i₀ p₀ rows counts n i p = 36 - i
+array-share-prefix-none : tie.Need-array-share-prefix-none
+array-share-prefix-none c = search needs
 
-edge-requires : tie.Need-edge-requires Inv-loop μ-loop
-edge-requires c κs = omega arith
+slice-aggregate-sample-each : tie.Need-slice-aggregate-sample-each
+slice-aggregate-sample-each c = search needs
 
-evaluate-requires : tie.Need-evaluate-requires Inv-loop μ-loop
-evaluate-requires c κs = tt
+sample-each-requires : tie.Need-sample-each-requires
+sample-each-requires c κs = (c .before .before .before .before .before .before .before .before .before .before .pre, no-segments _ _ [])
 
-loop-holds : tie.Need-loop-holds Inv-loop μ-loop
-loop-holds c =
-    let s = (c .before .before .before .before .before .before .before) in
-    let g = anyColour (s .args .kind) (s .args .positions .now) (s .args .channels .now) (s .args .codes .now) in
-    record { filled = start _ _ _ _ _; ended = c .evaluate .ensures .0 ∙ c .before .edge .ensures; coloured = c .evaluate .ensures .1 }
+same-length : tie.Need-same-length
+same-length c = search needs
 
-add-j : tie.Need-add-j Inv-loop μ-loop
-add-j c = omega arith
+same-length-2 : tie.Need-same-length-2
+same-length-2 c = search needs
 
-edge-requires-2 : tie.Need-edge-requires-2 Inv-loop μ-loop
-edge-requires-2 c κs = omega arith
+returns : tie.Need-returns
+returns c = search needs
 
-evaluate-requires-2 : tie.Need-evaluate-requires-2 Inv-loop μ-loop
-evaluate-requires-2 c κs = tt
+slice-aggregate-fill : tie.Need-slice-aggregate-fill
+slice-aggregate-fill c = search needs
 
-cell-into-requires : tie.Need-cell-into-requires Inv-loop μ-loop
-cell-into-requires c κs =
-    let s = (c .before .before .before .before .before .before .before .before .before .before .before .before .before) in
-    let l = (c .before .before .before .before .before .loop) in (
-      (c .before .before .before .before .loop-test .taken, (l .inv .filled .rows-length ∙ s .pre .0, l .inv .filled .counts-length ∙ s .pre .1)),
-      ((l .inv .ended, c .before .before .evaluate2 .ensures .0 ∙ c .before .before .before .edge2 .ensures), (l .inv .coloured, c .before .before .evaluate2 .ensures .1)),
-    )
+fill-requires : tie.Need-fill-requires
+fill-requires c κs = search needs
 
-add-n : tie.Need-add-n Inv-loop μ-loop
-add-n c =
-    let s = (c .before .before .before .before .before .before .before .before .before .before .before .before .before .before .before .before .before .before) in
-    let l = (c .before .before .before .before .before .before .before .before .before .before .loop) in
-    let g = anyColour (s .args .kind) (s .args .positions .now) (s .args .channels .now) (s .args .codes .now) in
-    omega (arith, c .before .before .before .before .cell-into .ensures .tried, cell-tries-most g (exceeds (s .args .cutoff)) (s .args .min) (s .args .max) (l .i), l .inv .filled .few, l .inv .filled .within)
+array-share-prefix-table : tie.Need-array-share-prefix-table
+array-share-prefix-table c = search needs
 
-loop-less : tie.Need-loop-less Inv-loop μ-loop
-loop-less c = omega arith
+slice-aggregate-sample-each-2 : tie.Need-slice-aggregate-sample-each-2
+slice-aggregate-sample-each-2 c = sym (length-take-le _ (c .before .before .before .before .fill .last .1 .1 .0) (c .before .before .before .before .fill .ensures .0))
 
-loop-again : tie.Need-loop-again Inv-loop μ-loop
-loop-again c =
-    let s = (c .before .before .before .before .before .before .before .before .before .before .before .before .before .before .before .before .before .before) in
-    let l = (c .before .before .before .before .before .before .before .before .before .before .loop) in
-    let h = (c .before .before .before .before .cell-into) in
-    let g = anyColour (s .args .kind) (s .args .positions .now) (s .args .channels .now) (s .args .codes .now) in
-    record {
-      filled = anew g (exceeds (s .args .cutoff)) (s .args .min) (s .args .max) _ _ (s .pre .0) (s .pre .1) (l .rows) (h .last .1 .1 .1 .1 .1 .1 .1 .1 .1 .1 .0) (l .counts) (h .last .1 .1 .1 .1 .1 .1 .1 .1 .1 .1 .1 .0) (l .n) (h .result) (l .i) (l .inv .filled) (c .before .before .before .before .before .before .before .before .before .loop-test .taken) (h .ensures);
-      ended = c .before .before .before .before .before .before .before .evaluate2 .ensures .0 ∙ c .before .before .before .before .before .before .before .before .edge2 .ensures;
-      coloured = c .before .before .before .before .before .before .before .evaluate2 .ensures .1;
-    }
+sample-each-requires-2 : tie.Need-sample-each-requires-2
+sample-each-requires-2 c κs = search needs
 
-same-length : tie.Need-same-length Inv-loop μ-loop
-same-length c = c .before .loop .inv .filled .rows-length
+same-length-3 : tie.Need-same-length-3
+same-length-3 c = search needs
 
-same-length-2 : tie.Need-same-length-2 Inv-loop μ-loop
-same-length-2 c = c .before .loop .inv .filled .counts-length
+same-length-4 : tie.Need-same-length-4
+same-length-4 c = search needs
 
-returns : tie.Need-returns Inv-loop μ-loop
-returns c =
-    let s = (c .before .before .before .before .before .before .before .before .before) in
-    let l = (c .before .loop) in
-    let g = anyColour (s .args .kind) (s .args .positions .now) (s .args .channels .now) (s .args .codes .now) in
-    sampled g (exceeds (s .args .cutoff)) (s .args .min) (s .args .max) _ _ (s .pre .0) (s .pre .1) (l .rows) (l .counts) (l .n) (l .i) (l .inv .filled) (c .loop-test .left)
+returns-2 : tie.Need-returns-2
+returns-2 c = search needs
 
 pub sample-cells-spec : {M : Type 1} → statement M
 sample-cells-spec =
     tie.close
     (tie.spec
-    Inv-loop
-    μ-loop
-    edge-requires
-    evaluate-requires
-    loop-holds
-    add-j
-    edge-requires-2
-    evaluate-requires-2
-    cell-into-requires
-    add-n
-    loop-less
-    loop-again
+    is-catmull-rom-requires
+    array-share-prefix-none
+    slice-aggregate-sample-each
+    sample-each-requires
     same-length
     same-length-2
-    returns)
+    returns
+    slice-aggregate-fill
+    fill-requires
+    array-share-prefix-table
+    slice-aggregate-sample-each-2
+    sample-each-requires-2
+    same-length-3
+    same-length-4
+    returns-2)

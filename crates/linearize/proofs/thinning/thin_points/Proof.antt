@@ -13,52 +13,52 @@ use Rattle.linearize.proofs.thinning.thin_points.Statement.{statement}
 use Rattle.linearize.proofs.thinning.thin_points.Tie as tie
 
 abbrev Inv-loop : tie.InvT-loop
-Inv-loop kind positions channels codes cutoff max room rows counts out-positions₀ out-channels₀ s₀ place₀ x₀ out-positions out-channels s place x =
+Inv-loop kind positions channels codes cutoff max room rows counts out-positions₀ out-channels₀ table s₀ place₀ x₀ out-positions out-channels s place x =
     Going (anyColour kind positions channels codes) (exceeds cutoff) room rows counts max (run s₀ out-positions₀ out-channels₀) out-positions out-channels s place x
 
 abbrev μ-loop : tie.MeasureT-loop
-μ-loop kind positions channels codes cutoff max room rows counts out-positions₀ out-channels₀ s₀ place₀ x₀ out-positions out-channels s place x =
+μ-loop kind positions channels codes cutoff max room rows counts out-positions₀ out-channels₀ table s₀ place₀ x₀ out-positions out-channels s place x =
     length (listOf rows counts max) - pointsBefore counts place
 
 next-place-requires : tie.Need-next-place-requires Inv-loop μ-loop
-next-place-requires c κs = (c .before .before .before .before .before .before .before .pre .1 .0 .many, (omega arith, omega arith))
+next-place-requires c κs = (c .before .before .before .before .before .before .before .pre .1 .0 .0 .many, (omega arith, omega arith))
 
 point-at-requires : tie.Need-point-at-requires Inv-loop μ-loop
 point-at-requires c κs =
     let a = c .before .before .before .before .before .before .before .before .args in
-    let ok = c .before .before .before .before .before .before .before .before .pre .1 .0 in
+    let ok = c .before .before .before .before .before .before .before .before .pre .1 .0 .0 in
     (ok .long, within-index (a .rows .now) (a .counts .now) (a .max) ok (c .next-place .result) (rw (c .next-place .ensures) (second-within (a .rows .now) (a .counts .now) (a .max) ok)))
 
 evaluate-requires : tie.Need-evaluate-requires Inv-loop μ-loop
-evaluate-requires c κs = tt
+evaluate-requires c κs = c .before .before .before .before .before .before .before .before .before .pre .1 .1
 
 loop-holds : tie.Need-loop-holds Inv-loop μ-loop
 loop-holds c =
     let a = c .before .before .before .before .before .before .before .before .before .before .args in
     let g = anyColour (a .kind) (a .positions .now) (a .channels .now) (a .codes .now) in
     let far = exceeds (a .cutoff) in
-    let ok = c .before .before .before .before .before .before .before .before .before .before .pre .1 .0 in
-    started g far (a .room) (a .rows .now) (a .counts .now) (a .max) ok (a .start) (a .out-positions .now) (a .out-channels .now) (c .before .before .next-place .result) (c .evaluate .result) (c .before .before .before .before .before .before .before .before .before .before .pre .1 .1) (c .before .before .next-place .ensures) (c .evaluate .ensures .0 ∙ c .before .point-at .ensures) (c .evaluate .ensures .1)
+    let ok = c .before .before .before .before .before .before .before .before .before .before .pre .1 .0 .0 in
+    started g far (a .room) (a .rows .now) (a .counts .now) (a .max) ok (a .start) (a .out-positions .now) (a .out-channels .now) (c .before .before .next-place .result) (c .evaluate .result) (c .before .before .before .before .before .before .before .before .before .before .pre .1 .0 .1) (c .before .before .next-place .ensures) (c .evaluate .ensures .0 ∙ c .before .point-at .ensures) (c .evaluate .ensures .1)
 
 next-place-requires-2 : tie.Need-next-place-requires-2 Inv-loop μ-loop
 next-place-requires-2 c κs =
     let a = c .before .before .before .before .before .before .before .before .before .before .before .before .before .args in
-    let ok = c .before .before .before .before .before .before .before .before .before .before .before .before .before .pre .1 .0 in
+    let ok = c .before .before .before .before .before .before .before .before .before .before .before .before .before .pre .1 .0 .0 in
     (ok .many, (c .if1 .taken, within-index (a .rows .now) (a .counts .now) (a .max) ok (c .before .before .loop .place) (c .before .before .loop .inv .within)))
 
 point-at-requires-2 : tie.Need-point-at-requires-2 Inv-loop μ-loop
 point-at-requires-2 c κs =
     let a = c .before .before .before .before .before .before .before .before .before .before .before .before .before .before .args in
-    let ok = c .before .before .before .before .before .before .before .before .before .before .before .before .before .before .pre .1 .0 in
+    let ok = c .before .before .before .before .before .before .before .before .before .before .before .before .before .before .pre .1 .0 .0 in
     (ok .long, within-index (a .rows .now) (a .counts .now) (a .max) ok (c .next-place2 .result) (rw (c .next-place2 .ensures) (next-within (a .rows .now) (a .counts .now) (a .max) ok (c .before .before .before .loop .place) (c .before .before .before .loop .inv .within) (c .before .if1 .taken))))
 
 evaluate-requires-2 : tie.Need-evaluate-requires-2 Inv-loop μ-loop
-evaluate-requires-2 c κs = tt
+evaluate-requires-2 c κs = c .before .before .before .before .before .before .before .before .before .before .before .before .before .before .before .pre .1 .1
 
 step-requires : tie.Need-step-requires Inv-loop μ-loop
 step-requires c κs =
     let a = c .before .before .before .before .before .before .before .before .before .before .before .before .before .before .before .before .before .before .args in
-    let ok = c .before .before .before .before .before .before .before .before .before .before .before .before .before .before .before .before .before .before .pre .1 .0 in
+    let ok = c .before .before .before .before .before .before .before .before .before .before .before .before .before .before .before .before .before .before .pre .1 .0 .0 in
     (omega (arith, c .before .before .before .before .before .before .before .before .before .before .before .before .before .before .before .before .before .before .pre .0, c .before .before .before .before .before .before .before .loop .inv .places-length, c .before .before .before .before .before .before .before .loop .inv .colours-length), omega (arith, c .before .before .before .before .before .before .before .loop .inv .few, more-follow (a .rows .now) (a .counts .now) (a .max) ok (c .before .before .before .before .before .before .before .loop .place) (c .before .before .before .before .before .before .before .loop .inv .within) (c .before .before .before .before .before .if1 .taken), list-most (a .rows .now) (a .counts .now) (a .max) ok))
 
 same-length : tie.Need-same-length Inv-loop μ-loop
@@ -72,13 +72,13 @@ returns c =
     let a = c .before .before .before .before .before .before .before .before .before .before .before .before .before .before .before .before .before .before .before .before .before .before .before .before .args in
     let g = anyColour (a .kind) (a .positions .now) (a .channels .now) (a .codes .now) in
     let far = exceeds (a .cutoff) in
-    let ok = c .before .before .before .before .before .before .before .before .before .before .before .before .before .before .before .before .before .before .before .before .before .before .before .before .pre .1 .0 in
+    let ok = c .before .before .before .before .before .before .before .before .before .before .before .before .before .before .before .before .before .before .before .before .before .before .before .before .pre .1 .0 .0 in
     stopped g far (a .room) (a .rows .now) (a .counts .now) (a .max) ok _ (c .before .before .before .before .before .before .before .before .before .before .before .before .before .loop .out-positions) (c .before .before .before .before .before .before .before .before .before .before .before .before .before .loop .out-channels) (c .before .before .before .before .before .before .before .before .before .before .before .before .before .loop .s) (c .before .before .before .before .before .before .before .before .before .before .before .before .before .loop .place) (c .before .before .before .before .before .before .before .before .before .before .before .before .before .loop .x) (c .before .before .before .before .before .before .before .before .before .before .before .before .before .loop .inv) (c .before .before .before .before .before .before .before .before .before .before .before .if1 .taken) (c .before .before .before .before .before .before .before .before .before .before .next-place2 .result) (c .before .before .before .before .before .before .before .before .evaluate2 .result) (c .before .before .before .before .before .before .before .before .before .before .next-place2 .ensures) (c .before .before .before .before .before .before .before .before .evaluate2 .ensures .0 ∙ c .before .before .before .before .before .before .before .before .before .point-at2 .ensures) (c .before .before .before .before .before .before .before .before .evaluate2 .ensures .1) (c .before .before .before .before .before .step .last .1 .1 .1 .1 .1 .0) (c .before .before .before .before .before .step .last .1 .1 .1 .1 .1 .1 .0) (c .before .before .before .before .before .step .result) (c .before .before .before .before .before .step .ensures) (c .if2 .taken)
 
 loop-less : tie.Need-loop-less Inv-loop μ-loop
 loop-less c =
     let a = c .before .before .before .before .before .before .before .before .before .before .before .before .before .before .before .before .before .before .before .before .before .before .before .before .args in
-    let ok = c .before .before .before .before .before .before .before .before .before .before .before .before .before .before .before .before .before .before .before .before .before .before .before .before .pre .1 .0 in
+    let ok = c .before .before .before .before .before .before .before .before .before .before .before .before .before .before .before .before .before .before .before .before .before .before .before .before .pre .1 .0 .0 in
     rw (c .before .before .before .before .before .before .before .before .before .before .next-place2 .ensures) (omega (arith, before-next (a .rows .now) (a .counts .now) (a .max) ok (c .before .before .before .before .before .before .before .before .before .before .before .before .before .loop .place) (c .before .before .before .before .before .before .before .before .before .before .before .before .before .loop .inv .within) (c .before .before .before .before .before .before .before .before .before .before .before .if1 .taken), more-follow (a .rows .now) (a .counts .now) (a .max) ok (c .before .before .before .before .before .before .before .before .before .before .before .before .before .loop .place) (c .before .before .before .before .before .before .before .before .before .before .before .before .before .loop .inv .within) (c .before .before .before .before .before .before .before .before .before .before .before .if1 .taken)))
 
 loop-again : tie.Need-loop-again Inv-loop μ-loop
@@ -86,7 +86,7 @@ loop-again c =
     let a = c .before .before .before .before .before .before .before .before .before .before .before .before .before .before .before .before .before .before .before .before .before .before .before .before .args in
     let g = anyColour (a .kind) (a .positions .now) (a .channels .now) (a .codes .now) in
     let far = exceeds (a .cutoff) in
-    let ok = c .before .before .before .before .before .before .before .before .before .before .before .before .before .before .before .before .before .before .before .before .before .before .before .before .pre .1 .0 in
+    let ok = c .before .before .before .before .before .before .before .before .before .before .before .before .before .before .before .before .before .before .before .before .before .before .before .before .pre .1 .0 .0 in
     next g far (a .room) (a .rows .now) (a .counts .now) (a .max) ok _ (c .before .before .before .before .before .before .before .before .before .before .before .before .before .loop .out-positions) (c .before .before .before .before .before .before .before .before .before .before .before .before .before .loop .out-channels) (c .before .before .before .before .before .before .before .before .before .before .before .before .before .loop .s) (c .before .before .before .before .before .before .before .before .before .before .before .before .before .loop .place) (c .before .before .before .before .before .before .before .before .before .before .before .before .before .loop .x) (c .before .before .before .before .before .before .before .before .before .before .before .before .before .loop .inv) (c .before .before .before .before .before .before .before .before .before .before .before .if1 .taken) (c .before .before .before .before .before .before .before .before .before .before .next-place2 .result) (c .before .before .before .before .before .before .before .before .evaluate2 .result) (c .before .before .before .before .before .before .before .before .before .before .next-place2 .ensures) (c .before .before .before .before .before .before .before .before .evaluate2 .ensures .0 ∙ c .before .before .before .before .before .before .before .before .before .point-at2 .ensures) (c .before .before .before .before .before .before .before .before .evaluate2 .ensures .1) (c .before .before .before .before .before .step .last .1 .1 .1 .1 .1 .0) (c .before .before .before .before .before .step .last .1 .1 .1 .1 .1 .1 .0) (c .before .before .before .before .before .step .result) (c .before .before .before .before .before .step .ensures) (c .if2 .left) (c .before .before .before .before .before .step .kept .1 .1 .1 .1 .1 .0) (c .before .before .before .before .before .step .kept .1 .1 .1 .1 .1 .1 .0)
 
 emit-requires : tie.Need-emit-requires Inv-loop μ-loop
@@ -103,7 +103,7 @@ returns-2 c =
     let a = c .before .before .before .before .before .before .before .before .before .before .before .before .before .before .before .before .before .before .before .before .args in
     let g = anyColour (a .kind) (a .positions .now) (a .channels .now) (a .codes .now) in
     let far = exceeds (a .cutoff) in
-    let ok = c .before .before .before .before .before .before .before .before .before .before .before .before .before .before .before .before .before .before .before .before .pre .1 .0 in
+    let ok = c .before .before .before .before .before .before .before .before .before .before .before .before .before .before .before .before .before .before .before .before .pre .1 .0 .0 in
     ended g far (a .room) (a .rows .now) (a .counts .now) (a .max) ok _ (c .before .before .before .before .before .before .before .before .before .loop .out-positions) (c .before .before .before .before .before .before .before .before .before .loop .out-channels) (c .before .before .before .before .before .before .before .before .before .loop .s) (c .before .before .before .before .before .before .before .before .before .loop .place) (c .before .before .before .before .before .before .before .before .before .loop .x) (c .before .before .before .before .before .before .before .before .before .loop .inv) (λ h. absurd (omega (arith, h, c .before .before .before .before .before .before .before .if1 .left))) (c .before .before .before .before .emit .last .1 .1 .1 .0) (c .before .before .before .before .emit .last .1 .1 .1 .1 .0) (c .before .before .before .before .emit .result) (c .before .before .before .before .emit .ensures)
 
 pub thin-points-spec : {M : Type 1} → statement M

@@ -1,0 +1,59 @@
+-- A table of Catmull-Rom segments: how it is filled, what it gives, and that the colour by it is the ramp's. Assumes nothing.
+use mathlib.Core.Path.{_≡_, sym, ap, _∙_, subst}
+use mathlib.Core.Bool.{Bool, true}
+use mathlib.Core.List.{List, []}
+use Prim.Native.Nat.{ℕ, _+_, _≤_, _<_}
+use native.Mathlib.Decide.{decLe}
+use native.Mathlib.Nat.{lt-of-not-le}
+use native.Mathlib.Omega.{arith}
+use lib.Dec.{T}
+use lib.ListN.{length, getD, set, take, length-set}
+use lib.Seq.{getD-set-same, getD-set-other, getD-take, length-take-le}
+use lib.Ieee.{Float}
+use Rattle.gradient.specs.Near.{pairOr, segmentFor, segmentIn}
+use Rattle.gradient.specs.Pair.{colourIn}
+use Rattle.gradient.specs.Place.{placeIn}
+use Rattle.gradient.specs.Ramp.{anyColour}
+use Rattle.gradient.specs.declared.Rgba.{Rgba}
+use Rattle.gradient.specs.declared.Place.{Place}
+use Rattle.gradient.specs.declared.Kind.{Kind}
+use Rattle.gradient.specs.declared.Kind.the-variants.{Linear, Smoothstep, Sharp, Basis, CatmullRom, Gimp}
+use Rattle.gradient.proofs.Nearby.{segment-colour}
+use Rattle.linearize.specs.Segments.{isCatmullRom, Segments}
+
+-- ---- filling
+module _ (cs : List Float) (n : ℕ) where
+  -- the first i segments are there
+  pub record Tabled (i : ℕ) (table : List (List (List Float))) : Type 0 where
+    pub within : i ≤ length table
+    pub each : (k : ℕ) → k < i → getD table k [] ≡ segmentFor cs n k
+
+  pub tabled-next : (i : ℕ) (table : List (List (List Float))) (s : List (List Float)) → i < length table → s ≡ segmentFor cs n i → Tabled i table → Tabled (i + 1) (set table i s)
+  tabled-next i table s l e f = record { within = simp length-set (omega arith); each = λ k h. go k h (decLe i k) }
+    where
+      go : (k : ℕ) → k < i + 1 → Dec (i ≤ k) → getD (set table i s) k [] ≡ segmentFor cs n k
+      go k h (yes p) = let q : k ≡ i = omega arith in rw q (getD-set-same table i s [] l ∙ e)
+      go k h (no p) = let q : k < i = lt-of-not-le p in getD-set-other table i k s [] (λ r. absurd (omega arith)) ∙ f .each k q
+
+  pub tabled : (i : ℕ) (table : List (List (List Float))) → Tabled i table → Segments cs n (take i table)
+  tabled i table f =
+      let e = length-take-le i table (f .within) in
+      record { each = λ k l. let h : k < i = omega (arith, e, l) in getD-take i table k [] h ∙ f .each k h }
+
+  pub no-segments : (table : List (List (List Float))) → Segments cs n (take 0 table)
+  no-segments table = record { each = λ k l. absurd (omega arith) }
+
+-- ---- the colour
+pub colour-by : (ps cs : List Float) (t : Float) {z : Rgba} {w : Place} {k : ℕ} {s : List (List Float)}
+    → w ≡ placeIn ps t → k ≡ pairOr w 1 → s ≡ segmentFor cs (length ps) k → z ≡ segmentIn ps cs s t w → z ≡ colourIn CatmullRom ps cs t (placeIn ps t)
+colour-by ps cs t {z} {w} a b c d = d ∙ segment-colour ps cs t w 1 (c ∙ ap (segmentFor cs (length ps)) b) ∙ ap (colourIn CatmullRom ps cs t) a
+
+pub by-segments : (kind : Kind) (ps cs : List Float) (ks : List ℕ) (t : Float) {z : Rgba} {b : Bool}
+    → b ≡ isCatmullRom kind → b ≡ true → z ≡ colourIn CatmullRom ps cs t (placeIn ps t) → z ≡ anyColour kind ps cs ks t
+unfolding anyColour
+by-segments Linear ps cs ks t h e f = absurd (subst T (sym e ∙ h) tt)
+by-segments Smoothstep ps cs ks t h e f = absurd (subst T (sym e ∙ h) tt)
+by-segments Sharp ps cs ks t h e f = absurd (subst T (sym e ∙ h) tt)
+by-segments Basis ps cs ks t h e f = absurd (subst T (sym e ∙ h) tt)
+by-segments CatmullRom ps cs ks t h e f = f
+by-segments Gimp ps cs ks t h e f = absurd (subst T (sym e ∙ h) tt)

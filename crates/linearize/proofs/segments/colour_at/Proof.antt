@@ -1,0 +1,33 @@
+-- `colour_at` meets its contract: the place, the segment of its pair, and the colour by it. Assumes nothing.
+use denote.Ref.{now}
+use Rattle.linearize.proofs.Tabled.{colour-by}
+use borrow.Author.Needs.{needs}
+use Rattle.linearize.proofs.segments.colour_at.Statement.{statement}
+use Rattle.linearize.proofs.segments.colour_at.Tie as tie
+
+find-place-requires : tie.Need-find-place-requires
+find-place-requires c κs = search needs
+
+pair-or-requires : tie.Need-pair-or-requires
+pair-or-requires c κs = search needs
+
+segment-requires : tie.Need-segment-requires
+segment-requires c κs = search needs
+
+segment-colour-requires : tie.Need-segment-colour-requires
+segment-colour-requires c κs = search needs
+
+returns : tie.Need-returns
+returns c =
+    let s = c .before .before .before .before .before .before in
+    colour-by (now (s .args .positions)) (now (s .args .channels)) (s .args .t) (c .before .before .before .find-place .ensures) (c .before .before .pair-or .ensures) (c .before .segment .ensures) (c .segment-colour .ensures)
+
+pub colour-at-spec : {M : Type 1} → statement M
+colour-at-spec =
+    tie.close
+    (tie.spec
+    find-place-requires
+    pair-or-requires
+    segment-requires
+    segment-colour-requires
+    returns)
