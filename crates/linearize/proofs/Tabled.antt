@@ -1,6 +1,6 @@
 -- A table of Catmull-Rom segments: how it is filled, what it gives, and that the colour by it is the ramp's. Assumes nothing.
-use mathlib.Core.Path.{_≡_, sym, ap, _∙_, subst}
-use mathlib.Core.Bool.{Bool, true}
+use mathlib.Core.Path.{_≡_, refl, sym, ap, _∙_, subst}
+use mathlib.Core.Bool.{Bool, true, false}
 use mathlib.Core.List.{List, []}
 use Prim.Native.Nat.{ℕ, _+_, _≤_, _<_}
 use native.Mathlib.Decide.{decLe}
@@ -13,7 +13,8 @@ use lib.Ieee.{Float}
 use Rattle.gradient.specs.Near.{pairOr, segmentFor, segmentIn}
 use Rattle.gradient.specs.Pair.{colourIn}
 use Rattle.gradient.specs.Place.{placeIn}
-use Rattle.gradient.specs.Ramp.{anyColour}
+use Rattle.gradient.specs.Gimp.{gimpColour}
+use Rattle.gradient.specs.Ramp.{isGimp, anyColour}
 use Rattle.gradient.specs.declared.Rgba.{Rgba}
 use Rattle.gradient.specs.declared.Place.{Place}
 use Rattle.gradient.specs.declared.Kind.{Kind}
@@ -44,16 +45,31 @@ module _ (cs : List Float) (n : ℕ) where
   no-segments table = record { each = λ k l. absurd (omega arith) }
 
 -- ---- the colour
-pub colour-by : (ps cs : List Float) (t : Float) {z : Rgba} {w : Place} {k : ℕ} {s : List (List Float)}
-    → w ≡ placeIn ps t → k ≡ pairOr w 1 → s ≡ segmentFor cs (length ps) k → z ≡ segmentIn ps cs s t w → z ≡ colourIn CatmullRom ps cs t (placeIn ps t)
-colour-by ps cs t {z} {w} a b c d = d ∙ segment-colour ps cs t w 1 (c ∙ ap (segmentFor cs (length ps)) b) ∙ ap (colourIn CatmullRom ps cs t) a
+pub colour-by : (ps cs : List Float) (t : Float) (w : Place) {z : Rgba} {k : ℕ} {s : List (List Float)}
+    → k ≡ pairOr w 1 → s ≡ segmentFor cs (length ps) k → z ≡ segmentIn ps cs s t w → z ≡ colourIn CatmullRom ps cs t w
+colour-by ps cs t w b c d = d ∙ segment-colour ps cs t w 1 (c ∙ ap (segmentFor cs (length ps)) b)
 
-pub by-segments : (kind : Kind) (ps cs : List Float) (ks : List ℕ) (t : Float) {z : Rgba} {b : Bool}
-    → b ≡ isCatmullRom kind → b ≡ true → z ≡ colourIn CatmullRom ps cs t (placeIn ps t) → z ≡ anyColour kind ps cs ks t
+catmull-colour : (ps cs : List Float) (ks : List ℕ) (t : Float) → colourIn CatmullRom ps cs t (placeIn ps t) ≡ anyColour CatmullRom ps cs ks t
 unfolding anyColour
-by-segments Linear ps cs ks t h e f = absurd (subst T (sym e ∙ h) tt)
-by-segments Smoothstep ps cs ks t h e f = absurd (subst T (sym e ∙ h) tt)
-by-segments Sharp ps cs ks t h e f = absurd (subst T (sym e ∙ h) tt)
-by-segments Basis ps cs ks t h e f = absurd (subst T (sym e ∙ h) tt)
-by-segments CatmullRom ps cs ks t h e f = f
-by-segments Gimp ps cs ks t h e f = absurd (subst T (sym e ∙ h) tt)
+catmull-colour ps cs ks t = refl
+
+module _ (kind : Kind) (ps cs : List Float) (ks : List ℕ) (t : Float) {z : Rgba} where
+  pub by-gimp : {b : Bool} → b ≡ isGimp kind → b ≡ true → z ≡ gimpColour ps cs ks t → z ≡ anyColour kind ps cs ks t
+  unfolding anyColour
+  by-gimp h e f = f ∙ rw (← h, e)
+
+  module _ {w : Place} (place : w ≡ placeIn ps t) where
+    pub by-stops : {b : Bool} → b ≡ isGimp kind → b ≡ false → z ≡ colourIn kind ps cs t w → z ≡ anyColour kind ps cs ks t
+    unfolding anyColour
+    by-stops h e f = f ∙ rw (← h, e, place)
+
+    pub by-segments : {b : Bool} → b ≡ isCatmullRom kind → b ≡ true → z ≡ colourIn CatmullRom ps cs t w → z ≡ anyColour kind ps cs ks t
+    by-segments h e f = go kind (sym e ∙ h)
+      where
+        go : (u : Kind) → true ≡ isCatmullRom u → z ≡ anyColour u ps cs ks t
+        go Linear h = absurd (subst T h tt)
+        go Smoothstep h = absurd (subst T h tt)
+        go Sharp h = absurd (subst T h tt)
+        go Basis h = absurd (subst T h tt)
+        go CatmullRom h = f ∙ ap (colourIn CatmullRom ps cs t) place ∙ catmull-colour ps cs ks t
+        go Gimp h = absurd (subst T h tt)

@@ -5,13 +5,15 @@ use crate::Sampler;
 use crate::difference::stands_out;
 use crate::segments;
 use gradient::Kind;
+use gradient::gimp;
+use gradient::stops;
 use gradient::utils::interpolate_linear;
 ghost use mathlib.Core.Path.{_≡_};
 ghost use Prim.Native.Nat.{_+_, _≤_, _<_, _^_, _-_};
 ghost use lib.ListN.{length, replicate};
 ghost use lib.Seq.{sets};
 ghost use Rattle.float.specs.F32.{f0};
-ghost use Rattle.gradient.specs.Ramp.{anyColour};
+ghost use Rattle.gradient.specs.Ramp.{isGimp, anyColour};
 ghost use Rattle.linearize.specs.Constants.{cells, rowLength, recordLength};
 ghost use Rattle.linearize.specs.Difference.{exceeds};
 ghost use Rattle.linearize.specs.Cells.{edgeOf};
@@ -33,6 +35,19 @@ pub(crate) fn point_of(
     }
 }
 
+fn is_gimp(kind: Kind) -> bool
+    ensures { λ r. ⌜ r ≡ isGimp kind ⌝ }
+{
+    match kind {
+        Kind::Linear => false,
+        Kind::Smoothstep => false,
+        Kind::Sharp => false,
+        Kind::Basis => false,
+        Kind::CatmullRom => false,
+        Kind::Gimp => true,
+    }
+}
+
 // The same with a table of segments in hand, which is empty where the ramp has none.
 pub(crate) fn evaluate(
     kind: Kind,
@@ -45,11 +60,17 @@ pub(crate) fn evaluate(
     requires { ⌜ Segments (now channels) (length (now positions)) (now table) ⌝ }
     ensures { λ r. ⌜ (r .t ≡ t) × Coloured (anyColour kind (now (positions .entry)) (now (channels .entry)) (now (codes .entry))) r ⌝ }
 {
-    if segments::is_catmull_rom(kind) {
-        let colour = segments::colour_at(positions, channels, table, t);
+    if is_gimp(kind) {
+        let colour = gimp::colour_at(positions, channels, codes, t);
         return Point { colour, t };
     }
-    point_of(kind, positions, channels, codes, t)
+    let place = stops::find_place(positions, t);
+    if segments::is_catmull_rom(kind) {
+        let colour = segments::colour_in(positions, channels, table, t, place);
+        return Point { colour, t };
+    }
+    let colour = stops::colour_in(kind, positions, channels, t, place);
+    Point { colour, t }
 }
 
 // Writes the midpoints kept between p and q into the row from `at` on, in order, with `left` halvings left.

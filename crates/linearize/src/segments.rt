@@ -1,14 +1,13 @@
 // Catmull-Rom segments worked out once for a call: those of the first pairs, as many as a table has room for.
 use gradient::Kind;
+use gradient::Place;
 use gradient::Rgba;
 use gradient::near;
-use gradient::stops;
 ghost use mathlib.Core.Path.{_≡_};
 ghost use Prim.Native.Nat.{_≤_};
 ghost use lib.ListN.{length, take};
 ghost use Rattle.gradient.specs.Near.{segmentFor};
 ghost use Rattle.gradient.specs.Pair.{colourIn};
-ghost use Rattle.gradient.specs.Place.{placeIn};
 ghost use Rattle.linearize.specs.Segments.{isCatmullRom, Segments};
 
 // The pairs of a table on the stack: 16 KiB.
@@ -53,16 +52,17 @@ fn segment(channels: &[f32], n: usize, table: &[[[f32; 4]; 4]], k: usize) -> [[f
     near::segment_for(channels, n, k)
 }
 
-pub(crate) fn colour_at(
+// The colour at a place, by the segment of its pair.
+pub(crate) fn colour_in(
     positions: &[f32],
     channels: &[f32],
     table: &[[[f32; 4]; 4]],
     t: f32,
+    place: Place,
 ) -> Rgba
     requires { ⌜ Segments (now channels) (length (now positions)) (now table) ⌝ }
-    ensures { λ r. ⌜ r ≡ colourIn Kind.CatmullRom (now (positions .entry)) (now (channels .entry)) t (placeIn (now (positions .entry)) t) ⌝ }
+    ensures { λ r. ⌜ r ≡ colourIn Kind.CatmullRom (now (positions .entry)) (now (channels .entry)) t place ⌝ }
 {
-    let place = stops::find_place(positions, t);
     let k = near::pair_or(place, 1);
     let s = segment(channels, positions.len(), table, k);
     near::segment_colour(positions, channels, s, t, place)
