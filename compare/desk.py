@@ -6,14 +6,17 @@
     compare/desk.py --answer FILE          what this reading prints for a file
     compare/desk.py --store                writes what the program `grammar` runs in the gate, and the answers
 
-Written from document 01, and docs/DECISIONS.md where that leaves a choice; it knows nothing of the Rattle code. Texts are sound, damaged (a line or a byte lost,
-doubled, moved, changed), with and without an edit; the status is 1 where an answer differs."""
+Written from document 01, and docs/DECISIONS.md where that leaves a choice; it knows nothing of the Rattle code. Texts
+are sound, damaged (a line or a byte lost, doubled, moved, changed), with and without an edit; the status is 1 where an
+answer differs."""
 import argparse
 import random
 import subprocess
 import sys
 from collections import Counter
 from pathlib import Path
+
+sys.dont_write_bytecode = True
 
 from document import DEFAULT, Ramp, Refusal, bits_of, number, refresh, sample, thin, threshold_of
 

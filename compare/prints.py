@@ -7,6 +7,8 @@ import math
 import sys
 from pathlib import Path
 
+sys.dont_write_bytecode = True
+
 from document import CELLS, DEFAULT, NEAR, Ramp, Refusal, bits_of, f32, float_of, linear, quotient, sample, smoothstep, thin
 from leaves import root, token
 
