@@ -62,7 +62,8 @@ pub tokenBits : String → List ℕ
 unfolding bytes patternOf readOf unsignedOf numberOf beforePoint afterPoint valueAfter areDigits round toBits
 tokenBits s = patternOf (readOf (bytes s))
 
--- The red of GIMP segments tells which one is taken; from black to red it is the factor.
+-- In order: linear, smoothstep, basis and Catmull-Rom from 0 to 1, at 0.25, 0.25, 0.5 and 0.25; sharp, 2 colours, softness 0.5 on 0..1; the roots of 2 and of 2 ^ -149; two tokens;
+-- GIMP segments 0..0.5 and 0.5..1 at 0.5, whose reds tell which is taken; and one with its middle at 0.25, at 0.625, where the red from 0 to 1 is the factor.
 abbrev pub table : List Print
 table =
     record { from = stops Linear 0x3e80_0000 ∷ []; is = 0x3e80_0000 ∷ [] }
