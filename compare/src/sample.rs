@@ -30,7 +30,7 @@ const BUILT: u64 = 60;
 /// lists of each kind, and of the other sorts from their start. The ramps at the limits have those of a ramp.
 const OF_LISTS: [[u32; 2]; 6] = [[1, 4], [2, 8], [3, 5], [4, 7], [7, 8], [5, 1]];
 const OF_THINNED: [u32; 5] = [5, 8, 9, 9, 4];
-const OF_REFRESHED: [u32; 8] = [1, 2, 3, 4, 5, 6, 6, 8];
+const OF_REFRESHED: [u32; 18] = [1, 2, 3, 4, 5, 6, 6, 8, 0, 0, 0, 0, 0, 0, 0, 0, 0, 0];
 const OF_TEXTS: [u32; 8] = [2, 10, 11, 12, 13, 14, 15, 16];
 const OF_BUILT: [u32; 3] = [17, 1, 2];
 
@@ -294,7 +294,8 @@ fn refreshed(options: &Options, words: &mut Words) {
     words.size(REFRESHED as usize);
     for case in 0..REFRESHED {
         let mut random = Random::of_case(options.seed, case);
-        let kind = if case % 8 == 0 { random.pick(&KINDS) } else { random.pick(&[Kind::Linear, Kind::Smoothstep]) };
+        // one of a kind that cannot be refreshed
+        let kind = if case == 6 { random.pick(&KINDS[2..]) } else { random.pick(&[Kind::Linear, Kind::Smoothstep]) };
         let (ramp, threshold, room, edit, refusal, list) = loop {
             let (ramp, threshold) = (short(&mut random, kind), random_threshold(&mut random));
             let room = if random.one_in(8) { Room::ShortRecord } else { Room::Full };
