@@ -3,14 +3,17 @@ use gradient::Kind;
 use gradient::Place;
 use gradient::Rgba;
 use gradient::Stop;
+use gradient::linear;
 use gradient::near;
+use gradient::sharp;
+use gradient::smoothstep;
 use gradient::stops;
 ghost use mathlib.Core.Path.{_≡_};
 ghost use Prim.Native.Nat.{_*_, _≤_, _<_};
 ghost use lib.ListN.{length};
 ghost use Rattle.gradient.specs.Stops.{stopAt};
 ghost use Rattle.gradient.specs.Place.{Rising, firstAt, placeOf};
-ghost use Rattle.gradient.specs.Pair.{between};
+ghost use Rattle.gradient.specs.Pair.{pairOf, between};
 ghost use Rattle.colorgrad.specs.Canvas.{stopColour};
 ghost use Rattle.colorgrad.specs.Unchecked.{Span, Sought, Placed};
 
@@ -88,13 +91,29 @@ fn stop_at(positions: &[f32], channels: &[f32], i: usize) -> Stop
     }
 }
 
+// The colour between p, which is stop k - 1, and q, which is stop k, of n stops. The quick kinds are mixed here:
+// behind the call that the splines take, their stops would go through memory.
+fn mix(kind: Kind, channels: &[f32], n: usize, k: usize, p: Stop, q: Stop, t: f32) -> Rgba
+    requires { ⌜ 1 ≤ k ⌝ }
+    ensures { λ r. ⌜ r ≡ pairOf kind (now (channels .entry)) n k p q t ⌝ }
+{
+    match kind {
+        Kind::Linear => linear::pair_colour(p, q, t),
+        Kind::Smoothstep => smoothstep::pair_colour(p, q, t),
+        Kind::Sharp => sharp::pair_colour(k - 1, p, q, t),
+        Kind::Basis => stops::pair_colour(kind, channels, n, k, p, q, t),
+        Kind::CatmullRom => stops::pair_colour(kind, channels, n, k, p, q, t),
+        Kind::Gimp => stops::pair_colour(kind, channels, n, k, p, q, t),
+    }
+}
+
 fn pair_at(kind: Kind, positions: &[f32], channels: &[f32], k: usize, t: f32) -> Rgba
     requires { ⌜ (1 ≤ k) × (k < length (now positions)) × (length (now channels) ≡ 4 * length (now positions)) ⌝ }
     ensures { λ r. ⌜ r ≡ between kind (now (positions .entry)) (now (channels .entry)) k t ⌝ }
 {
     let p = stop_at(positions, channels, k - 1);
     let q = stop_at(positions, channels, k);
-    stops::pair_colour(kind, channels, positions.len(), k, p, q, t)
+    mix(kind, channels, positions.len(), k, p, q, t)
 }
 
 // The colour at the place of t.

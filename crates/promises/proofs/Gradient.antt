@@ -31,7 +31,14 @@ use Rattle.gradient.proofs.basis.pair_colour.Reads as of-basis-pair
 use Rattle.gradient.proofs.catmull_rom.pair_colour.Reads as of-catmull-rom-pair
 use Rattle.gradient.proofs.catmull_rom.segment.Reads as of-segment
 use Rattle.gradient.proofs.catmull_rom.segment_at.Reads as of-segment-at
+use Rattle.gradient.proofs.stops.pair_colour.Reads as of-pair-colour
+use Rattle.gradient.proofs.near.is_between.Reads as of-is-between
 use Rattle.gradient.proofs.near.find_place.Reads as of-find-place-near
+use Rattle.gradient.proofs.sharp.is_steady.Reads as of-is-steady
+use Rattle.gradient.proofs.gimp.find_segment.Reads as of-find-segment
+use Rattle.gradient.proofs.gimp.place_along.Reads as of-place-along
+use Rattle.gradient.proofs.gimp.blend.Reads as of-blend
+use Rattle.gradient.proofs.gimp.is_off_domain.Reads as of-is-off-domain
 use Rattle.gradient.proofs.near.pair_or.Reads as of-pair-or
 use Rattle.gradient.proofs.near.segment_for.Reads as of-segment-for
 use Rattle.gradient.proofs.near.segment_colour.Reads as of-segment-colour
@@ -93,6 +100,9 @@ left-of κs a = coincide (λ r e w. w)
 pub right-of : (κs : Lfts 1) (a : _) → Coincide (of-right-of.Learnt κs a) answer
 right-of κs a = coincide (λ r e w. w)
 
+pub pair-colour : (κs : Lfts 1) (a : _) → Coincide (of-pair-colour.Learnt κs a) answer
+pair-colour κs a = coincide (λ r e w. w)
+
 pub colour-in : (κs : Lfts 2) (a : _) → Coincide (of-colour-in.Learnt κs a) answer
 colour-in κs a = coincide (λ r e w. w)
 
@@ -120,6 +130,9 @@ segment κs a = coincide (λ r e w. w)
 pub segment-at : (κs : Lfts 0) (a : _) → Coincide (of-segment-at.Learnt κs a) answer
 segment-at κs a = coincide (λ r e w. w)
 
+pub is-between : (κs : Lfts 1) (a : _) → Coincide (of-is-between.Learnt κs a) answer
+is-between κs a = coincide (λ r e w. w)
+
 pub find-place-near : (κs : Lfts 1) (a : _) → Coincide (of-find-place-near.Learnt κs a) answer
 find-place-near κs a = coincide (λ r e w. w)
 
@@ -144,11 +157,26 @@ linspace κs a = coincide (λ r e w. w)
 pub all-finite : (κs : Lfts 1) (a : _) → Coincide (of-all-finite.Learnt κs a) answer
 all-finite κs a = coincide (λ r e w. w)
 
+pub is-steady : (κs : Lfts 1) (a : _) → Coincide (of-is-steady.Learnt κs a) answer
+is-steady κs a = coincide (λ r e w. w)
+
 pub is-carried : (κs : Lfts 0) (a : _) → Coincide (of-is-carried.Learnt κs a) answer
 is-carried κs a = coincide (λ r e w. w)
 
 pub check-segments : (κs : Lfts 3) (a : _) → Coincide (of-check-segments.Learnt κs a) answer
 check-segments κs a = coincide (λ r e w. w)
+
+pub find-segment : (κs : Lfts 1) (a : _) → Coincide (of-find-segment.Learnt κs a) answer
+find-segment κs a = coincide (λ r e w. w)
+
+pub place-along : (κs : Lfts 0) (a : _) → Coincide (of-place-along.Learnt κs a) answer
+place-along κs a = coincide (λ r e w. w)
+
+pub blend : (κs : Lfts 0) (a : _) → Coincide (of-blend.Learnt κs a) answer
+blend κs a = coincide (λ r e w. w)
+
+pub is-off-domain : (κs : Lfts 0) (a : _) → Coincide (of-is-off-domain.Learnt κs a) answer
+is-off-domain κs a = coincide (λ r e w. w)
 
 pub colour-at-segments : (κs : Lfts 3) (a : _) → Coincide (of-colour-at-segments.Learnt κs a) answer
 colour-at-segments κs a = coincide (λ r e w. w)

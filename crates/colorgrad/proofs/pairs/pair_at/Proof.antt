@@ -15,13 +15,13 @@ stop-at-requires c κs = search needs
 stop-at-requires-2 : tie.Need-stop-at-requires-2
 stop-at-requires-2 c κs = search needs
 
-pair-colour-requires : tie.Need-pair-colour-requires
-pair-colour-requires c κs = search needs
+mix-requires : tie.Need-mix-requires
+mix-requires c κs = search needs
 
 returns : tie.Need-returns
-returns c = let s = c .before .before .before .before .before in by-pair (s .args .kind) (now (s .args .positions)) (now (s .args .channels)) (s .args .t) (s .args .k) refl (c .before .before .stop-at .ensures) (c .before .stop-at2 .ensures) (c .pair-colour .ensures)
+returns c = let s = c .before .before .before .before .before in by-pair (s .args .kind) (now (s .args .positions)) (now (s .args .channels)) (s .args .t) (s .args .k) refl (c .before .before .stop-at .ensures) (c .before .stop-at2 .ensures) (c .mix .ensures)
 
 pub pair-at-spec : {M : Type 1} → statement M
 pair-at-spec =
     tie.close
-    (tie.spec sub-stop-at stop-at-requires stop-at-requires-2 pair-colour-requires returns)
+    (tie.spec sub-stop-at stop-at-requires stop-at-requires-2 mix-requires returns)
