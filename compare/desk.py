@@ -173,14 +173,39 @@ def damage_bytes(rng, data):
     return data[:i] + (b"" if rng.random() < 0.3 else put) + data[i + rng.randrange(2):]
 
 
+def at_the_most(rng):
+    """Around the most bytes, with about as many stops as a ramp may have, or more."""
+    end = b"\n" if rng.random() < 0.5 else b""
+    lines = [b"kind\tlinear"] + [b"stop\t0\t0\t0\t0\t1"] * rng.choice([511, 512, 513, 600])
+    data = b"\n".join(lines) + end
+    return data + b"\n" * (rng.choice([16383, 16384, 16385]) - len(data)) if rng.random() < 0.5 else data
+
+
+def in_turn(rng):
+    """Black and white in turn: as many stops come out as there is room for, or more."""
+    lines = ["kind\tsmoothstep", "threshold\t" + rng.choice(["0.001", "0.002", "0.007"])]
+    for i in range(rng.choice([30, 60, 90, 100, 110])):
+        lines.append(f"stop\t{i}" + f"\t{i % 2}" * 3 + "\t1")
+    if rng.random() < 0.5:
+        lines.append(f"edit\t{rng.randrange(30)}\t.5\t.5\t.5\t1")
+    return "\n".join(lines).encode()
+
+
+def many_stops(rng):
+    lines = ["kind\t" + rng.choice(["linear", "smoothstep"])]
+    n = rng.randrange(6, 41)
+    for position in sorted(rng.randrange(0, 1000) for _ in range(n)):
+        lines.append(f"stop\t{position / 1000}" + "".join(f"\t{rng.uniform(0, 1):.3f}" for _ in range(4)))
+    if rng.random() < 0.5:
+        lines.append(f"edit\t{rng.randrange(n)}" + "".join(f"\t{rng.uniform(0, 1):.3f}" for _ in range(4)))
+    return "\n".join(lines).encode()
+
+
 def text(seed):
     rng = random.Random(seed)
-    if rng.random() < 0.001:
-        # Around the most bytes, with more stops than a ramp may have.
-        end = b"\n" if rng.random() < 0.5 else b""
-        lines = [b"kind\tlinear"] + [b"stop\t0\t0\t0\t0\t1"] * rng.choice([511, 512, 513, 600])
-        data = b"\n".join(lines) + end
-        return data + b"\n" * (rng.choice([16383, 16384, 16385]) - len(data)) if rng.random() < 0.5 else data
+    pick = rng.random()
+    if pick < 0.02:
+        return at_the_most(rng) if pick < 0.001 else in_turn(rng) if pick < 0.0015 else many_stops(rng)
     lines = sound(rng)
     pick = rng.random()
     if pick < 0.3:

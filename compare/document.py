@@ -10,7 +10,7 @@ from functools import lru_cache
 from leaves import token
 
 ONE, FOUR, WORD = struct.Struct("<f"), struct.Struct("<4f"), struct.Struct("<I")
-CELLS, DEPTH, ROW = 36, 7, 128
+CELLS, DEPTH = 36, 7
 NEAR = 2.0 ** -23
 NAN = 0x7FC00000
 
