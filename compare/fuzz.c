@@ -297,7 +297,8 @@ static Desk roomy(void)
 }
 
 #define LENT_RECORD(d) items((d).rows), (d).rows.bytes / sizeof(float), items((d).counts), (d).counts.bytes
-#define LENT_STOPS(d) items((d).places), (d).places.bytes / sizeof(float), items((d).colours), (d).colours.bytes / sizeof(float)
+#define LENT_STOPS(d) \
+    items((d).places), (d).places.bytes / sizeof(float), items((d).colours), (d).colours.bytes / sizeof(float)
 
 static void clear_desk(Desk desk)
 {

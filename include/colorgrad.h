@@ -128,8 +128,8 @@ typedef struct {
 ColorgradColour colorgrad_at(uint32_t kind, const float *positions, size_t positions_length, const float *channels,
                              size_t channels_length, const uint8_t *codes, size_t codes_length, float t);
 
-/* Writes the colours at ts, four channels each; what lies past them stays. Checks the ramp once: many times faster than
- * colorgrad_at for each. 0, or 1, 2, 3: out stays as it was; or 7: out is set to zero. */
+/* Writes the colours at ts, four channels each; what lies past them stays. The ramp is checked once, and not for each
+ * point. 0, or 1, 2, 3: out stays as it was; or 7: out is set to zero. */
 uint32_t colorgrad_paint(uint32_t kind, const float *positions, size_t positions_length, const float *channels,
                          size_t channels_length, const uint8_t *codes, size_t codes_length, const float *ts,
                          size_t ts_length, float *out, size_t out_length);
@@ -141,8 +141,8 @@ typedef struct {
 } ColorgradSharp;
 
 /* Builds a sharp ramp of n colours, four channels each, on min..max: 2n positions and 8n channels; what lies past them
- * stays. Softness is taken into 0..1; not finite, it is 0.1. Refused with 17, 1 (room too small) or 2: nothing is
- * changed. */
+ * stays. Softness is taken into 0..1; not finite, it is 0.1. Refused with 17, 1 (no room, or channels left over) or 2:
+ * nothing is changed. */
 ColorgradSharp colorgrad_sharp(const float *colours, size_t colours_length, float min, float max, float softness,
                                float *positions, size_t positions_length, float *channels, size_t channels_length);
 

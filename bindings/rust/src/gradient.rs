@@ -40,7 +40,7 @@ pub trait Gradient {
 
     /// The colour at t; (0, 0, 0, 1) at not-a-number, and outside a GIMP ramp's domain.
     ///
-    /// The stops are looked over each time: for many points [`colors_at`](Gradient::colors_at) is faster.
+    /// The ramp is checked each time; [`colors_at`](Gradient::colors_at) checks it once for many points.
     fn at(&self, t: f32) -> Color {
         taken(self.lent().at(t))
     }
@@ -57,8 +57,8 @@ pub trait Gradient {
         unflat(&channels)
     }
 
-    /// The ramp as a list of stops that differ from it by no more than the threshold allows; a smaller threshold gives more
-    /// of them. Refused with 4 where the domain reaches beyond 1e38, 8 where a colour overflows.
+    /// The ramp as a list of stops to be mixed linearly. A point is kept where its colour differs from the mix around it by
+    /// more than the threshold. Refused with 4 where the domain reaches beyond 1e38, 8 where a colour overflows.
     ///
     /// ```
     /// use guineaplume::{Color, Gradient, LinearGradient, Refusal};
