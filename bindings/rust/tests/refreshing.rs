@@ -1,6 +1,7 @@
 //! A refreshed record and its list are those made afresh.
 
-use guineaplume::{Color, Gradient, LinearGradient, Refresh, SmoothstepGradient};
+use guineaplume::lent::{Edit, Listed, RecordMut, StopsMut, MOST_POINTS};
+use guineaplume::{Color, Gradient, LinearGradient, List, Record, Refresh, SmoothstepGradient};
 
 /// Numbers from 0 to 1, the same in every run.
 struct Numbers(u64);
@@ -28,13 +29,30 @@ impl Numbers {
     }
 }
 
+/// The same edit by the one call on lent slices.
+fn check_lent(ramp: &impl Gradient, record: &Record, edit: Edit) -> impl Fn(&Record, &List) {
+    let (mut rows, mut counts) = (record.rows().to_vec(), record.counts().to_vec());
+    let (mut positions, mut channels) = (vec![7.0; MOST_POINTS], vec![7.0; 4 * MOST_POINTS]);
+    let lent = RecordMut { rows: &mut rows, counts: &mut counts };
+    let out = StopsMut { positions: &mut positions, channels: &mut channels };
+    let made = ramp.lent().refresh_list(edit, record.threshold(), lent, out).expect("a list");
+    move |record, list| {
+        assert_eq!(made, Listed { stops: list.len(), evaluations: list.evaluations() });
+        assert_eq!((&rows[..], &counts[..]), (record.rows(), record.counts()));
+        assert_eq!(&positions[..made.stops], list.positions());
+        assert!(positions[made.stops..].iter().chain(&channels[4 * made.stops..]).all(|x| *x == 7.0));
+    }
+}
+
 fn edited<G: Refresh + Clone>(numbers: &mut Numbers, mut ramp: G, stops: usize) {
     let threshold = numbers.next() * 0.04;
     let (mut record, first) = ramp.flatten(threshold).expect("a list");
     assert_eq!(ramp.thin(&record).expect("a list").positions(), first.positions());
     for _ in 0..4 {
         let (stop, color) = (numbers.below(stops), numbers.color());
+        let check = check_lent(&ramp, &record, Edit { stop, color });
         let list = ramp.refresh_list(stop, color, &mut record).expect("a list");
+        check(&record, &list);
         let (fresh, whole) = ramp.flatten(threshold).expect("a list");
         assert_eq!(record, fresh);
         assert_eq!((list.positions(), list.colors()), (whole.positions(), whole.colors()));
