@@ -16,11 +16,10 @@ ghost use Rattle.colorgrad.specs.Canvas.{channelsOf, paintedOver, stopCo
 ghost use Rattle.colorgrad.specs.Promises.{Ready, AtIs, PaintIs};
 ghost use Rattle.colorgrad.specs.Unchecked.{Cut};
 
-mod pairs;
-mod segments;
-
 pub mod edits;
 pub mod lists;
+mod pairs;
+mod segments;
 
 const NO_ROOM: u8 = 7;
 
