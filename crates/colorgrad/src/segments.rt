@@ -32,13 +32,17 @@ fn guess(positions: &[f32], t: f32) -> usize
 {
     let mut base = 0;
     let mut left = positions.len() / 3;
-    while 2 < left {
-        let third = left / 3;
-        let two = third * 2;
-        let a = stops::below(positions[3 * (base + third)], t);
-        let b = stops::below(positions[3 * (base + two)], t);
-        base += third * (a + b);
-        left -= two;
+    while 3 < left {
+        let part = left / 4;
+        let a = stops::below(positions[3 * (base + part)], t);
+        let b = stops::below(positions[3 * (base + 2 * part)], t);
+        let c = stops::below(positions[3 * (base + 3 * part)], t);
+        base += part * (a + b + c);
+        left -= 3 * part;
+    }
+    if 2 < left {
+        let d = stops::below(positions[3 * (base + 1)], t);
+        return base + d + stops::below(positions[3 * (base + 2)], t);
     }
     if 1 < left {
         return base + stops::below(positions[3 * (base + 1)], t);
