@@ -17,6 +17,10 @@ use std::hint::black_box;
 const REPETITIONS: usize = 21;
 const POINTS: usize = 4096;
 
+/// The blendings carried: GIMP's code, and a name.
+const BLENDINGS: [(u8, &str); 4] =
+    [(0, "linear"), (3, "spherical increasing"), (4, "spherical decreasing"), (5, "step")];
+
 /// Every table, or the one that is asked for by name.
 pub fn run(options: &Options) {
     let unit = if count::output().is_some() { "instructions" } else { "ns" };
@@ -133,7 +137,7 @@ fn even_ramp(random: &mut Random, kind: Kind, n: usize) -> Ramp {
     if kind == Kind::Gimp {
         let n = n.min(MOST_SEGMENTS);
         let positions = (0..n).flat_map(|i| [i as f32, i as f32 + 0.5, i as f32 + 1.0]).map(|x| x / n as f32).collect();
-        let codes = (0..n).flat_map(|i| [[0, 3, 4, 5][i % 4], 0]).collect();
+        let codes = (0..n).flat_map(|i| [BLENDINGS[i % 4].0, 0]).collect();
         return Ramp { kind, positions, channels: (0..8 * n).map(|_| random.unit()).collect(), codes };
     }
     let positions = (0..n).map(|i| i as f32 / (n - 1) as f32).collect();
@@ -151,16 +155,26 @@ fn paint(random: &mut Random) {
     let anywhere: Vec<f32> = (0..POINTS).map(|_| random.unit()).collect();
     for kind in KINDS {
         for n in [2, 64, 512] {
-            let ramp = even_ramp(random, kind, n);
-            let g = oracle::gradient(&ramp);
-            for (name, points) in [("left to right", &across), ("random", &anywhere)] {
-                let mut out = (vec![0.0; 4 * POINTS], vec![0.0; 4 * POINTS]);
-                let call = format!("paint {}, {} items, {name}", kind.name(), items(&ramp));
-                let ours = || used(ours::paint(&ramp, points, &mut out.0));
-                let rust = || rust_paint(&g, black_box(points), black_box(&mut out.1));
-                beside(&call, "at", POINTS, ours, rust);
-            }
+            paint_beside(kind.name(), &even_ramp(random, kind, n), &across, &anywhere);
         }
+    }
+    for (blending, name) in BLENDINGS {
+        for n in [2, 64] {
+            let mut ramp = even_ramp(random, Kind::Gimp, n);
+            ramp.codes.iter_mut().step_by(2).for_each(|code| *code = blending);
+            paint_beside(&format!("GIMP, {name} alone"), &ramp, &across, &anywhere);
+        }
+    }
+}
+
+fn paint_beside(name: &str, ramp: &Ramp, across: &[f32], anywhere: &[f32]) {
+    let g = oracle::gradient(ramp);
+    for (order, points) in [("left to right", across), ("random", anywhere)] {
+        let mut out = (vec![0.0; 4 * POINTS], vec![0.0; 4 * POINTS]);
+        let call = format!("paint {name}, {} items, {order}", items(ramp));
+        let ours = || used(ours::paint(ramp, points, &mut out.0));
+        let rust = || rust_paint(&g, black_box(points), black_box(&mut out.1));
+        beside(&call, "at", POINTS, ours, rust);
     }
 }
 
