@@ -1,20 +1,24 @@
 -- The answers of the calls, from what the functions within promise. Assumes nothing.
-use mathlib.Core.Path.{_≡_, refl, _∙_}
+use mathlib.Core.Path.{_≡_, refl, sym, ap, _∙_, subst}
+use mathlib.Core.Bool.{Bool, true, false}
 use mathlib.Core.List.{List}
 use Prim.Native.Nat.{ℕ, zero, suc, _+_, _*_}
+use lib.Dec.{T}
 use lib.ListN.{length}
 use lib.Ieee.{Float}
+use Rattle.gradient.specs.Answers.{numberOfChecked, onFine}
 use Rattle.gradient.specs.Ramp.{minOf, maxOf, colourOf, anyColour}
 use Rattle.gradient.specs.declared.Kind.{Kind}
 use Rattle.gradient.specs.declared.Checked.{Checked}
 use Rattle.gradient.specs.declared.Checked.the-variants as checked
 use Rattle.gradient.proofs.Same.{same-function}
 use Rattle.linearize.specs.Midpoints.{Far}
-use Rattle.linearize.specs.Cells.{samplingEvaluations}
+use Rattle.linearize.specs.Cells.{triesOf, samplingEvaluations}
 use Rattle.linearize.specs.Places.{listOf}
 use Rattle.linearize.specs.Kept.{keptOf, refusalOf, roomOf, listEvaluations}
 use Rattle.linearize.specs.Desk.{farOf, listedOf, listAnswer, answerBy, withSampling, sampleCheck, thinCheck, sampleAnswer, sampleEvaluations, sampleRows, sampleCounts, thinPositions, thinChannels, freshList, flattenEvaluations, flattenPositions, flattenChannels}
 use Rattle.linearize.specs.Promises.{RecordIs, ListMade, Samples, Tells, Thins, Flattens}
+use Rattle.linearize.specs.declared.Sampled.{Sampled}
 use Rattle.linearize.specs.declared.Sampled.the-variants as sampled
 use Rattle.linearize.specs.declared.Listed.{Listed}
 use Rattle.linearize.specs.declared.Listed.the-variants as listed
@@ -49,6 +53,39 @@ module _ (kind : Kind) (ps cs : List Float) (ks : List ℕ) (asked : Float) (row
         counted = d .counted ∙ rw e;
       }
 
+-- ---- what a sampling told
+abbrev isDone : Sampled → Bool
+isDone (sampled.Done n) = true
+isDone (sampled.Refused n) = false
+
+module _ (kind : Kind) (ps cs : List Float) (ks : List ℕ) (asked : Float) (rows : List Float) (counts : List ℕ) (rows′ : List Float) (counts′ : List ℕ) (n : ℕ) where
+  sampling-refused : Samples kind ps cs ks asked rows rows′ counts counts′ (sampled.Refused n) → sampleCheck kind ps cs ks (length rows) (length counts) ≡ checked.Refused n
+  unfolding sampleAnswer
+  sampling-refused w = go (sampleCheck kind ps cs ks (length rows) (length counts)) (w .answer) (w .number)
+    where
+      go : (c : Checked) → sampled.Refused n ≡ onFine c (sampled.Done (samplingEvaluations (colourOf kind ps cs ks) (farOf asked) (minOf kind ps) (maxOf kind ps))) sampled.Refused → n ≡ numberOfChecked c → c ≡ checked.Refused n
+      go checked.Fine e m = absurd (subst T (sym (ap isDone e)) tt)
+      go (checked.Refused k) e m = ap checked.Refused (sym m)
+
+  -- the record is the ramp's
+  pub record Fresh : Type 0 where
+    pub fine : sampleCheck kind ps cs ks (length rows) (length counts) ≡ checked.Fine
+    pub sampled : RecordIs (colourOf kind ps cs ks) (farOf asked) (minOf kind ps) (maxOf kind ps) rows′ counts′ (triesOf (colourOf kind ps cs ks) (farOf asked) (minOf kind ps) (maxOf kind ps))
+    pub spent : n ≡ samplingEvaluations (colourOf kind ps cs ks) (farOf asked) (minOf kind ps) (maxOf kind ps)
+
+  done-fresh : Samples kind ps cs ks asked rows rows′ counts counts′ (sampled.Done n) → Fresh
+  unfolding sampleAnswer sampleEvaluations sampleRows sampleCounts
+  done-fresh w =
+      let e = go (sampleCheck kind ps cs ks (length rows) (length counts)) (w .answer) in
+      record { fine = e; sampled = record { tried = refl; written = w .written ∙ rw e; counted = w .counted ∙ rw e }; spent = w .evaluations ∙ rw e }
+    where
+      go : (c : Checked) → sampled.Done n ≡ onFine c (sampled.Done (samplingEvaluations (colourOf kind ps cs ks) (farOf asked) (minOf kind ps) (maxOf kind ps))) sampled.Refused → c ≡ checked.Fine
+      go checked.Fine e = refl
+      go (checked.Refused k) e = absurd (subst T (ap isDone e) tt)
+
+  pub fresh : (r : Sampled) → r ≡ sampled.Done n → Samples kind ps cs ks asked rows rows′ counts counts′ r → Fresh
+  fresh r e w = done-fresh (subst (λ (x : Sampled). Samples kind ps cs ks asked rows rows′ counts counts′ x) e w)
+
 -- ---- lists
 
 told : (check : Checked) (k kept spent : ℕ) → Tells check k kept spent (answerBy check k kept spent)
@@ -75,33 +112,35 @@ module _ (kind : Kind) (ps cs : List Float) (ks : List ℕ) (asked : Float) (row
       let m : ListMade (colourOf kind ps cs ks) (farOf asked) (roomOf ops ocs) (listOf rows counts (maxOf kind ps)) ops ops′ ocs ocs′ r = rw (← s, ← p, ← q) w in
       record { told = tells _ _ _ _ _ (m .answer ∙ rw e); positions = m .positions ∙ rw e; channels = m .channels ∙ rw e }
 
-  pub flatten-refused : (k : ℕ) → sampleCheck kind ps cs ks (length rows) (length counts) ≡ checked.Refused k
-      → Flattens kind ps cs ks asked rows rows counts counts ops ops ocs ocs (listed.Refused k)
-  unfolding sampleRows sampleCounts flattenPositions flattenChannels
-  flatten-refused k e =
-      record { told = tells _ _ _ _ _ (rw e); written = rw e; counted = rw e; positions = rw e; channels = rw e }
-
   pub added : (n k s e : ℕ) → withSampling n (listedOf k s e) ≡ listedOf k s (n + e)
   added n zero s e = refl
   added n (suc k) s e = refl
 
-  pub flatten-done : (far : Far) (lo hi : Float) (rows′ : List Float) (counts′ : List ℕ) (n : ℕ) (ops′ ocs′ : List Float) (made r : Listed)
-      → sampleCheck kind ps cs ks (length rows) (length counts) ≡ checked.Fine
-      → far ≡ farOf asked → lo ≡ minOf kind ps → hi ≡ maxOf kind ps
-      → RecordIs (anyColour kind ps cs ks) far lo hi rows′ counts′ n
+  -- what is sampled first and then thinned
+  pub flatten-refused : (k : ℕ) (rows′ : List Float) (counts′ : List ℕ) (r : Sampled) → r ≡ sampled.Refused k → Samples kind ps cs ks asked rows rows′ counts counts′ r
+      → Flattens kind ps cs ks asked rows rows′ counts counts′ ops ops ocs ocs (listed.Refused k)
+  unfolding flattenPositions flattenChannels
+  flatten-refused k rows′ counts′ r h w =
+      let e = sampling-refused kind ps cs ks asked rows counts rows′ counts′ k (subst (λ (x : Sampled). Samples kind ps cs ks asked rows rows′ counts counts′ x) h w) in
+      record { told = tells _ _ _ _ _ (rw e); written = w .written; counted = w .counted; positions = rw e; channels = rw e }
+
+  pub flatten-done : (far : Far) (hi : Float) (rows′ : List Float) (counts′ : List ℕ) (n : ℕ) (ops′ ocs′ : List Float) (made r : Listed)
+      → Fresh kind ps cs ks asked rows counts rows′ counts′ n
+      → far ≡ farOf asked → hi ≡ maxOf kind ps
       → ListMade (anyColour kind ps cs ks) far (roomOf ops ocs) (listOf rows′ counts′ hi) ops ops′ ocs ocs′ made
-      → r ≡ withSampling (3 * n) made
+      → r ≡ withSampling n made
       → Flattens kind ps cs ks asked rows rows′ counts counts′ ops ops′ ocs ocs′ r
-  unfolding sampleRows sampleCounts flattenPositions flattenChannels flattenEvaluations freshList samplingEvaluations listAnswer
-  flatten-done far lo hi rows′ counts′ n ops′ ocs′ made r e p q h w l f =
-      let d = record-of kind ps cs ks asked rows counts (length rows) (length counts) far lo hi rows′ counts′ n e p q h w in
+  unfolding sampleRows sampleCounts flattenPositions flattenChannels flattenEvaluations freshList listAnswer
+  flatten-done far hi rows′ counts′ n ops′ ocs′ made r w p h l f =
+      let e = w .fine in
+      let d = w .sampled in
       let s = same-function kind ps cs ks (ramp-fine kind ps cs ks (length rows) (length counts) e) in
       let m : ListMade (colourOf kind ps cs ks) (farOf asked) (roomOf ops ocs) (freshList kind ps cs ks asked) ops ops′ ocs ocs′ made =
-      rw (← s, ← p, ← q, ← h, ← w .written, ← w .counted) l in
+      rw (← d .written, ← d .counted, ← s, ← p, ← h) l in
       record {
         told =
             tells _ _ _ _ _
-            (f ∙ rw (m .answer, d .tried, e)
+            (f ∙ rw (m .answer, w .spent, e)
             (added (samplingEvaluations (colourOf kind ps cs ks) (farOf asked) (minOf kind ps) (maxOf kind ps))
             (refusalOf (colourOf kind ps cs ks) (farOf asked) (roomOf ops ocs) (freshList kind ps cs ks asked))
             (length (keptOf (colourOf kind ps cs ks) (farOf asked) (freshList kind ps cs ks asked)))

@@ -48,7 +48,7 @@ fn is_gimp(kind: Kind) -> bool
     }
 }
 
-// The same with a table of segments in hand, which is empty where the ramp has none.
+// As `point_of`, with a table of segments in hand, which is empty where the ramp has none.
 pub(crate) fn evaluate(
     kind: Kind,
     positions: &[f32],

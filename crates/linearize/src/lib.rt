@@ -284,23 +284,11 @@ pub fn flatten(
 ) -> Listed
     ensures { λ r. ⌜ Flattens kind (now (positions .entry)) (now (channels .entry)) (now (codes .entry)) threshold (now (rows .entry)) (now (rows .exit)) (now (counts .entry)) (now (counts .exit)) (now («out_positions» .entry)) (now («out_positions» .exit)) (now («out_channels» .entry)) (now («out_channels» .exit)) r ⌝ }
 {
-    match check_sample(kind, positions, channels, codes, rows.len(), counts.len()) {
-        Checked::Refused(n) => Listed::Refused(n),
-        Checked::Fine => {
+    match sample(kind, positions, channels, codes, threshold, rows, counts) {
+        Sampled::Refused(n) => Listed::Refused(n),
+        Sampled::Done(n) => {
             let cutoff = difference::cutoff_of(threshold);
-            let min = gradient::min_of(kind, positions);
             let max = gradient::max_of(kind, positions);
-            let n = cells::sample_cells(
-                kind,
-                positions,
-                channels,
-                codes,
-                cutoff,
-                min,
-                max,
-                rows,
-                counts,
-            );
             let made = thinning::thin_record(
                 kind,
                 positions,
@@ -313,8 +301,7 @@ pub fn flatten(
                 out_positions,
                 out_channels,
             );
-            let evaluations = 3 * n;
-            with_sampling(evaluations, made)
+            with_sampling(n, made)
         }
     }
 }

@@ -237,7 +237,7 @@ fn finish(s: Progress, out_positions: &mut [f32], out_channels: &mut [f32]) -> L
     }
 }
 
-// The same with the table in hand: a stop for the first point, and the others thinned.
+// Thins a record's points with a table of segments in hand: a stop for the first, and the others weighed.
 fn thin_each(
     kind: Kind,
     positions: &[f32],
