@@ -13,7 +13,7 @@ ghost use Prim.Native.Nat.{_*_, _≤_, _<_};
 ghost use lib.ListN.{length};
 ghost use Rattle.gradient.specs.Stops.{stopAt};
 ghost use Rattle.gradient.specs.Place.{Rising, firstAt, placeOf};
-ghost use Rattle.gradient.specs.Pair.{pairOf, between};
+ghost use Rattle.gradient.specs.Pair.{between};
 ghost use Rattle.colorgrad.specs.Canvas.{stopColour};
 ghost use Rattle.colorgrad.specs.Unchecked.{Span, Sought, Placed};
 
@@ -91,29 +91,22 @@ fn stop_at(positions: &[f32], channels: &[f32], i: usize) -> Stop
     }
 }
 
-// The colour between p, which is stop k - 1, and q, which is stop k, of n stops. The quick kinds are mixed here:
-// behind the call that the splines take, their stops would go through memory.
-fn mix(kind: Kind, channels: &[f32], n: usize, k: usize, p: Stop, q: Stop, t: f32) -> Rgba
-    requires { ⌜ 1 ≤ k ⌝ }
-    ensures { λ r. ⌜ r ≡ pairOf kind (now (channels .entry)) n k p q t ⌝ }
-{
-    match kind {
-        Kind::Linear => linear::pair_colour(p, q, t),
-        Kind::Smoothstep => smoothstep::pair_colour(p, q, t),
-        Kind::Sharp => sharp::pair_colour(k - 1, p, q, t),
-        Kind::Basis => stops::pair_colour(kind, channels, n, k, p, q, t),
-        Kind::CatmullRom => stops::pair_colour(kind, channels, n, k, p, q, t),
-        Kind::Gimp => stops::pair_colour(kind, channels, n, k, p, q, t),
-    }
-}
-
+// The colour between stop k - 1 and stop k. The quick kinds are mixed here: behind the call that the splines take,
+// their stops would go through memory.
 fn pair_at(kind: Kind, positions: &[f32], channels: &[f32], k: usize, t: f32) -> Rgba
     requires { ⌜ (1 ≤ k) × (k < length (now positions)) × (length (now channels) ≡ 4 * length (now positions)) ⌝ }
     ensures { λ r. ⌜ r ≡ between kind (now (positions .entry)) (now (channels .entry)) k t ⌝ }
 {
     let p = stop_at(positions, channels, k - 1);
     let q = stop_at(positions, channels, k);
-    mix(kind, channels, positions.len(), k, p, q, t)
+    match kind {
+        Kind::Linear => linear::pair_colour(p, q, t),
+        Kind::Smoothstep => smoothstep::pair_colour(p, q, t),
+        Kind::Sharp => sharp::pair_colour(k - 1, p, q, t),
+        Kind::Basis => stops::colour_in(kind, positions, channels, t, Place::Between(k)),
+        Kind::CatmullRom => stops::colour_in(kind, positions, channels, t, Place::Between(k)),
+        Kind::Gimp => stops::colour_in(kind, positions, channels, t, Place::Between(k)),
+    }
 }
 
 // The colour at the place of t.

@@ -246,15 +246,7 @@ pub fn right_of(channels: &[f32], n: usize, k: usize, p: Rgba, q: Rgba) -> Rgba
 }
 
 // The colour between p, which is stop k - 1, and q, which is stop k, of n stops.
-pub fn pair_colour(
-    kind: Kind,
-    channels: &[f32],
-    n: usize,
-    k: usize,
-    p: Stop,
-    q: Stop,
-    t: f32,
-) -> Rgba
+fn pair_colour(kind: Kind, channels: &[f32], n: usize, k: usize, p: Stop, q: Stop, t: f32) -> Rgba
     ensures { λ r. ⌜ r ≡ pairOf kind (now (channels .entry)) n k p q t ⌝ }
 {
     match kind {

@@ -1,5 +1,5 @@
--- The calls' promises: how many evaluations and stops an answer can tell, and that any two results that a promise allows are the same. Assumes nothing.
-use mathlib.Core.Path.{_≡_, refl, sym, _∙_}
+-- The calls' promises: how many evaluations and stops an answer can tell. Assumes nothing.
+use mathlib.Core.Path.{_≡_, refl}
 use mathlib.Core.List.{List, [], _∷_}
 use Prim.Native.Nat.{ℕ, zero, suc, _+_, _≤_}
 use native.Mathlib.Omega.{arith}
@@ -61,10 +61,6 @@ module _ (kind : Kind) (ps cs : List Float) (ks : List ℕ) (asked : Float) (row
     pub sample-most : evaluationsOfSampled r ≤ 13716
     sample-most = omega (arith, w .evaluations, sampling-most)
 
-    pub sample-pinned : (rows″ : List Float) (counts″ : List ℕ) (r″ : Sampled) → Samples kind ps cs ks asked rows rows″ counts counts″ r″
-        → (r ≡ r″) × (rows′ ≡ rows″) × (counts′ ≡ counts″)
-    sample-pinned rows″ counts″ r″ v = (w .answer ∙ sym (v .answer), w .written ∙ sym (v .written), w .counted ∙ sym (v .counted))
-
   module _ (ops ops′ ocs ocs′ : List Float) (r : Listed) where
     -- ---- thinning: 13,821 + 4,609 at most
     module _ (w : Thins kind ps cs ks asked rows counts ops ops′ ocs ocs′ r) where
@@ -88,10 +84,6 @@ module _ (kind : Kind) (ps cs : List Float) (ks : List ℕ) (asked : Float) (row
             value-room (thinCheck kind ps cs ks rows counts) (refusalOf (colourOf kind ps cs ks) (farOf asked) (roomOf ops ocs) ts)
                 (length (keptOf (colourOf kind ps cs ks) (farOf asked) ts)) (roomOf ops ocs) (kept-room (colourOf kind ps cs ks) (farOf asked) (roomOf ops ocs) ts),
           )
-
-      pub thin-pinned : (ops″ ocs″ : List Float) (r″ : Listed) → Thins kind ps cs ks asked rows counts ops ops″ ocs ocs″ r″
-          → (r ≡ r″) × (ops′ ≡ ops″) × (ocs′ ≡ ocs″)
-      thin-pinned ops″ ocs″ r″ v = (w .told .answer ∙ sym (v .told .answer), w .positions ∙ sym (v .positions), w .channels ∙ sym (v .channels))
 
     -- ---- both: 32,146 at most
     module _ (rows′ : List Float) (counts′ : List ℕ) (w : Flattens kind ps cs ks asked rows rows′ counts counts′ ops ops′ ocs ocs′ r) where
@@ -124,9 +116,3 @@ module _ (kind : Kind) (ps cs : List Float) (ks : List ℕ) (asked : Float) (row
             value-room (sampleCheck kind ps cs ks (length rows) (length counts)) (refusalOf (colourOf kind ps cs ks) (farOf asked) (roomOf ops ocs) ts)
                 (length (keptOf (colourOf kind ps cs ks) (farOf asked) ts)) (roomOf ops ocs) (kept-room (colourOf kind ps cs ks) (farOf asked) (roomOf ops ocs) ts),
           )
-
-      pub flatten-pinned : (rows″ : List Float) (counts″ : List ℕ) (ops″ ocs″ : List Float) (r″ : Listed)
-          → Flattens kind ps cs ks asked rows rows″ counts counts″ ops ops″ ocs ocs″ r″
-          → (r ≡ r″) × (rows′ ≡ rows″) × (counts′ ≡ counts″) × (ops′ ≡ ops″) × (ocs′ ≡ ocs″)
-      flatten-pinned rows″ counts″ ops″ ocs″ r″ v =
-          (w .told .answer ∙ sym (v .told .answer), w .written ∙ sym (v .written), w .counted ∙ sym (v .counted), w .positions ∙ sym (v .positions), w .channels ∙ sym (v .channels))
