@@ -56,7 +56,7 @@ pub enum Place {
     Between(usize),
 }
 
-fn is_gimp(kind: Kind) -> bool
+pub fn is_gimp(kind: Kind) -> bool
     ensures { λ r. ⌜ r ≡ isGimp kind ⌝ }
 {
     match kind {

@@ -13,7 +13,7 @@ ghost use Prim.Native.Nat.{_+_, _≤_, _<_, _^_, _-_};
 ghost use lib.ListN.{length, replicate};
 ghost use lib.Seq.{sets};
 ghost use Rattle.float.specs.F32.{f0};
-ghost use Rattle.gradient.specs.Ramp.{isGimp, anyColour};
+ghost use Rattle.gradient.specs.Ramp.{anyColour};
 ghost use Rattle.linearize.specs.Constants.{cells, rowLength, recordLength};
 ghost use Rattle.linearize.specs.Difference.{exceeds};
 ghost use Rattle.linearize.specs.Cells.{edgeOf};
@@ -35,19 +35,6 @@ pub(crate) fn point_of(
     }
 }
 
-fn is_gimp(kind: Kind) -> bool
-    ensures { λ r. ⌜ r ≡ isGimp kind ⌝ }
-{
-    match kind {
-        Kind::Linear => false,
-        Kind::Smoothstep => false,
-        Kind::Sharp => false,
-        Kind::Basis => false,
-        Kind::CatmullRom => false,
-        Kind::Gimp => true,
-    }
-}
-
 // As `point_of`, with a table of segments in hand, which is empty where the ramp has none.
 pub(crate) fn evaluate(
     kind: Kind,
@@ -60,7 +47,7 @@ pub(crate) fn evaluate(
     requires { ⌜ Segments (now channels) (length (now positions)) (now table) ⌝ }
     ensures { λ r. ⌜ (r .t ≡ t) × Coloured (anyColour kind (now (positions .entry)) (now (channels .entry)) (now (codes .entry))) r ⌝ }
 {
-    if is_gimp(kind) {
+    if gradient::is_gimp(kind) {
         let colour = gimp::colour_at(positions, channels, codes, t);
         return Point { colour, t };
     }

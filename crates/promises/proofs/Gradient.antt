@@ -7,6 +7,7 @@ use lib.Ieee.{Float}
 use Rattle.gradient.specs.Sharp.{after}
 use Rattle.gradient.specs.declared.sharp.Built.{Built}
 use Rattle.promises.specs.Law.{Coincide, coincide, answer, _with_, both}
+use Rattle.gradient.proofs.is_gimp.Reads as of-is-gimp
 use Rattle.gradient.proofs.check.Reads as of-check
 use Rattle.gradient.proofs.min_of.Reads as of-min-of
 use Rattle.gradient.proofs.max_of.Reads as of-max-of
@@ -31,7 +32,6 @@ use Rattle.gradient.proofs.basis.pair_colour.Reads as of-basis-pair
 use Rattle.gradient.proofs.catmull_rom.pair_colour.Reads as of-catmull-rom-pair
 use Rattle.gradient.proofs.catmull_rom.segment.Reads as of-segment
 use Rattle.gradient.proofs.catmull_rom.segment_at.Reads as of-segment-at
-use Rattle.gradient.proofs.stops.pair_colour.Reads as of-pair-colour
 use Rattle.gradient.proofs.near.is_between.Reads as of-is-between
 use Rattle.gradient.proofs.near.find_place.Reads as of-find-place-near
 use Rattle.gradient.proofs.sharp.is_steady.Reads as of-is-steady
@@ -54,6 +54,9 @@ use Rattle.gradient.proofs.sharp.build.Reads as of-build
 -- what a building leaves in an output is told by its answer
 written : {r d : Built} (ws old : List Float) {out : List Float} → r ≡ d → out ≡ after r ws old → out ≡ after d ws old
 written ws old p q = q ∙ ap (λ (x : Built). after x ws old) p
+
+pub is-gimp : (κs : Lfts 0) (a : _) → Coincide (of-is-gimp.Learnt κs a) answer
+is-gimp κs a = coincide (λ r e w. w)
 
 pub check : (κs : Lfts 3) (a : _) → Coincide (of-check.Learnt κs a) answer
 check κs a = coincide (λ r e w. w)
@@ -99,9 +102,6 @@ left-of κs a = coincide (λ r e w. w)
 
 pub right-of : (κs : Lfts 1) (a : _) → Coincide (of-right-of.Learnt κs a) answer
 right-of κs a = coincide (λ r e w. w)
-
-pub pair-colour : (κs : Lfts 1) (a : _) → Coincide (of-pair-colour.Learnt κs a) answer
-pair-colour κs a = coincide (λ r e w. w)
 
 pub colour-in : (κs : Lfts 2) (a : _) → Coincide (of-colour-in.Learnt κs a) answer
 colour-in κs a = coincide (λ r e w. w)
