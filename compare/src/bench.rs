@@ -3,6 +3,7 @@
 
 use crate::clock;
 use crate::count;
+use crate::files;
 use crate::gimp_texts::tidy_text;
 use crate::lists::MOST_POINTS;
 use crate::options::Options;
@@ -13,6 +14,7 @@ use crate::ramps::{Kind, Ramp, KINDS, MOST_SEGMENTS};
 use crate::random::Random;
 use crate::refresh::changed;
 use std::hint::black_box;
+use std::path::Path;
 
 const REPETITIONS: usize = 21;
 const POINTS: usize = 4096;
@@ -26,10 +28,11 @@ pub fn run(options: &Options) {
     let unit = if count::output().is_some() { "instructions" } else { "ns" };
     println!("| call | beside | ours, {unit} | Rust, {unit} | ratio |");
     println!("|---|---|---|---|---|");
-    let tables: [(&str, fn(&mut Random)); 6] = [
+    let tables: [(&str, fn(&mut Random)); 7] = [
         ("root", roots),
         ("token", tokens),
         ("paint", paint),
+        ("files", paint_files),
         ("read", reading),
         ("flatten", flatten),
         ("refresh", refresh),
@@ -150,26 +153,48 @@ fn rust_paint(g: &Boxed, points: &[f32], out: &mut [f32]) {
     }
 }
 
+/// Points from left to right, and random ones.
+fn points(random: &mut Random) -> [(&'static str, Vec<f32>); 2] {
+    let across = (0..POINTS).map(|i| i as f32 / (POINTS - 1) as f32).collect();
+    let anywhere = (0..POINTS).map(|_| random.unit()).collect();
+    [("left to right", across), ("random", anywhere)]
+}
+
+/// Every real file that is read, where `fetch` has put them, one after the other.
+fn paint_files(random: &mut Random) {
+    let ramps = files::ramps(&Path::new(env!("CARGO_MANIFEST_DIR")).join("../target/compare/files"));
+    if ramps.is_empty() {
+        return;
+    }
+    let gradients: Vec<Boxed> = ramps.iter().map(oracle::gradient).collect();
+    for (order, points) in points(random) {
+        let mut out = (vec![0.0; 4 * POINTS], vec![0.0; 4 * POINTS]);
+        let call = format!("paint {} real GIMP files, {order}", ramps.len());
+        let ours = || ramps.iter().for_each(|ramp| used(ours::paint(ramp, &points, &mut out.0)));
+        let rust = || gradients.iter().for_each(|g| rust_paint(g, black_box(&points), black_box(&mut out.1)));
+        beside(&call, "at", ramps.len() * POINTS, ours, rust);
+    }
+}
+
 fn paint(random: &mut Random) {
-    let across: Vec<f32> = (0..POINTS).map(|i| i as f32 / (POINTS - 1) as f32).collect();
-    let anywhere: Vec<f32> = (0..POINTS).map(|_| random.unit()).collect();
+    let points = points(random);
     for kind in KINDS {
         for n in [2, 64, 512] {
-            paint_beside(kind.name(), &even_ramp(random, kind, n), &across, &anywhere);
+            paint_beside(kind.name(), &even_ramp(random, kind, n), &points);
         }
     }
     for (blending, name) in BLENDINGS {
         for n in [2, 64] {
             let mut ramp = even_ramp(random, Kind::Gimp, n);
             ramp.codes.iter_mut().step_by(2).for_each(|code| *code = blending);
-            paint_beside(&format!("GIMP, {name} alone"), &ramp, &across, &anywhere);
+            paint_beside(&format!("GIMP, {name} alone"), &ramp, &points);
         }
     }
 }
 
-fn paint_beside(name: &str, ramp: &Ramp, across: &[f32], anywhere: &[f32]) {
+fn paint_beside(name: &str, ramp: &Ramp, points: &[(&str, Vec<f32>)]) {
     let g = oracle::gradient(ramp);
-    for (order, points) in [("left to right", across), ("random", anywhere)] {
+    for (order, points) in points {
         let mut out = (vec![0.0; 4 * POINTS], vec![0.0; 4 * POINTS]);
         let call = format!("paint {name}, {} items, {order}", items(ramp));
         let ours = || used(ours::paint(ramp, points, &mut out.0));

@@ -12,9 +12,7 @@ use std::path::{Path, PathBuf};
 const POINTS: usize = 4096;
 
 pub fn run(options: &Options, folder: &Path) -> Vec<Tally> {
-    let mut files = Vec::new();
-    find(folder, &mut files);
-    files.sort();
+    let files = sorted(folder);
     let mut tally = Tally::new("files: read", options.seed);
     let mut colours = Tally::new("files: colours", options.seed);
     let mut flat = Tally::new("files: lists", options.seed);
@@ -25,6 +23,24 @@ pub fn run(options: &Options, folder: &Path) -> Vec<Tally> {
         }
     }
     vec![tally.done(), colours.done(), flat.done()]
+}
+
+/// The segments of every file that the library reads.
+pub fn ramps(folder: &Path) -> Vec<Ramp> {
+    let texts = sorted(folder).into_iter().filter_map(|file| std::fs::read(file).ok());
+    texts.filter_map(|text| ramp(&whole(text))).collect()
+}
+
+/// A text to be read, with room for all that may be.
+fn whole(text: Vec<u8>) -> texts::Input {
+    texts::Input { text, foreground: [0.0; 4], background: [1.0; 4], room: MOST_SEGMENTS }
+}
+
+fn sorted(folder: &Path) -> Vec<PathBuf> {
+    let mut files = Vec::new();
+    find(folder, &mut files);
+    files.sort();
+    files
 }
 
 fn find(folder: &Path, files: &mut Vec<PathBuf>) {
@@ -39,7 +55,7 @@ fn find(folder: &Path, files: &mut Vec<PathBuf>) {
 }
 
 fn compare([tally, colours, flat]: [&mut Tally; 3], case: u64, text: &[u8]) {
-    let input = texts::Input { text: text.to_vec(), foreground: [0.0; 4], background: [1.0; 4], room: MOST_SEGMENTS };
+    let input = whole(text.to_vec());
     texts::read(tally, case, &input);
     let Some(ramp) = ramp(&input) else { return };
     let Ok((g, _, _)) = oracle::read(text, input.foreground, input.background) else { return };

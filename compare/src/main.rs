@@ -32,7 +32,7 @@ const USAGE: &str = "compare COMMAND [N] [--seed S] [--case I]
   roots tokens colours sharp texts lists refresh   one comparison, of N inputs
   all [PERCENT]      every comparison, at its full size or at that part of it
   files FOLDER       the .ggr files in it, as compare/fetch gets them
-  bench [TABLE]      times beside the Rust's: root token paint read flatten refresh
+  bench [TABLE]      times beside the Rust's: root token paint files read flatten refresh
   count [TABLE]      instructions in place of times, by valgrind's callgrind
   sample FOLDER      the stored answers of the program replay, as FOLDER/stdin and FOLDER/stdout";
 
