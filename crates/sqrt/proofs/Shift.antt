@@ -1,6 +1,6 @@
 -- The shifts of `root_of`: the significand m moved up by its leading zeros, and then by 23 or 24, is the n of 47 or 48 digits whose root is taken. Assumes nothing.
-use mathlib.Core.Path.{_≡_, sym, ap, _∙_, subst}
-use Prim.Native.Nat.{ℕ, suc, _+_, _-_, _*_, _/_, _%_, _^_, _≤_, _<_}
+use mathlib.Core.Path.{_≡_, refl, sym, ap, _∙_, subst}
+use Prim.Native.Nat.{ℕ, zero, suc, _+_, _-_, _*_, _/_, _%_, _^_, _≤_, _<_}
 use native.Mathlib.Nat.{mod-eq-of-lt, not-le-of-lt, lt-of-not-le, le-trans, lt-of-lt-of-le, mul-assoc, mul-le-mul-right, mul-le-mul}
 use native.Mathlib.Decide.{decLe}
 use native.Mathlib.Omega.{arith}
@@ -44,6 +44,14 @@ moved m p h =
       low = subst (λ (x : ℕ). x ≤ m * 2 ^ zeros m) (sym (pow-add 2 j (zeros m)) ∙ ap (λ (x : ℕ). 2 ^ x) e1) (mul-le-mul-right (2 ^ zeros m) lo);
       high = subst (λ (x : ℕ). m * 2 ^ zeros m < 2 ^ x) e2 (shl-lt (suc j) (zeros m) hi);
     }
+
+-- what has 24 digits is moved by none
+pub unmoved : (m : ℕ) → 8388608 ≤ m → m < 2 ^ 24 → zeros m ≡ 0
+unmoved m l h = go (zeros m) (moved m (omega arith) h .high)
+  where
+    go : (z : ℕ) → m * 2 ^ z < 2 ^ 24 → z ≡ 0
+    go zero k = refl
+    go (suc z) k = let p : 2 ≤ 2 ^ suc z = pow-mono {i = 1} {j = suc z} (omega arith) in let g : 8388608 * 2 ≤ m * 2 ^ suc z = mul-le-mul l p in absurd (not-le-of-lt k g)
 
 -- as the machine has it, cut to 32 bits
 pub moved-exact : (m : ℕ) → 0 < m → m < 2 ^ 24 → m * 2 ^ zeros m % 2 ^ 32 ≡ m * 2 ^ zeros m
