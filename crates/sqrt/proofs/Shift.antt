@@ -51,10 +51,13 @@ unmoved m l h = go (zeros m) (moved m (omega arith) h .high)
   where
     go : (z : ℕ) → m * 2 ^ z < 2 ^ 24 → z ≡ 0
     go zero k = refl
-    go (suc z) k = let p : 2 ≤ 2 ^ suc z = pow-mono {i = 1} {j = suc z} (omega arith) in let g : 8388608 * 2 ≤ m * 2 ^ suc z = mul-le-mul l p in absurd (not-le-of-lt k g)
+    go (suc z) k =
+        let p : 2 ≤ 2 ^ suc z = pow-mono {i = 1} {j = suc z} (omega arith) in
+        let g : 8388608 * 2 ≤ m * 2 ^ suc z = mul-le-mul l p in
+        absurd (not-le-of-lt k g)
 
 -- as the machine has it, cut to 32 bits
-pub moved-exact : (m : ℕ) → 0 < m → m < 2 ^ 24 → m * 2 ^ zeros m % 2 ^ 32 ≡ m * 2 ^ zeros m
+moved-exact : (m : ℕ) → 0 < m → m < 2 ^ 24 → m * 2 ^ zeros m % 2 ^ 32 ≡ m * 2 ^ zeros m
 moved-exact m p h = mod-eq-of-lt (lt-of-lt-of-le (moved m p h .high) (pow-mono {i = 24} {j = 32} (omega arith)))
 
 -- the n of `root_of`, c being field + 127 - zeros m

@@ -69,7 +69,8 @@ fn nearest_root(n: u64, start: u64) -> u64
     walk_to_root(n, start)
 }
 
-// The root of m units times 2 ^ (field - 1), a unit being 2 ^ -149. Moved up by z the significand m has 24 digits.
+// The root of m units times 2 ^ (field - 1), a unit being 2 ^ -149. Moved up by z, as its leading
+// zeros say, the significand m has 24 digits: a subnormal is so normalised, and what is not is moved by none.
 // Half of c is the root's exponent; where c is odd, n has the one place more.
 fn root_of(m: u32, z: u32, field: u32) -> f32
     requires { ⌜ (0 < m) × (m < 2 ^ 24) × (0 < field) × (field < 255) × (z ≡ leadingZeros 32 m - 8) ⌝ }
@@ -91,6 +92,7 @@ pub fn root(x: f32) -> f32
         return x;
     }
     let b = f32::to_bits(x);
+    // One call for subnormals and the others: the compiler puts it in place, and counts the zeros of subnormals only.
     let mut m = b % FIELD + FIELD;
     let mut z = 0;
     let mut field = b / FIELD;

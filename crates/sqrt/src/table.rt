@@ -1,5 +1,6 @@
-// What `guess` reads: for each piece of the roots of an even power of 2, then of an odd one, the root at its
-// start with a half added, the chord's slope, the bow and its change. Nothing is trusted about these numbers.
+// What `guess` reads of each piece, where odd is 0 and then where it is 1: the root at its start and a half, the
+// chord's slope, the bow and its change. Nothing is trusted about these numbers. From a `match` the compiler
+// makes tables, where it would copy an array at each call.
 pub fn piece(at: u64) -> [u32; 4] {
     match at {
         0 => [2_147_483_777, 2_130_963_627, 1_016_666, 15_763],
