@@ -1,4 +1,3 @@
-pub mod Channels
 pub mod Reading
 pub mod Checking
 pub mod Choice
@@ -8,9 +7,7 @@ pub mod Placing
 pub mod Valid
 pub mod Same
 pub mod Nearby
-pub mod Curves
 pub mod Pairs
-pub mod FiniteLists
 pub mod Filling
 pub mod SharpLaws
 pub mod SharpExamples

@@ -11,13 +11,14 @@ use lib.Ieee.Bits.{is-true}
 use borrow.Author.Tests.{ltb-true, lt-ltb, le-ltb}
 use Rattle.float.proofs.Flags.{parts4}
 use Rattle.float.proofs.Order.{le-lt-trans, lt-le-trans, lt→le, le→not-lt, no-nan-l, no-nan-r}
-use Rattle.gradient.specs.CatmullRom.{segmentOf, segmentAt}
+use Rattle.blend.specs.CatmullRom.{segmentOf, segmentAt}
+use Rattle.blend.specs.Pair.{shareOf, catmullPair}
+use Rattle.blend.specs.declared.Rgba.{Rgba}
+use Rattle.blend.specs.declared.Stop.{Stop}
 use Rattle.gradient.specs.Stops.{posAt, colourAt, stopAt}
 use Rattle.gradient.specs.Place.{Rising, placeOf, placeIn}
-use Rattle.gradient.specs.Pair.{shareOf, leftOf, rightOf, catmullPair, pairOf, between, colourIn}
+use Rattle.gradient.specs.Pair.{leftOf, rightOf, pairOf, between, colourIn}
 use Rattle.gradient.specs.Near.{isBetween, placeNear, pairOr, segmentFor, segmentIn}
-use Rattle.gradient.specs.declared.Rgba.{Rgba}
-use Rattle.gradient.specs.declared.Stop.{Stop}
 use Rattle.gradient.specs.declared.Kind.the-variants.{CatmullRom}
 use Rattle.gradient.specs.declared.Place.{Place}
 use Rattle.gradient.specs.declared.Place.the-variants.{End, Nowhere, Between}

@@ -6,10 +6,11 @@ use native.Mathlib.Omega.{arith}
 use lib.ListN.{length}
 use lib.Ieee.{Float}
 use borrow.Author.Tests.{lt-ltb, le-ltb}
+use Rattle.blend.specs.Pair.{sharpPair, basisPair, catmullPair}
+use Rattle.blend.specs.declared.Rgba.{Rgba}
+use Rattle.blend.specs.declared.Stop.{Stop}
 use Rattle.gradient.specs.Stops.{colourAt, stopAt}
-use Rattle.gradient.specs.Pair.{sharpPair, basisPair, catmullPair, beyond, leftOf, rightOf, pairOf, between, colourIn}
-use Rattle.gradient.specs.declared.Rgba.{Rgba}
-use Rattle.gradient.specs.declared.Stop.{Stop}
+use Rattle.gradient.specs.Pair.{beyond, leftOf, rightOf, pairOf, between, colourIn}
 use Rattle.gradient.specs.declared.Kind.{Kind}
 use Rattle.gradient.specs.declared.Kind.the-variants.{Sharp, Basis, CatmullRom}
 use Rattle.gradient.specs.declared.Place.{Place}

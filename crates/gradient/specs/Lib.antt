@@ -1,6 +1,3 @@
-pub mod Blend
-pub mod Basis
-pub mod CatmullRom
 pub mod Stops
 pub mod Place
 pub mod Pair
@@ -9,6 +6,4 @@ pub mod Gimp
 pub mod Ramp
 pub mod Answers
 pub mod Prints
-pub mod Points
-pub mod Finite
 pub mod Sharp

@@ -5,12 +5,13 @@ use mathlib.Core.List.{List}
 use lib.Dec.{ltb}
 use lib.ListN.{length}
 use lib.Ieee.{Float, lt}
-use Rattle.gradient.specs.Blend.{black}
-use Rattle.gradient.specs.CatmullRom.{segmentOf, segmentAt}
+use Rattle.blend.specs.Blend.{black}
+use Rattle.blend.specs.CatmullRom.{segmentOf, segmentAt}
+use Rattle.blend.specs.Pair.{shareOf}
+use Rattle.blend.specs.declared.Rgba.{Rgba}
 use Rattle.gradient.specs.Stops.{posAt, colourAt, stopAt}
 use Rattle.gradient.specs.Place.{placeIn}
-use Rattle.gradient.specs.Pair.{shareOf, leftOf, rightOf}
-use Rattle.gradient.specs.declared.Rgba.{Rgba}
+use Rattle.gradient.specs.Pair.{leftOf, rightOf}
 use Rattle.gradient.specs.declared.Place.{Place}
 use Rattle.gradient.specs.declared.Place.the-variants.{End, Nowhere, Between}
 

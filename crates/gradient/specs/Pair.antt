@@ -1,42 +1,20 @@
 -- The colour between two stops, by the kind. Items 3 to 5 of document 01's 'Ramps carried'.
-use Prim.Native.Nat.{ℕ, _+_, _-_, _%_}
+use Prim.Native.Nat.{ℕ, _+_, _-_}
 use mathlib.Core.Bool.{cond}
 use mathlib.Core.List.{List}
-use lib.Dec.{ltb, eqb}
+use lib.Dec.{ltb}
 use lib.ListN.{length}
 use lib.Ieee.{Float}
-use Rattle.float.specs.F32.{_⊖_, _⊗_, _⊘_, f2}
-use Rattle.gradient.specs.Blend.{linear, smooth, black}
-use Rattle.gradient.specs.Basis.{basis}
-use Rattle.gradient.specs.CatmullRom.{segmentOf, segmentAt}
+use Rattle.float.specs.F32.{_⊖_, _⊗_, f2}
+use Rattle.blend.specs.Blend.{black}
+use Rattle.blend.specs.Pair.{linearPair, smoothPair, sharpPair, basisPair, catmullPair}
+use Rattle.blend.specs.declared.Rgba.{Rgba}
+use Rattle.blend.specs.declared.Stop.{Stop}
 use Rattle.gradient.specs.Stops.{colourAt, stopAt}
-use Rattle.gradient.specs.declared.Rgba.{Rgba}
-use Rattle.gradient.specs.declared.Stop.{Stop}
 use Rattle.gradient.specs.declared.Kind.{Kind}
 use Rattle.gradient.specs.declared.Kind.the-variants.{Linear, Smoothstep, Sharp, Basis, CatmullRom, Gimp}
 use Rattle.gradient.specs.declared.Place.{Place}
 use Rattle.gradient.specs.declared.Place.the-variants.{End, Nowhere, Between}
-
--- how far t has come from stop p to stop q
-abbrev pub shareOf : Stop → Stop → Float → Float
-shareOf p q t = (t ⊖ p .position) ⊘ (q .position ⊖ p .position)
-
-unfoldable pub linearPair : Stop → Stop → Float → Rgba
-linearPair p q t = linear (p .colour) (q .colour) (shareOf p q t)
-
-unfoldable pub smoothPair : Stop → Stop → Float → Rgba
-smoothPair p q t = smooth (p .colour) (q .colour) (shareOf p q t)
-
--- a pair with even lower index is flat
-unfoldable pub sharpPair : ℕ → Stop → Stop → Float → Rgba
-sharpPair lower p q t = cond (eqb (lower % 2) 0) (p .colour) (smoothPair p q t)
-
--- a spline takes the colours beside the pair too
-unfoldable pub basisPair : Rgba → Stop → Stop → Rgba → Float → Rgba
-basisPair left p q right t = basis (shareOf p q t) left (p .colour) (q .colour) right
-
-unfoldable pub catmullPair : Rgba → Stop → Stop → Rgba → Float → Rgba
-catmullPair left p q right t = segmentAt (segmentOf left (p .colour) (q .colour) right) (shareOf p q t)
 
 -- on each channel, what would lie past the end p from q: 2 p - q
 unfoldable pub beyond : Rgba → Rgba → Rgba

@@ -5,11 +5,11 @@ use mathlib.Core.List.{List}
 use lib.ListN.{length}
 use lib.Ieee.{Float}
 use Rattle.float.specs.F32.{f0, f1}
+use Rattle.blend.specs.declared.Rgba.{Rgba}
 use Rattle.gradient.specs.Stops.{posAt, stopsCheck}
 use Rattle.gradient.specs.Place.{placeOf, placeIn}
 use Rattle.gradient.specs.Pair.{colourIn}
 use Rattle.gradient.specs.Gimp.{gimpCheck, gimpColour}
-use Rattle.gradient.specs.declared.Rgba.{Rgba}
 use Rattle.gradient.specs.declared.Kind.{Kind}
 use Rattle.gradient.specs.declared.Kind.the-variants.{Linear, Smoothstep, Sharp, Basis, CatmullRom, Gimp}
 use Rattle.gradient.specs.declared.Checked.{Checked}

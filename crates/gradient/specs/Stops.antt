@@ -6,8 +6,8 @@ use lib.Dec.{leb, eqb}
 use lib.ListN.{length, getD}
 use lib.Ieee.{Float, nan, inf, lt}
 use lib.Ieee.Scale.{finite}
-use Rattle.gradient.specs.declared.Rgba.{Rgba}
-use Rattle.gradient.specs.declared.Stop.{Stop}
+use Rattle.blend.specs.declared.Rgba.{Rgba}
+use Rattle.blend.specs.declared.Stop.{Stop}
 use Rattle.gradient.specs.declared.Kind.{Kind}
 use Rattle.gradient.specs.declared.Kind.the-variants.{Linear, Smoothstep, Sharp, Basis, CatmullRom, Gimp}
 use Rattle.gradient.specs.declared.Checked.{Checked}

@@ -1,16 +1,12 @@
 // Colour ramps lent as slices: their check, and their colour at t.
+use blend::Rgba;
 ghost use mathlib.Core.Path.{_≡_};
 ghost use Rattle.gradient.specs.Ramp.{isGimp, checkOf, anyColour, minOf, maxOf};
 
-pub mod basis;
-pub mod catmull_rom;
 pub mod gimp;
-pub mod linear;
 pub mod near;
 pub mod sharp;
-pub mod smoothstep;
 pub mod stops;
-pub mod utils;
 
 // Document 01's numbers of what a ramp is refused for.
 pub const MISSHAPEN: u8 = 1;
@@ -18,19 +14,6 @@ pub const MISSHAPEN: u8 = 1;
 pub const NOT_FINITE: u8 = 2;
 
 pub const FALLING: u8 = 3;
-
-#[repr(C)]
-pub struct Rgba {
-    pub r: f32,
-    pub g: f32,
-    pub b: f32,
-    pub a: f32,
-}
-
-pub struct Stop {
-    pub position: f32,
-    pub colour: Rgba,
-}
 
 // The kinds of ramp. Stops are n positions and 4n channels, with no codes. GIMP segments are 3n positions
 // (left, middle, right), 8n channels (left, then right) and 2n codes (blending, colouring).

@@ -1,9 +1,10 @@
 // Points taken one after the other: the pair of the last point is tried before the search, and a Catmull-Rom
 // segment is kept while the pair stays.
 use super::Place;
-use super::Rgba;
-use super::catmull_rom;
 use super::stops;
+use blend::Rgba;
+use blend::catmull_rom;
+use blend::utils;
 ghost use mathlib.Core.Path.{_≡_};
 ghost use Rattle.gradient.specs.Near.{isBetween, placeNear, pairOr, segmentFor, segmentIn};
 
@@ -71,7 +72,7 @@ pub fn segment_colour(
         Place::Between(k) => {
             let p = stops::stop(positions, channels, stops::less(k));
             let q = stops::stop(positions, channels, k);
-            catmull_rom::segment_at(s, stops::share(p, q, t))
+            catmull_rom::segment_at(s, utils::share(p, q, t))
         }
     }
 }

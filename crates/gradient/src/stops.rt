@@ -6,20 +6,20 @@ use super::Kind;
 use super::MISSHAPEN;
 use super::NOT_FINITE;
 use super::Place;
-use super::Rgba;
-use super::Stop;
-use super::basis;
-use super::catmull_rom;
-use super::linear;
-use super::sharp;
-use super::smoothstep;
+use blend::Rgba;
+use blend::Stop;
+use blend::basis;
+use blend::catmull_rom;
+use blend::linear;
+use blend::sharp;
+use blend::smoothstep;
 ghost use mathlib.Core.Path.{_≡_};
 ghost use mathlib.Core.Bool.{cond};
 ghost use Prim.Native.Nat.{_-_, _≤_};
 ghost use lib.Ieee.{lt};
 ghost use Rattle.gradient.specs.Stops.{posAt, colourAt, stopAt, finiteRgba, isSharp, shaped, stopsCheck};
 ghost use Rattle.gradient.specs.Place.{narrowedAt, placeIn};
-ghost use Rattle.gradient.specs.Pair.{shareOf, beyond, leftOf, rightOf, pairOf, between, colourIn};
+ghost use Rattle.gradient.specs.Pair.{beyond, leftOf, rightOf, pairOf, between, colourIn};
 
 pub const MOST_STOPS: usize = 512;
 
@@ -205,13 +205,6 @@ pub fn find_place(positions: &[f32], t: f32) -> Place
         return Place::Nowhere;
     }
     Place::Between(narrowed(positions, t))
-}
-
-// How far t has come from stop p to stop q.
-pub fn share(p: Stop, q: Stop, t: f32) -> f32
-    ensures { λ r. ⌜ r ≡ shareOf p q t ⌝ }
-{
-    (t - p.position) / (q.position - p.position)
 }
 
 // What would lie past the end p from q.

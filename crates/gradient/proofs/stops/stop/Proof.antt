@@ -1,5 +1,5 @@
 -- `stops::stop` meets its contract: a position and a colour. Assumes nothing.
-use Rattle.gradient.proofs.Channels.{same-stop}
+use Rattle.blend.proofs.Channels.{same-stop}
 use borrow.Author.Needs.{needs}
 use Rattle.gradient.proofs.stops.stop.Statement.{statement}
 use Rattle.gradient.proofs.stops.stop.Tie as tie

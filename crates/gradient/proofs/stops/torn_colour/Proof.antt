@@ -2,8 +2,8 @@
 use denote.Ref.{now}
 use native.Mathlib.Omega.{arith}
 use lib.Ieee.{div, ofBits}
+use Rattle.blend.proofs.Channels.{same-rgba}
 use Rattle.gradient.proofs.Reading.{past-end}
-use Rattle.gradient.proofs.Channels.{same-rgba}
 use borrow.Author.Needs.{needs}
 use Rattle.gradient.proofs.stops.torn_colour.Statement.{statement}
 use Rattle.gradient.proofs.stops.torn_colour.Tie as tie
