@@ -11,7 +11,7 @@ use lib.Ieee.{Float, lt}
 use lib.Ieee.Bits.{is-true}
 use borrow.Author.Tests.{ltb-true, lt-ltb, le-ltb}
 use Rattle.float.proofs.Order.{le-lt-trans, lt-le-trans, lt→le, le→not-lt}
-use Rattle.gradient.specs.Place.{Rising}
+use Rattle.stops.specs.Place.{Rising}
 use Rattle.gradient.specs.Gimp.{segments, leftAt, rightAt, search, segmentFor}
 
 -- one turn, at segment mid: up and down are what the two halves give

@@ -12,9 +12,9 @@ use Rattle.sqrt.specs.Root.{rootOf}
 use Rattle.blend.specs.Blend.{linear, black}
 use Rattle.blend.specs.Finite.{allFinite}
 use Rattle.blend.specs.declared.Rgba.{Rgba}
-use Rattle.gradient.specs.Stops.{posAt, colourAt}
-use Rattle.gradient.specs.declared.Checked.{Checked}
-use Rattle.gradient.specs.declared.Checked.the-variants.{Fine, Refused}
+use Rattle.stops.specs.Stops.{posAt, colourAt}
+use Rattle.stops.specs.declared.Checked.{Checked}
+use Rattle.stops.specs.declared.Checked.the-variants.{Fine, Refused}
 
 -- ---- what is lent
 abbrev pub mostSegments : ℕ

@@ -1,7 +1,3 @@
-pub mod Stops
-pub mod Place
-pub mod Pair
-pub mod Near
 pub mod Gimp
 pub mod Ramp
 pub mod Answers

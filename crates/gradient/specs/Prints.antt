@@ -10,11 +10,11 @@ use Rattle.blend.specs.Blend.{linear, smooth}
 use Rattle.blend.specs.Basis.{weightsOf, weighed, basis}
 use Rattle.blend.specs.CatmullRom.{chord, tangent, cubic, coefficientsOf, segmentOf, cubicAt, segmentAt}
 use Rattle.blend.specs.Pair.{linearPair, smoothPair, basisPair, catmullPair}
-use Rattle.gradient.specs.Place.{firstAt, placeOf}
-use Rattle.gradient.specs.Pair.{beyond, leftOf, rightOf, pairOf, between, colourIn}
+use Rattle.stops.specs.Place.{firstAt, placeOf}
+use Rattle.stops.specs.Pair.{beyond, leftOf, rightOf, pairOf, between, colourIn}
+use Rattle.stops.specs.declared.Kind.{Kind}
+use Rattle.stops.specs.declared.Kind.the-variants.{Linear, Smoothstep, Basis, CatmullRom}
 use Rattle.gradient.specs.Ramp.{colourOf}
-use Rattle.gradient.specs.declared.Kind.{Kind}
-use Rattle.gradient.specs.declared.Kind.the-variants.{Linear, Smoothstep, Basis, CatmullRom}
 
 -- a kind, t, and the first channel there, both by bits: 0.25 to 0.25, 0.25 to 0.15625, 0.5 to 0.5, 0.25 to 0.25
 table : List (Kind × ℕ × ℕ)

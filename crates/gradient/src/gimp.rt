@@ -1,9 +1,8 @@
 // GIMP segments: their check, and their colour at t. Segment i has positions 3i.. (left, middle, right),
 // channels 8i.. (left r g b a, right r g b a) and codes 2i.. (blending, colouring).
-use super::Checked;
-use super::stops;
 use blend::Rgba;
 use blend::utils;
+use stops::Checked;
 ghost use mathlib.Core.Path.{_≡_};
 ghost use Prim.Native.Nat.{_*_, _≤_};
 ghost use lib.ListN.{length, getD};
