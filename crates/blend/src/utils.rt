@@ -1,5 +1,5 @@
-// What the kinds of ramp share: mixing and spacing, in the source's order of operations; the test
-// for refusal 2.
+// What the kinds of ramp have in common: the share of a pair, mixing and spacing, in the source's order of
+// operations; the test for refusal 2.
 use super::Rgba;
 use super::Stop;
 ghost use mathlib.Core.Path.{_≡_};

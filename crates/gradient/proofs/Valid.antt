@@ -1,4 +1,4 @@
--- A ramp of stops passes the check of any kind just where it is valid. Assumes nothing.
+-- A ramp of stops passes `checkOf` just where it is valid. Assumes nothing.
 use mathlib.Core.Path.{_≡_}
 use mathlib.Core.Bool.{false}
 use mathlib.Core.List.{List}

@@ -1,4 +1,4 @@
--- The colour between two stops, by the kind. Items 3 to 5 of document 01's 'Ramps carried'.
+-- The colours beside a pair of stops, the colour between the two by the kind, and the colour at a place. Items 3 to 5 of document 01's 'Ramps carried'.
 use Prim.Native.Nat.{ℕ, _+_, _-_}
 use mathlib.Core.Bool.{cond}
 use mathlib.Core.List.{List}
