@@ -1,6 +1,7 @@
 // The correctly rounded square root of an f32, for every f32, worked out from its bits.
 ghost use mathlib.Core.Path.{_≡_};
 ghost use Prim.Native.Nat.{_+_, _-_, _*_, _/_, _%_, _<_, _≤_, _^_};
+ghost use lib.Ieee.{binary32, ofBits};
 ghost use Rattle.sqrt.specs.Root.{nearestRoot, rootOf};
 
 pub mod half_root;
@@ -64,38 +65,66 @@ fn nearest_root(n: u64, start: u64) -> u64
     walk_to_root(n, start)
 }
 
-// The root of n * 4 ^ k, in units of 2 ^ -149; the guess is taken at the pattern b.
-fn root_of(n: u64, k: u32, b: u32) -> f32
-    requires { ⌜ (2 ^ 46 ≤ n) × (n ≤ (2 ^ 24 - 1) * 2 ^ 24) × (k < 200) ⌝ }
-    ensures { λ r. ⌜ r ≡ nearestRoot (n * 4 ^ k) ⌝ }
-{
-    let q = nearest_root(n, guess(b)) as u32;
-    f32::from_bits(k * FIELD + q)
+// What a root is taken of: n * 4 ^ k units of 2 ^ -149. The guess is taken at the pattern `at`.
+struct Radicand {
+    n: u64,
+    k: u32,
+    at: u32,
 }
 
-// The root of the pattern b of a number that is not subnormal. Its digits are 24; where the exponent's field is even,
-// n has the one place more. Half of the exponent is the root's.
-fn root_of_normal(b: u32) -> f32
+// That of the pattern b of a number that is not subnormal. Its digits are 24; where the exponent's field is even, n has
+// the one place more. Half of the exponent is the root's.
+fn normal(b: u32) -> Radicand
     requires { ⌜ (0x80_0000 ≤ b) × (b < 0x7f80_0000) ⌝ }
-    ensures { λ r. ⌜ r ≡ nearestRoot ((b % 0x80_0000 + 0x80_0000) * 2 ^ (b / 0x80_0000 - 1) * 2 ^ 149) ⌝ }
+    ensures { λ r. ⌜ (2 ^ 46 ≤ r .n) × (r .n ≤ (2 ^ 24 - 1) * 2 ^ 24) × (r .k < 200) ⌝ }
+    ensures { λ r. ⌜ nearestRoot (r .n * 4 ^ r .k) ≡ rootOf (ofBits binary32 b) ⌝ }
 {
     let mut s = b % (2 * FIELD);
     if s < FIELD {
         s = 2 * s + 2 * FIELD;
     }
-    root_of(s as u64 * FIELD as u64, (b / FIELD + 125) / 2, b)
+    Radicand {
+        n: s as u64 * FIELD as u64,
+        k: (b / FIELD + 125) / 2,
+        at: b,
+    }
 }
 
-// The root of the pattern b of a subnormal, b units. Moved up by z, as its leading zeros say, b has 24 digits. Half of
-// c is the root's exponent; where c is odd, n has the one place more.
-fn root_of_subnormal(b: u32) -> f32
+// That of the pattern b of a subnormal. Moved up by z, as its leading zeros say, b has 24 digits. Half of c is the root's
+// exponent; where c is odd, n has the one place more.
+fn subnormal(b: u32) -> Radicand
     requires { ⌜ (0 < b) × (b < 0x80_0000) ⌝ }
-    ensures { λ r. ⌜ r ≡ nearestRoot (b * 2 ^ 149) ⌝ }
+    ensures { λ r. ⌜ (2 ^ 46 ≤ r .n) × (r .n ≤ (2 ^ 24 - 1) * 2 ^ 24) × (r .k < 200) ⌝ }
+    ensures { λ r. ⌜ nearestRoot (r .n * 4 ^ r .k) ≡ rootOf (ofBits binary32 b) ⌝ }
 {
     let z = u32::leading_zeros(b) - 8;
     let c = 128 - z;
     let s = b << z;
-    root_of((s as u64) << (23 + c % 2), c / 2 - 1, s + c % 2 * FIELD)
+    Radicand {
+        n: (s as u64) << (23 + c % 2),
+        k: c / 2 - 1,
+        at: s + c % 2 * FIELD,
+    }
+}
+
+fn read(b: u32) -> Radicand
+    requires { ⌜ (0 < b) × (b < 0x7f80_0000) ⌝ }
+    ensures { λ r. ⌜ (2 ^ 46 ≤ r .n) × (r .n ≤ (2 ^ 24 - 1) * 2 ^ 24) × (r .k < 200) ⌝ }
+    ensures { λ r. ⌜ nearestRoot (r .n * 4 ^ r .k) ≡ rootOf (ofBits binary32 b) ⌝ }
+{
+    if b < FIELD {
+        return subnormal(b);
+    }
+    normal(b)
+}
+
+// Its root. With one caller the compiler puts it in place.
+fn root_of(n: u64, k: u32, at: u32) -> f32
+    requires { ⌜ (2 ^ 46 ≤ n) × (n ≤ (2 ^ 24 - 1) * 2 ^ 24) × (k < 200) ⌝ }
+    ensures { λ r. ⌜ r ≡ nearestRoot (n * 4 ^ k) ⌝ }
+{
+    let q = nearest_root(n, guess(at)) as u32;
+    f32::from_bits(k * FIELD + q)
 }
 
 // The f32 nearest to the root of x, a tie to the even one. -0, +0 and infinity give themselves; below zero, and
@@ -107,14 +136,11 @@ pub fn root(x: f32) -> f32
         return x;
     }
     let b = f32::to_bits(x);
-    if b < FIELD {
-        if b == 0 {
-            return x;
+    if 0 < b {
+        if b < INFINITY {
+            let a = read(b);
+            return root_of(a.n, a.k, a.at);
         }
-        return root_of_subnormal(b);
-    }
-    if b < INFINITY {
-        return root_of_normal(b);
     }
     if b <= SIGN {
         return x;

@@ -1,12 +1,13 @@
--- `sqrt::root_of_normal` meets its contract: what it asks of `root_of` is what `proofs/Shift.antt` takes of its pattern. Assumes nothing.
+-- `sqrt::normal` meets its contract: its n and k are what `proofs/Shift.antt` takes of its pattern. Assumes nothing.
 use borrow.Author.Needs.{needs}
 use native.Mathlib.Omega.{arith}
-use mathlib.Core.Path.{_≡_, _∙_}
+use mathlib.Core.Path.{_≡_, sym, _∙_}
 use mathlib.Core.Logic.{⊎-elim}
 use Prim.Native.Nat.{ℕ, _+_, _-_, _*_, _/_}
+use Rattle.sqrt.proofs.Cases.{at-normal}
 use Rattle.sqrt.proofs.Shift.{zeros, scaled, digits, still, scaled-even, scaled-odd, dropped, Taken, taken}
-use Rattle.sqrt.proofs.root_of_normal.Statement.{statement}
-use Rattle.sqrt.proofs.root_of_normal.Tie as tie
+use Rattle.sqrt.proofs.normal.Statement.{statement}
+use Rattle.sqrt.proofs.normal.Tie as tie
 
 n-is : (c : tie.Joined1) → c .if1 .s * 8388608 ≡ scaled (digits (c .before .args .b)) (c .before .args .b / 8388608 + 127 - zeros (digits (c .before .args .b)))
 n-is c =
@@ -36,20 +37,20 @@ mul-s-3 c = search needs
 add-s : tie.Need-add-s
 add-s c = search needs
 
-cast-root-of : tie.Need-cast-root-of
-cast-root-of c = search needs
+cast-t8 : tie.Need-cast-t8
+cast-t8 c = search needs
 
-mul-root-of : tie.Need-mul-root-of
-mul-root-of c = search needs
+mul-t9 : tie.Need-mul-t9
+mul-t9 c = search needs
 
-add-root-of : tie.Need-add-root-of
-add-root-of c = search needs
-
-root-of-requires : tie.Need-root-of-requires
-root-of-requires c κs = let a = asked (c .before) in (a .low, a .high, a .few)
+add-t10 : tie.Need-add-t10
+add-t10 c = search needs
 
 returns : tie.Need-returns
-returns c = c .root-of .ensures ∙ asked (c .before .before) .is
+returns c =
+    let a = asked (c .before) in
+    let b = c .before .before .args .b in
+    ((a .low, a .high, a .few), a .is ∙ sym (at-normal b (c .before .before .pre .0) (c .before .before .pre .1)))
 
-pub root-of-normal-spec : {M : Type 1} → statement M
-root-of-normal-spec = tie.close (tie.spec mul-s rem-s mul-s-2 mul-s-3 add-s cast-root-of mul-root-of add-root-of root-of-requires returns)
+pub normal-spec : {M : Type 1} → statement M
+normal-spec = tie.close (tie.spec mul-s rem-s mul-s-2 mul-s-3 add-s cast-t8 mul-t9 add-t10 returns)
