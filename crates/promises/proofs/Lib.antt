@@ -6,6 +6,7 @@ pub mod Decimal
 pub mod Gradient
 pub mod Ggr
 pub mod Linearize
+pub mod Refresh
 pub mod Colorgrad
 pub mod Desk
 pub mod Face

@@ -5,7 +5,6 @@ use gradient::Kind;
 use gradient::Rgba;
 use linearize::Listed;
 use linearize::Sampler;
-use linearize::refreshing;
 
 const RECORD: usize = Sampler::CELLS * Sampler::ROW;
 
@@ -190,7 +189,7 @@ fn refresh(
         rows,
         &mut counts,
     );
-    let made = refreshing::refresh_list(
+    let made = refresh::refresh_list(
         kind,
         positions,
         channels,
