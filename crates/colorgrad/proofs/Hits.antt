@@ -8,11 +8,11 @@ use lib.Dec.{T}
 use lib.ListN.{getD}
 use lib.Ieee.{Float, nan, lt}
 use Rattle.float.proofs.Flags.{both-l, both-r}
-use Rattle.gradient.specs.Stops.{colourAt}
-use Rattle.gradient.specs.Place.{Rising}
+use Rattle.blend.specs.declared.Rgba.{Rgba}
+use Rattle.blend.proofs.Channels.{same-rgba}
+use Rattle.stops.specs.Stops.{colourAt}
+use Rattle.stops.specs.Place.{Rising}
 use Rattle.gradient.specs.Gimp.{segments, leftAt, rightAt, segmentFor}
-use Rattle.gradient.specs.declared.Rgba.{Rgba}
-use Rattle.gradient.proofs.Channels.{same-rgba}
 use Rattle.gradient.proofs.GimpSearch.{found-inside, strict-hit}
 
 -- the two colours of segment i, where its eight channels start

@@ -6,10 +6,10 @@ use mathlib.Core.List.{List}
 use Prim.Native.Nat.{ℕ}
 use lib.ListN.{length}
 use lib.Ieee.{Float}
+use Rattle.blend.specs.declared.Rgba.{Rgba}
+use Rattle.stops.specs.declared.Kind.{Kind}
+use Rattle.stops.specs.declared.Checked.the-variants.{Fine}
 use Rattle.gradient.specs.Ramp.{minOf, maxOf, colourOf}
-use Rattle.gradient.specs.declared.Rgba.{Rgba}
-use Rattle.gradient.specs.declared.Kind.{Kind}
-use Rattle.gradient.specs.declared.Checked.the-variants.{Fine}
 use Rattle.linearize.specs.Cells.{cellRow, cellCount}
 use Rattle.linearize.specs.Kept.{keptOf, listEvaluations}
 use Rattle.refresh.specs.Stretch.{cellClear}

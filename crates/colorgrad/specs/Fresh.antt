@@ -4,9 +4,9 @@ use mathlib.Core.Path.{_≡_}
 use mathlib.Core.List.{List}
 use Prim.Native.Nat.{ℕ}
 use lib.Ieee.{Float}
+use Rattle.blend.specs.declared.Rgba.{Rgba}
+use Rattle.stops.specs.declared.Kind.{Kind}
 use Rattle.gradient.specs.Ramp.{colourOf}
-use Rattle.gradient.specs.declared.Rgba.{Rgba}
-use Rattle.gradient.specs.declared.Kind.{Kind}
 use Rattle.linearize.specs.Kept.{keptOf, listEvaluations}
 use Rattle.linearize.specs.Desk.{farOf, sampleRows, sampleCounts, freshList, flattenPositions, flattenChannels}
 use Rattle.refresh.specs.Edit.{changed}

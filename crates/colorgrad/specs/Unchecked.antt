@@ -5,10 +5,10 @@ use mathlib.Core.List.{List}
 use Prim.Native.Nat.{ℕ, _-_, _*_, _≤_, _<_, _^_}
 use lib.ListN.{length}
 use lib.Ieee.{Float, le, isNan}
-use Rattle.gradient.specs.Stops.{posAt}
-use Rattle.gradient.specs.Place.{Rising, placeOf}
+use Rattle.stops.specs.Stops.{posAt}
+use Rattle.stops.specs.Place.{Rising, placeOf}
+use Rattle.stops.specs.declared.Place.{Place}
 use Rattle.gradient.specs.Gimp.{segments}
-use Rattle.gradient.specs.declared.Place.{Place}
 
 -- the largest power of two below n
 pub record Span (n size : ℕ) : Type 0 where

@@ -1,9 +1,9 @@
 // What an editor's change of one colour does to a record and its list. By the theorem `refreshed-is-fresh`
 // (proofs/Refreshing) both come out as if they had been made afresh from the changed ramp.
-use gradient::Kind;
-use gradient::Rgba;
+use blend::Rgba;
 use linearize::Listed;
 use refresh::Refreshed;
+use stops::Kind;
 ghost use Rattle.refresh.specs.RefreshDesk.{Refreshes, RefreshLists};
 
 // Refreshes the lent record of the lent ramp, as it was, after stop k is given a colour. A refusal leaves the record

@@ -1,17 +1,17 @@
 // The public face: a ramp lent as slices, checked and then used. Every call answers for any slices at all.
-use gradient::Checked;
-use gradient::Kind;
-use gradient::Rgba;
-use gradient::near;
+use blend::Rgba;
+use stops::Checked;
+use stops::Kind;
+use stops::near;
 ghost use mathlib.Core.Path.{_≡_};
 ghost use Prim.Native.Nat.{_+_, _*_, _≤_};
 ghost use lib.ListN.{length, replicate};
 ghost use lib.Seq.{sets};
 ghost use Rattle.float.specs.F32.{f0};
+ghost use Rattle.stops.specs.Near.{segmentFor};
+ghost use Rattle.stops.specs.declared.Checked.the-variants.{Fine};
 ghost use Rattle.gradient.specs.Gimp.{gimpColour};
-ghost use Rattle.gradient.specs.Near.{segmentFor};
 ghost use Rattle.gradient.specs.Ramp.{checkOf, colourOf};
-ghost use Rattle.gradient.specs.declared.Checked.the-variants.{Fine};
 ghost use Rattle.colorgrad.specs.Canvas.{channelsOf, paintedOver, stopColour};
 ghost use Rattle.colorgrad.specs.Promises.{Ready, AtIs, PaintIs};
 ghost use Rattle.colorgrad.specs.Unchecked.{Cut};

@@ -1,13 +1,12 @@
 // GIMP segments that passed the check, read without the tests that it made: the segment for t, and its colour.
-use gradient::Rgba;
+use blend::Rgba;
 use gradient::gimp;
 use gradient::sharp;
-use gradient::stops;
 ghost use mathlib.Core.Path.{_≡_};
 ghost use mathlib.Core.Bool.{true, _&&_};
 ghost use Prim.Native.Nat.{_≤_, _<_};
 ghost use lib.Ieee.{lt};
-ghost use Rattle.gradient.specs.Place.{Rising};
+ghost use Rattle.stops.specs.Place.{Rising};
 ghost use Rattle.gradient.specs.Gimp.{segments, leftAt, rightAt, segmentFor, segmentColour, gimpColour};
 ghost use Rattle.colorgrad.specs.Unchecked.{Cut};
 

@@ -3,8 +3,8 @@ use mathlib.Core.Path.{_≡_, refl, sym, subst}
 use mathlib.Core.List.{List}
 use Prim.Native.Nat.{ℕ}
 use lib.Ieee.{Float}
-use Rattle.gradient.specs.declared.Rgba.{Rgba}
-use Rattle.gradient.specs.declared.Kind.{Kind}
+use Rattle.blend.specs.declared.Rgba.{Rgba}
+use Rattle.stops.specs.declared.Kind.{Kind}
 use Rattle.linearize.specs.Promises.{Samples, Thins, Flattens}
 use Rattle.refresh.specs.RefreshDesk.{Refreshes, RefreshLists}
 use Rattle.linearize.specs.declared.Sampled.{Sampled}

@@ -4,7 +4,7 @@ use crate::kinds::Coded;
 use crate::lists;
 use crate::lists::ListMade;
 use crate::lists::SampleMade;
-use gradient::Rgba;
+use blend::Rgba;
 use linearize::Listed;
 use refresh::Refreshed;
 ghost use mathlib.Core.Path.{_≡_};

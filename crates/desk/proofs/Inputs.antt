@@ -11,8 +11,8 @@ use lib.Ieee.{Float}
 use borrow.Author.Tests.{le-leb, lt-leb}
 use types.Run.{OneOf, miss}
 use denote.Enum.Declared.{tagOf}
-use Rattle.gradient.specs.declared.Stop.{Stop}
-use Rattle.gradient.specs.declared.Kind.{Kind}
+use Rattle.blend.specs.declared.Stop.{Stop}
+use Rattle.stops.specs.declared.Kind.{Kind}
 use Rattle.ggr.specs.Text.{lines, atLf, onFirst, firstOf, restOf}
 use Rattle.ggr.specs.Steps.{LineAt}
 use Rattle.linearize.specs.Constants.{defaultThreshold}

@@ -10,13 +10,13 @@ use lib.Dec.{leb, ltb, eqb}
 use lib.Ieee.{Float}
 use borrow.Author.Tests.{ne-eqb, le-leb, lt-leb, lt-ltb, le-ltb, ltb-false}
 use Rattle.float.specs.F32.{f0}
-use Rattle.gradient.specs.Stops.{mostStops, shaped, stopsCheck, stopAt}
+use Rattle.blend.specs.declared.Rgba.{Rgba}
+use Rattle.stops.specs.Stops.{mostStops, shaped, stopsCheck, stopAt}
+use Rattle.stops.specs.declared.Kind.{Kind}
+use Rattle.stops.specs.declared.Checked.{Checked}
+use Rattle.stops.specs.declared.Checked.the-variants as checked
 use Rattle.gradient.specs.Gimp.{mostSegments, segments, gimpShaped, gimpCheck}
 use Rattle.gradient.specs.Ramp.{isGimp, checkOf, maxOf, colourOf}
-use Rattle.gradient.specs.declared.Rgba.{Rgba}
-use Rattle.gradient.specs.declared.Kind.{Kind}
-use Rattle.gradient.specs.declared.Checked.{Checked}
-use Rattle.gradient.specs.declared.Checked.the-variants as checked
 use Rattle.linearize.specs.Constants.{cells, recordLength}
 use Rattle.linearize.specs.Midpoints.{Gradient, Far}
 use Rattle.linearize.specs.Places.{listOf}

@@ -7,8 +7,8 @@ use lib.ListN.{length, drop, replicate}
 use lib.Dec.{ltb}
 use lib.Ieee.{Float}
 use Rattle.float.specs.F32.{f0}
+use Rattle.stops.specs.declared.Kind.{Kind}
 use Rattle.gradient.specs.Ramp.{maxOf, colourOf}
-use Rattle.gradient.specs.declared.Kind.{Kind}
 use Rattle.linearize.specs.Constants.{cells, recordLength}
 use Rattle.linearize.specs.Places.{listOf}
 use Rattle.linearize.specs.Kept.{keptOf, refusalOf, coloursOf, listEvaluations}

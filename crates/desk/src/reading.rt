@@ -2,12 +2,12 @@
 use crate::fields::Edit;
 use crate::fields::Entry;
 use crate::fields::entry_of;
+use blend::Stop;
 use ggr::text::line_at;
-use gradient::Kind;
-use gradient::Stop;
-use gradient::stops::MOST_STOPS;
 use linearize::Sampler;
 use linearize::thinning::put_colour;
+use stops::Kind;
+use stops::MOST_STOPS;
 ghost use mathlib.Core.Path.{_≡_};
 ghost use Prim.Native.Nat.{_+_, _*_, _≤_};
 ghost use lib.ListN.{length, set};

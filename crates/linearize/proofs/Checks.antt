@@ -11,9 +11,9 @@ use lib.ListN.{length, drop, getD, drop-of-length-le}
 use lib.Seq.{drop-cons}
 use lib.Ieee.{Float, neg, lt}
 use Rattle.float.proofs.Flags.{both-l, both-r}
-use Rattle.gradient.specs.declared.Checked.{Checked}
-use Rattle.gradient.specs.declared.Checked.the-variants as checked
-use Rattle.gradient.specs.declared.Kind.{Kind}
+use Rattle.stops.specs.declared.Checked.{Checked}
+use Rattle.stops.specs.declared.Checked.the-variants as checked
+use Rattle.stops.specs.declared.Kind.{Kind}
 use Rattle.gradient.specs.Ramp.{checkOf, minOf, maxOf}
 use Rattle.linearize.specs.Constants.{farthest}
 use Rattle.linearize.specs.Desk.{beyondOf, andThen, countsGood, shapeCheck, countsCheck, sampleCheck, thinCheck}

@@ -10,8 +10,8 @@ use lib.ListN.{set}
 use lib.Seq.{sets}
 use lib.Ieee.{Float, lt}
 use lib.Ieee.Scale.{finite}
-use Rattle.gradient.specs.declared.Rgba.{Rgba}
-use Rattle.gradient.specs.Stops.{finiteRgba}
+use Rattle.blend.specs.declared.Rgba.{Rgba}
+use Rattle.stops.specs.Stops.{finiteRgba}
 use Rattle.linearize.specs.Kept.{stopRefusal, channelsOf}
 
 module _ (room n : ℕ) (last t : Float) (c : Rgba) where

@@ -7,10 +7,10 @@ use lib.Dec.{eqb, ltb}
 use lib.ListN.{length, getD, set}
 use lib.Seq.{sets}
 use lib.Ieee.{Float}
+use Rattle.stops.specs.declared.Kind.{Kind}
+use Rattle.stops.specs.declared.Checked.{Checked}
 use Rattle.gradient.specs.Answers.{numberOfChecked}
 use Rattle.gradient.specs.Ramp.{maxOf, colourOf}
-use Rattle.gradient.specs.declared.Kind.{Kind}
-use Rattle.gradient.specs.declared.Checked.{Checked}
 use Rattle.linearize.specs.Places.{listOf}
 use Rattle.linearize.specs.Constants.{cells, depth, rowLength, recordLength}
 use Rattle.linearize.specs.Midpoints.{Gradient, Far, halves, tries}

@@ -1,6 +1,6 @@
 // How far apart two colours are.
 use crate::Sampler;
-use gradient::Rgba;
+use blend::Rgba;
 ghost use mathlib.Core.Path.{_≡_};
 ghost use Rattle.sqrt.specs.Cutoff.{IsCutoff};
 ghost use Rattle.linearize.specs.Constants.{thresholdOf};

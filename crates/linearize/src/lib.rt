@@ -1,7 +1,7 @@
 // Flattening a ramp: sampling it cell by cell into a lent record, and thinning the record to stops.
-use gradient::Checked;
-use gradient::Kind;
-use gradient::Rgba;
+use blend::Rgba;
+use stops::Checked;
+use stops::Kind;
 ghost use mathlib.Core.Path.{_≡_};
 ghost use Prim.Native.Nat.{_≤_};
 ghost use Rattle.linearize.specs.Constants.{thresholdOf};

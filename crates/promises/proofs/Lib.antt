@@ -3,6 +3,8 @@
 pub mod Float
 pub mod Sqrt
 pub mod Decimal
+pub mod Blend
+pub mod Stops
 pub mod Gradient
 pub mod Ggr
 pub mod Linearize

@@ -7,7 +7,7 @@ use native.Mathlib.Omega.{arith}
 use lib.ListN.{length, getD, set, take}
 use lib.Seq.{sets, take-suc, take-suc-set, take-set-lt, take-length}
 use lib.Ieee.{Float}
-use Rattle.gradient.specs.declared.Rgba.{Rgba}
+use Rattle.blend.specs.declared.Rgba.{Rgba}
 use Rattle.linearize.specs.Kept.{channelsOf}
 use Rattle.refresh.specs.Edit.{changed}
 

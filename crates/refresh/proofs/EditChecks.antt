@@ -9,14 +9,15 @@ use lib.Dec.{ltb, eqb}
 use lib.ListN.{length}
 use lib.Ieee.{Float}
 use Rattle.float.proofs.Flags.{both-l, both-r}
-use Rattle.gradient.specs.Stops.{posAt, finiteRgba, mostStops}
+use Rattle.blend.specs.declared.Rgba.{Rgba}
+use Rattle.stops.specs.Stops.{posAt, finiteRgba, mostStops}
+use Rattle.stops.specs.declared.Kind.{Kind}
+use Rattle.stops.specs.declared.Kind.the-variants.{Linear, Smoothstep, Sharp, Basis, CatmullRom, Gimp}
+use Rattle.stops.specs.declared.Checked.{Checked}
+use Rattle.stops.specs.declared.Checked.the-variants as checked
+use Rattle.stops.proofs.Valid.{Valid}
 use Rattle.gradient.specs.Ramp.{isGimp, checkOf, minOf, maxOf}
-use Rattle.gradient.specs.declared.Rgba.{Rgba}
-use Rattle.gradient.specs.declared.Kind.{Kind}
-use Rattle.gradient.specs.declared.Kind.the-variants.{Linear, Smoothstep, Sharp, Basis, CatmullRom, Gimp}
-use Rattle.gradient.specs.declared.Checked.{Checked}
-use Rattle.gradient.specs.declared.Checked.the-variants as checked
-use Rattle.gradient.proofs.Valid.{Valid, valid}
+use Rattle.gradient.proofs.Valid.{valid}
 use Rattle.linearize.specs.Desk.{beyondOf, andThen, shapeCheck, sampleCheck, thinCheck}
 use Rattle.refresh.specs.Anew.{Domain}
 use Rattle.refresh.specs.RefreshDesk.{refreshable, editCheck, refreshCheck}

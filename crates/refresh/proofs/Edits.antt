@@ -16,19 +16,21 @@ use lib.Ieee.{Float, nan, le, lt, isNan}
 use lib.Ieee.Fits.{and-l, and-r}
 use lib.Ieee.Bits.{is-true}
 use Rattle.float.proofs.Order as order
-use Rattle.gradient.proofs.Choice.{first-reaches}
-use Rattle.gradient.proofs.Valid.{valid, passes, first-le}
-use Rattle.gradient.specs.Stops.{posAt, colourAt, stopAt, finiteRgba}
-use Rattle.gradient.specs.Place.{Rising, firstAt, placeOf}
-use Rattle.gradient.specs.Pair.{beyond, basisPair, catmullPair, leftOf, rightOf, pairOf, between, colourIn}
+use Rattle.blend.specs.Pair.{basisPair, catmullPair}
+use Rattle.blend.specs.declared.Rgba.{Rgba}
+use Rattle.blend.specs.declared.Stop.{Stop}
+use Rattle.stops.proofs.Choice.{first-reaches}
+use Rattle.stops.proofs.Valid.{first-le}
+use Rattle.stops.specs.Stops.{posAt, colourAt, stopAt, finiteRgba}
+use Rattle.stops.specs.Place.{Rising, firstAt, placeOf}
+use Rattle.stops.specs.Pair.{beyond, leftOf, rightOf, pairOf, between, colourIn}
+use Rattle.stops.specs.declared.Kind.{Kind}
+use Rattle.stops.specs.declared.Kind.the-variants.{Linear, Smoothstep, Sharp, Basis, CatmullRom, Gimp}
+use Rattle.stops.specs.declared.Checked.the-variants.{Fine}
+use Rattle.stops.specs.declared.Place.{Place}
+use Rattle.stops.specs.declared.Place.the-variants.{End, Nowhere, Between}
+use Rattle.gradient.proofs.Valid.{valid, passes}
 use Rattle.gradient.specs.Ramp.{isGimp, checkOf, colourOf}
-use Rattle.gradient.specs.declared.Rgba.{Rgba}
-use Rattle.gradient.specs.declared.Stop.{Stop}
-use Rattle.gradient.specs.declared.Kind.{Kind}
-use Rattle.gradient.specs.declared.Kind.the-variants.{Linear, Smoothstep, Sharp, Basis, CatmullRom, Gimp}
-use Rattle.gradient.specs.declared.Checked.the-variants.{Fine}
-use Rattle.gradient.specs.declared.Place.{Place}
-use Rattle.gradient.specs.declared.Place.the-variants.{End, Nowhere, Between}
 use Rattle.linearize.specs.Kept.{channelsOf}
 use Rattle.refresh.specs.Edit.{changed}
 use Rattle.refresh.specs.Stretch.{reachOf, beforeOf, afterOf, outsideOf}

@@ -8,7 +8,7 @@ use native.Mathlib.Omega.{arith}
 use borrow.Author.Tests.{lt-ltb, le-ltb, le-leb, lt-leb}
 use lib.ListN.{length}
 use lib.Ieee.{Float, le, lt}
-use Rattle.gradient.specs.Stops.{posAt}
+use Rattle.stops.specs.Stops.{posAt}
 use Rattle.linearize.specs.Constants.{depth}
 use Rattle.linearize.specs.Midpoints.{midOf}
 use Rattle.refresh.specs.Stretch.{beforeOf, afterOf, outsideOf, midsOutside, clearOf}

@@ -12,7 +12,7 @@ use lib.Ieee.Scale.{finite}
 use Rattle.float.specs.Number.{Within}
 use Rattle.float.proofs.Order as order
 use Rattle.float.proofs.Midpoint.{most}
-use Rattle.gradient.proofs.Valid.{finite-number}
+use Rattle.stops.proofs.Valid.{finite-number}
 use Rattle.linearize.specs.Constants.{cells}
 use Rattle.linearize.specs.Midpoints.{Gradient, Far}
 use Rattle.linearize.specs.Cells.{edgeOf, cellRow, cellCount, cellTries}

@@ -11,7 +11,7 @@ use lib.Ieee.Fits.{and-l, and-r, and-i}
 use lib.Ieee.Bits.{is-true}
 use Rattle.float.specs.Number.{Within}
 use Rattle.float.proofs.Midpoint.{mid-le, mid-lt, lt-mid, mid-within}
-use Rattle.gradient.specs.Stops.{posAt}
+use Rattle.stops.specs.Stops.{posAt}
 use Rattle.linearize.specs.Constants.{depth}
 use Rattle.linearize.specs.Midpoints.{midOf}
 use Rattle.refresh.specs.Stretch.{beforeOf, afterOf, outsideOf, midsOutside, clearOf}

@@ -6,10 +6,10 @@ use mathlib.Core.List.{List}
 use Prim.Native.Nat.{ℕ}
 use lib.ListN.{length}
 use lib.Ieee.{Float}
+use Rattle.blend.specs.declared.Rgba.{Rgba}
+use Rattle.stops.specs.declared.Kind.{Kind}
+use Rattle.stops.specs.declared.Checked.the-variants as checked
 use Rattle.gradient.specs.Ramp.{minOf, maxOf, colourOf}
-use Rattle.gradient.specs.declared.Rgba.{Rgba}
-use Rattle.gradient.specs.declared.Kind.{Kind}
-use Rattle.gradient.specs.declared.Checked.the-variants as checked
 use Rattle.linearize.specs.Cells.{cellRow, cellCount, rowsOf, countsOf}
 use Rattle.linearize.specs.Desk.{farOf, countsCheck, sampleCheck, thinCheck, sampleRows, sampleCounts, freshList, flattenPositions, flattenChannels}
 use Rattle.refresh.specs.Stretch.{cellClear}

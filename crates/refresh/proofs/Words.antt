@@ -9,7 +9,7 @@ use lib.Dec.{leb, le→leb}
 use lib.ListN.{length}
 use lib.Ieee.{Float, le, lt}
 use lib.Ieee.Bits.{is-true}
-use Rattle.gradient.specs.Stops.{posAt}
+use Rattle.stops.specs.Stops.{posAt}
 use Rattle.refresh.specs.Stretch.{beforeOf, afterOf, outsideOf}
 
 or-none : (b : Bool) → (b || false) ≡ b

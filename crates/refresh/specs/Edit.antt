@@ -3,7 +3,7 @@ use mathlib.Core.List.{List}
 use Prim.Native.Nat.{ℕ, _*_}
 use lib.Seq.{sets}
 use lib.Ieee.{Float}
-use Rattle.gradient.specs.declared.Rgba.{Rgba}
+use Rattle.blend.specs.declared.Rgba.{Rgba}
 use Rattle.linearize.specs.Kept.{channelsOf}
 
 unfoldable pub changed : List Float → ℕ → Rgba → List Float

@@ -1,10 +1,10 @@
 // Refreshing the cells of a record: those that are clear of a change are left, the others sampled anew.
 use crate::stretch::is_clear;
 use crate::stretch::reach_of;
-use gradient::Kind;
 use linearize::Sampler;
 use linearize::cells::edge;
 use linearize::cells::sample_cell;
+use stops::Kind;
 ghost use mathlib.Core.Path.{_≡_};
 ghost use Prim.Native.Nat.{_<_};
 ghost use lib.ListN.{length};

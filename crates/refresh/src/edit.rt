@@ -1,8 +1,8 @@
 // An edit: stop k is given a colour. Whether it may be made, and the ramp with it made.
-use gradient::Checked;
-use gradient::Kind;
-use gradient::Rgba;
+use blend::Rgba;
 use linearize::thinning::put_colour;
+use stops::Checked;
+use stops::Kind;
 ghost use mathlib.Core.Path.{_≡_};
 ghost use Prim.Native.Nat.{_+_, _*_, _≤_};
 ghost use lib.ListN.{length, take};
@@ -32,7 +32,7 @@ pub(crate) fn check_edit(kind: Kind, n: usize, k: usize, colour: Rgba) -> Checke
     if n <= k {
         return Checked::Refused(6);
     }
-    if !gradient::stops::is_finite_colour(colour) {
+    if !stops::is_finite_colour(colour) {
         return Checked::Refused(6);
     }
     Checked::Fine

@@ -1,6 +1,6 @@
 // The stretch that a stop's colour reaches, and which cells are clear of it.
-use gradient::Kind;
 use linearize::Sampler;
+use stops::Kind;
 ghost use mathlib.Core.Path.{_≡_};
 ghost use Prim.Native.Nat.{_<_};
 ghost use lib.ListN.{length};
