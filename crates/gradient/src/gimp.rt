@@ -138,7 +138,7 @@ pub fn place_along(left: f32, right: f32, x: f32) -> f32
     (x - left) / length
 }
 
-fn calc_linear_factor(middle: f32, place: f32) -> f32
+pub fn calc_linear_factor(middle: f32, place: f32) -> f32
     ensures { λ r. ⌜ r ≡ linearFactor middle place ⌝ }
 {
     if place <= middle {
@@ -165,7 +165,7 @@ fn spherical_decreasing(f: f32) -> f32
     1.0 - sqrt::root(1.0 - f * f)
 }
 
-fn bend(blending: u8, f: f32) -> f32
+pub fn bend(blending: u8, f: f32) -> f32
     ensures { λ r. ⌜ r ≡ bent blending f ⌝ }
 {
     if blending == SPHERICAL_INCREASING {
@@ -177,7 +177,7 @@ fn bend(blending: u8, f: f32) -> f32
     f
 }
 
-pub fn blend(blending: u8, p: Rgba, q: Rgba, middle: f32, place: f32) -> Rgba
+fn blend(blending: u8, p: Rgba, q: Rgba, middle: f32, place: f32) -> Rgba
     ensures { λ r. ⌜ r ≡ blended blending p q middle place ⌝ }
 {
     if blending == STEP {

@@ -1,0 +1,109 @@
+-- `segments::paint_held` meets its contract. The invariant: where it goes on, point i lies in the segment; and an output that had the colours up to the start now has those up to i. Assumes nothing.
+use borrow.Author.Needs.{needs}
+use mathlib.Core.Path.{_≡_, refl, sym, _∙_, ap}
+use mathlib.Core.Bool.{true, false, true≢false}
+use mathlib.Core.List.{List, _++_}
+use Prim.Native.Nat.{_+_, _-_, _*_, _≤_, _<_}
+use native.Mathlib.Omega.{arith}
+use denote.Ref.{now}
+use lib.ListN.{length, take, drop}
+use lib.Seq.{sets, length-sets}
+use lib.Ieee.{Float}
+use Rattle.gradient.specs.Gimp.{gimpColour}
+use Rattle.colorgrad.specs.Canvas.{channelsOf, colours}
+use Rattle.colorgrad.proofs.Filling.{colours-next}
+use Rattle.colorgrad.proofs.Hits.{found-here, Lies, shaded, lies-on}
+use Rattle.colorgrad.proofs.segments.paint_held.Statement.{statement}
+use Rattle.colorgrad.proofs.segments.paint_held.Tie as tie
+
+abbrev Inv-loop : tie.InvT-loop
+Inv-loop positions channels codes ts out₀ orderly s start h i₀ on₀ out i on =
+    (i ≤ length ts)
+    × (length out ≡ length out₀)
+    × (on ≡ true → Lies positions ts s i)
+    × (on ≡ true → start ≤ i)
+    × (on ≡ false → start < i)
+    × ((o : List Float) → 4 * length ts ≤ length o → out₀ ≡ colours (gimpColour positions channels codes) (take start ts) ++ drop (4 * start) o → out ≡ colours (gimpColour positions channels codes) (take i ts) ++ drop (4 * i) o)
+
+abbrev μ-loop : tie.MeasureT-loop
+μ-loop positions channels codes ts out₀ orderly s start h i₀ on₀ out i on = length ts - i
+
+hold-requires : tie.Need-hold-requires Inv-loop μ-loop
+hold-requires c κs = let s = c .before .before .before .before .before in (s .pre .0 .0, found-here (now (s .args .positions)) _ (s .pre .0 .0 .least) (s .pre .1 .1))
+
+loop-holds : tie.Need-loop-holds Inv-loop μ-loop
+loop-holds c =
+    let s = c .before .before .before .before .before .before in (
+      omega arith,
+      refl,
+      λ e. record { there = s .pre .1 .0; found = s .pre .1 .1; on = s .pre .1 .2 },
+      λ e. omega arith,
+      λ e. absurd (true≢false e),
+      λ o room e. e,
+    )
+
+mul-shade : tie.Need-mul-shade Inv-loop μ-loop
+mul-shade c = search needs
+
+shared-slice-read-shade : tie.Need-shared-slice-read-shade Inv-loop μ-loop
+shared-slice-read-shade c = c .before .before .loop .inv .2 (c .before .loop-test .taken) .there
+
+shade-requires : tie.Need-shade-requires Inv-loop μ-loop
+shade-requires c κs = search needs
+
+mul-put : tie.Need-mul-put Inv-loop μ-loop
+mul-put c = search needs
+
+put-requires : tie.Need-put-requires Inv-loop μ-loop
+put-requires c κs =
+    let l = c .before .before .before in
+    let s = l .before .before .before .before .before .before .before .before in
+    let h = l .before .loop .inv .2 (l .loop-test .taken) .there in
+    omega (arith, l .before .loop .inv .1, s .pre .0 .1)
+
+add-i : tie.Need-add-i Inv-loop μ-loop
+add-i c = search needs
+
+goes-on-requires : tie.Need-goes-on-requires Inv-loop μ-loop
+goes-on-requires c κs = search needs
+
+loop-less : tie.Need-loop-less Inv-loop μ-loop
+loop-less c = let l = c .before .before .before .before .before .before .before in let h = l .before .loop .inv .2 (l .loop-test .taken) .there in omega arith
+
+loop-again : tie.Need-loop-again Inv-loop μ-loop
+loop-again c =
+    let p = c .before .before .before in
+    let l = p .before .before .before .before in
+    let a = l .before .before in
+    let s = a .before .before .before .before .before .before in
+    let ps = now (s .args .positions) in
+    let cs = now (s .args .channels) in
+    let ks = now (s .args .codes) in
+    let ts = now (s .args .ts) in
+    let i = l .before .loop .i in
+    let inv = l .before .loop .inv in
+    let lies = inv .2 (l .loop-test .taken) in
+    let here = lies .there in
+    let from = inv .3 (l .loop-test .taken) in (
+      omega arith,
+      ap length (p .put .ensures) ∙ simp length-sets (inv .1),
+      λ e. lies-on ps cs ks (s .args .s) (a .hold .ensures) ts (i + 1) (s .pre .0 .2) (found-here ps _ (s .pre .0 .0 .least) (s .pre .1 .1)) (c .goes-on .ensures e),
+      λ e. omega arith,
+      λ e. omega arith,
+      λ o room e.
+          p .put .ensures
+          ∙ ap (λ (r : List Float). sets r (4 * i) (channelsOf (p .before .before .shade .result))) (inv .5 o room e)
+          ∙ colours-next (gimpColour ps cs ks) ts o room i here (shaded ps cs ks (s .args .s) (a .hold .ensures) ts i lies (p .before .before .shade .ensures)),
+    )
+
+same-length : tie.Need-same-length Inv-loop μ-loop
+same-length c = c .before .loop .inv .1
+
+returns : tie.Need-returns Inv-loop μ-loop
+returns c =
+    let l = c .before in
+    let s = l .before .before .before .before .before .before .before in
+    record { on = l .loop .inv .4 (c .loop-test .left); within = l .loop .inv .0; sized = l .loop .inv .1; is = l .loop .inv .5 }
+
+pub paint-held-spec : {M : Type 1} → statement M
+paint-held-spec = tie.close (tie.spec Inv-loop μ-loop hold-requires loop-holds mul-shade shared-slice-read-shade shade-requires mul-put put-requires add-i goes-on-requires loop-less loop-again same-length returns)
