@@ -1,20 +1,23 @@
 -- A GIMP segment held while points lie in it: its colours, and which segment is found: one of those that there are; and where the positions rise, the one that t lies inside. Assumes nothing.
 use mathlib.Core.Path.{_≡_, refl, sym, _∙_, ap, subst}
-use mathlib.Core.Bool.{Bool, true, false, _&&_}
+use mathlib.Core.Bool.{Bool, true, false, _&&_, true≢false}
 use mathlib.Core.List.{List}
 use Prim.Native.Nat.{ℕ, _+_, _*_, _≤_, _<_}
+use native.Mathlib.Nat.{lt-of-not-le}
+use native.Mathlib.Decide.{decLe}
 use native.Mathlib.Omega.{arith}
 use lib.Dec.{T}
 use lib.ListN.{length, getD}
 use lib.Ieee.{Float, nan, lt}
 use Rattle.float.proofs.Flags.{both-l, both-r}
+use Rattle.float.proofs.Order.{lt-irrefl}
 use Rattle.blend.specs.declared.Rgba.{Rgba}
 use Rattle.blend.proofs.Channels.{same-rgba}
 use Rattle.stops.specs.Stops.{colourAt}
 use Rattle.gradient.specs.Gimp.{segments, leftAt, middleAt, rightAt, blendingAt, segmentFor, along, blended, segmentColour, offDomain, gimpColour}
 use Rattle.gradient.proofs.GimpLaws.{inside}
 use Rattle.gradient.proofs.GimpSearch.{found-inside, strict-hit, in-domain}
-use Rattle.colorgrad.specs.Unchecked.{Orderly, heldOf, Goes}
+use Rattle.colorgrad.specs.Unchecked.{Orderly, heldOf, Peeked}
 use Rattle.colorgrad.specs.declared.segments.Held.{Held}
 
 -- the two colours of segment i, where its eight channels start
@@ -57,21 +60,35 @@ module _ (ps cs : List Float) (ks : List ℕ) (s : ℕ) where
       ∙ ap (λ (x : Rgba). build (along (leftAt ps s) (rightAt ps s) (middleAt ps s)) (colourAt cs (2 * s)) x) g
 
   module _ {h : Held} (held : h ≡ heldOf ps cs ks s) where
-    pub shaded : (ts : List Float) (i : ℕ) {z : Rgba} → Lies ps ts s i → z ≡ blended (h .blending) (h .p) (h .q) (h .middle) (along (h .left) (h .right) (getD ts i nan)) → z ≡ gimpColour ps cs ks (getD ts i nan)
+    pub shaded : (ts : List Float) (i : ℕ) {place : Float} {z : Rgba} → Lies ps ts s i → place ≡ along (h .left) (h .right) (getD ts i nan) → z ≡ blended (h .blending) (h .p) (h .q) (h .middle) place → z ≡ gimpColour ps cs ks (getD ts i nan)
     unfolding heldOf segmentColour
-    shaded ts i w e =
+    shaded ts i w f e =
         let t = getD ts i nan in
-        inside ps cs ks t refl (w .on) (w .found) (e ∙ ap (λ (x : Held). blended (x .blending) (x .p) (x .q) (x .middle) (along (x .left) (x .right) t)) held)
+        inside ps cs ks t refl (w .on) (w .found) (e ∙ ap (λ (x : Float). blended (h .blending) (h .p) (h .q) (h .middle) x) f ∙ ap (λ (x : Held). blended (x .blending) (x .p) (x .q) (x .middle) (along (x .left) (x .right) t)) held)
 
-    pub lies-on : (ts : List Float) (i : ℕ) {orderly : Bool} → (orderly ≡ true → Orderly ps) → s < segments ps → Goes ts i (h .left) (h .right) orderly → Lies ps ts s i
-    unfolding heldOf
-    lies-on ts i o l g =
-        let t = getD ts i nan in
-        let past : T (lt (leftAt ps s) t) = subst (λ (x : Held). T (lt (x .left) t)) held (g .past) in
-        let before : T (lt t (rightAt ps s)) = subst (λ (x : Held). T (lt t (x .right))) held (g .before) in
-        let w = o (g .ordered) in
-        record {
-          there = g .there;
-          found = sym (strict-hit ps t (w .rising) s l past before);
-          on = in-domain ps t (w .rising) s l past before (w .low) (w .high);
-        }
+    -- what lies strictly inside is a point before the end, since the left end does not
+    module _ (ts : List Float) (j end : ℕ) {t : Float} (peeked : Peeked ts j end (h .left) t) {b : Bool} (e : b ≡ (lt (h .left) t && lt t (h .right))) (inner : b ≡ true) where
+      past-left : lt (h .left) t ≡ true
+      past-left = both-l (lt (h .left) t) (lt t (h .right)) (sym e ∙ inner)
+
+      pub before-end : j < end
+      before-end = go (decLe end j)
+        where
+          go : Dec (end ≤ j) → j < end
+          go (yes l) = absurd (true≢false (sym past-left ∙ ap (λ (x : Float). lt (h .left) x) (peeked .past l) ∙ lt-irrefl (h .left)))
+          go (no f) = lt-of-not-le f
+
+      pub lies-on : (j < end → Orderly ps) → s < segments ps → end ≤ length ts → Lies ps ts s j
+      unfolding heldOf
+      lies-on o l n =
+          let here = before-end in
+          let u = getD ts j nan in
+          let is : t ≡ u = peeked .here here in
+          let past : T (lt (leftAt ps s) u) = subst (λ (x : Float). T (lt (leftAt ps s) x)) is (subst (λ (x : Held). T (lt (x .left) t)) held (subst T (sym past-left) tt)) in
+          let before : T (lt u (rightAt ps s)) = subst (λ (x : Float). T (lt x (rightAt ps s))) is (subst (λ (x : Held). T (lt t (x .right))) held (subst T (sym (both-r (lt (h .left) t) (lt t (h .right)) (sym e ∙ inner))) tt)) in
+          let w = o here in
+          record {
+            there = omega arith;
+            found = sym (strict-hit ps u (w .rising) s l past before);
+            on = in-domain ps u (w .rising) s l past before (w .low) (w .high);
+          }

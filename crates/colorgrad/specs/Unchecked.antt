@@ -61,12 +61,10 @@ heldOf ps cs ks i = record {
   q = colourAt cs (2 * i + 1);
 }
 
--- there is a point i, inside the segment from left to right
-pub record Goes (ts : List Float) (i : ℕ) (left right : Float) (orderly : Bool) : Type 0 where
-  pub there : i < length ts
-  pub ordered : orderly ≡ true
-  pub past : T (lt left (getD ts i nan))
-  pub before : T (lt (getD ts i nan) right)
+-- point j where it comes before the end, and else another number
+pub record Peeked (ts : List Float) (j end : ℕ) (other t : Float) : Type 0 where
+  pub here : j < end → t ≡ getD ts j nan
+  pub past : end ≤ j → t ≡ other
 
 -- from point i up to j the colours are written: an output that had the first i of them now has the first j
 pub record Written (g : Float → Rgba) (ts : List Float) (i j : ℕ) (out out′ : List Float) : Type 0 where

@@ -8,12 +8,12 @@ use gradient::sharp;
 ghost use mathlib.Core.Path.{_≡_};
 ghost use mathlib.Core.Bool.{true, false, _&&_};
 ghost use mathlib.Core.List.{List};
-ghost use Prim.Native.Nat.{_*_, _≤_, _<_};
+ghost use Prim.Native.Nat.{_+_, _*_, _≤_, _<_};
 ghost use lib.ListN.{length, take, drop, getD};
 ghost use lib.Ieee.{Float, nan, lt};
-ghost use Rattle.gradient.specs.Gimp.{segments, leftAt, rightAt, segmentFor, along, blended, offDomain, gimpColour};
+ghost use Rattle.gradient.specs.Gimp.{segments, leftAt, rightAt, segmentFor, blended, offDomain, gimpColour};
 ghost use Rattle.colorgrad.specs.Canvas.{colours};
-ghost use Rattle.colorgrad.specs.Unchecked.{Cut, Orderly, heldOf, Goes, Written};
+ghost use Rattle.colorgrad.specs.Unchecked.{Cut, Orderly, heldOf, Peeked, Written};
 
 // With fewer segments than this the search is as quick as a guess.
 const MANY: usize = 32;
@@ -124,11 +124,10 @@ fn hold(positions: &[f32], channels: &[f32], codes: &[u8], i: usize) -> Held
     }
 }
 
-// The held segment's colour at t. It has one caller, so that the compiler puts it into the loop.
-fn shade(h: Held, t: f32) -> Rgba
-    ensures { λ r. ⌜ r ≡ blended (h .blending) (h .p) (h .q) (h .middle) (along (h .left) (h .right) t) ⌝ }
+// The held segment's colour at a place. It has one caller, so that the compiler puts it into the loop.
+fn shade(h: Held, place: f32) -> Rgba
+    ensures { λ r. ⌜ r ≡ blended (h .blending) (h .p) (h .q) (h .middle) place ⌝ }
 {
-    let place = gimp::place_along(h.left, h.right, t);
     if h.blending == gimp::STEP {
         if place >= h.middle {
             return h.q;
@@ -139,45 +138,54 @@ fn shade(h: Held, t: f32) -> Rgba
     utils::interpolate_linear(h.p, h.q, f)
 }
 
-// Whether there is a point i, and it lies inside the segment.
-fn goes_on(ts: &[f32], i: usize, left: f32, right: f32, orderly: bool) -> bool
-    ensures { λ r. ⌜ (r ≡ true → Goes (now (ts .entry)) i left right orderly) ⌝ }
+// Point j where it comes before the end, and else something else.
+fn point_or(ts: &[f32], j: usize, end: usize, other: f32) -> f32
+    requires { ⌜ end ≤ length (now ts) ⌝ }
+    ensures { λ r. ⌜ Peeked (now (ts .entry)) j end other r ⌝ }
 {
-    if !orderly {
-        return false;
+    if j < end {
+        return ts[j];
     }
-    if ts.len() <= i {
-        return false;
-    }
-    if left < ts[i] {
-        return ts[i] < right;
+    other
+}
+
+fn is_strictly_inside(left: f32, right: f32, t: f32) -> bool
+    ensures { λ r. ⌜ r ≡ (lt left t && lt t right) ⌝ }
+{
+    if left < t {
+        return t < right;
     }
     false
 }
 
-// Paints from point `start`, whose segment is s, as far as the points lie in it. Gives the first that is left.
+// Paints from point `start`, whose segment is s, as far as the points before `end` lie in it. Gives the first that is
+// left. The place of the next point is worked out before the colour of this one, so that its division does not wait.
 fn paint_held(
     positions: &[f32],
     channels: &[f32],
     codes: &[u8],
     ts: &[f32],
     out: &mut [f32],
-    orderly: bool,
     s: usize,
     start: usize,
+    end: usize,
 ) -> usize
-    requires { ⌜ Cut (now positions) (now channels) (now codes) × (4 * length (now ts) ≤ length (now out)) × (orderly ≡ true → Orderly (now positions)) ⌝ }
-    requires { ⌜ (start < length (now ts)) × (s ≡ segmentFor (now positions) (getD (now ts) start nan)) × (offDomain (getD (now ts) start nan) ≡ false) ⌝ }
+    requires { ⌜ Cut (now positions) (now channels) (now codes) × (4 * length (now ts) ≤ length (now out)) × (end ≤ length (now ts)) × (start + 1 < end → Orderly (now positions)) ⌝ }
+    requires { ⌜ (start < end) × (s ≡ segmentFor (now positions) (getD (now ts) start nan)) × (offDomain (getD (now ts) start nan) ≡ false) ⌝ }
     ensures { λ r. ⌜ Written (gimpColour (now (positions .entry)) (now (channels .entry)) (now (codes .entry))) (now (ts .entry)) start r (now (out .entry)) (now (out .exit)) ⌝ }
 {
     let h = hold(positions, channels, codes, s);
     let mut i = start;
+    let mut place = gimp::place_along(h.left, h.right, ts[start]);
     let mut on = true;
     while on {
-        let c = shade(h, ts[i]);
+        let t = point_or(ts, i + 1, end, h.left);
+        let ahead = gimp::place_along(h.left, h.right, t);
+        let c = shade(h, place);
         put(out, 4 * i, c);
         i += 1;
-        on = goes_on(ts, i, h.left, h.right, orderly);
+        place = ahead;
+        on = is_strictly_inside(h.left, h.right, t);
     }
     i
 }
@@ -208,5 +216,9 @@ pub(crate) fn paint_on(
         return i + 1;
     }
     let s = find_segment(positions, t, orderly);
-    paint_held(positions, channels, codes, ts, out, orderly, s, i)
+    let mut end = i + 1;
+    if orderly {
+        end = ts.len();
+    }
+    paint_held(positions, channels, codes, ts, out, s, i, end)
 }

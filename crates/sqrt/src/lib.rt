@@ -53,13 +53,13 @@ fn walk_to_root(n: u64, start: u64) -> u64
     q
 }
 
-// The same, and at once where the start is the one: what n + start is above the start's square is then from 1 to
-// 2 * start. Where it is below, the difference wraps to a number that is larger.
+// The same, and at once where the start is the one: what its square and itself are above n is then below 2 * start. Where
+// they are below n, the difference wraps to a number that is larger.
 fn nearest_root(n: u64, start: u64) -> u64
     requires { ⌜ (0 < n) × (n < 2 ^ 48) × (start < 2 ^ 32) ⌝ }
     ensures { λ r. ⌜ (r * r < n + r) × (n ≤ r * r + r) ⌝ }
 {
-    if std::num::wrapping_sub_u64(n + start, start * start + 1) < 2 * start {
+    if std::num::wrapping_sub_u64(start * start + start, n) < 2 * start {
         return start;
     }
     walk_to_root(n, start)

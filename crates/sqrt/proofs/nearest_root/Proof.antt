@@ -7,18 +7,15 @@ use Rattle.sqrt.proofs.Near.{Near, square-fits}
 use Rattle.sqrt.proofs.nearest_root.Statement.{statement}
 use Rattle.sqrt.proofs.nearest_root.Tie as tie
 
--- r is n + q less q * q + 1; where that is below zero it has wrapped, and is above 2 * q
-near : (n q r : ℕ) → n < 2 ^ 48 → q < 2 ^ 32 → (r + (q * q + 1)) % 2 ^ 64 ≡ n + q → r < 2 * q → Near n q
+-- r is q * q + q less n; where that is below zero it has wrapped, and is above 2 * q
+near : (n q r : ℕ) → n < 2 ^ 48 → q < 2 ^ 32 → (r + n) % 2 ^ 64 ≡ q * q + q → r < 2 * q → Near n q
 near n q r h k w t = let s = square-fits q k in (omega arith, omega arith)
-
-add-wrapping-sub-u64 : tie.Need-add-wrapping-sub-u64
-add-wrapping-sub-u64 c = search needs
 
 mul-wrapping-sub-u64 : tie.Need-mul-wrapping-sub-u64
 mul-wrapping-sub-u64 c = let h = square-fits (c .args .start) (c .pre .2) in omega arith
 
-add-wrapping-sub-u64-2 : tie.Need-add-wrapping-sub-u64-2
-add-wrapping-sub-u64-2 c = let h = square-fits (c .args .start) (c .pre .2) in omega arith
+add-wrapping-sub-u64 : tie.Need-add-wrapping-sub-u64
+add-wrapping-sub-u64 c = let h = square-fits (c .args .start) (c .pre .2) in omega arith
 
 wrapping-sub-u64-requires : tie.Need-wrapping-sub-u64-requires
 wrapping-sub-u64-requires c κs = search needs
@@ -38,4 +35,4 @@ returns-2 : tie.Need-returns-2
 returns-2 c = search needs
 
 pub nearest-root-spec : {M : Type 1} → statement M
-nearest-root-spec = tie.close (tie.spec add-wrapping-sub-u64 mul-wrapping-sub-u64 add-wrapping-sub-u64-2 wrapping-sub-u64-requires mul-if1 returns walk-to-root-requires returns-2)
+nearest-root-spec = tie.close (tie.spec mul-wrapping-sub-u64 add-wrapping-sub-u64 wrapping-sub-u64-requires mul-if1 returns walk-to-root-requires returns-2)

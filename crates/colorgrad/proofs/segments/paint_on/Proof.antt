@@ -1,7 +1,8 @@
 -- `segments::paint_on` meets its contract: black off the domain, and else the segment that is found, held. Assumes nothing.
 use mathlib.Core.Path.{refl, sym, _∙_, ap}
+use mathlib.Core.Logic.{⊎-elim}
 use mathlib.Core.List.{List}
-use Prim.Native.Nat.{_*_}
+use Prim.Native.Nat.{_+_, _*_, _≤_, _<_}
 use native.Mathlib.Omega.{arith}
 use denote.Ref.{now}
 use lib.ListN.{length}
@@ -11,6 +12,7 @@ use Rattle.gradient.specs.Gimp.{gimpColour}
 use Rattle.gradient.proofs.GimpLaws.{beyond}
 use Rattle.blend.specs.Blend.{black}
 use Rattle.colorgrad.specs.Canvas.{channelsOf}
+use Rattle.colorgrad.specs.Unchecked.{Orderly}
 use Rattle.colorgrad.proofs.Filling.{colours-next}
 use borrow.Author.Needs.{needs}
 use Rattle.colorgrad.proofs.segments.paint_on.Statement.{statement}
@@ -60,11 +62,25 @@ returns c =
 find-segment-requires : tie.Need-find-segment-requires
 find-segment-requires c κs = search needs
 
+add-end : tie.Need-add-end
+add-end c = search needs
+
+-- points beyond the next are painted only where the positions are orderly
+ends : (c : tie.Joined2) → let s = c .before .before .before .before .before .before .before .before .before .before in (c .if2 .end ≤ length (now (s .args .ts))) × (s .args .i + 1 < c .if2 .end → Orderly (now (s .args .positions))) × (s .args .i < c .if2 .end)
+ends c =
+    let s = c .before .before .before .before .before .before .before .before .before .before in
+    ⊎-elim
+    (λ w. (omega (arith, w .1), λ h. s .pre .0 .2 (w .0 .taken), omega (arith, w .1, s .pre .1)))
+    (λ w. (omega (arith, w .1, s .pre .1), λ h. absurd (omega (arith, w .1, h)), omega (arith, w .1)))
+    (c .if2 .came)
+
 paint-held-requires : tie.Need-paint-held-requires
 paint-held-requires c κs =
-    let e = c .before .before in
+    let f = c .before .before in
+    let e = f .before in
     let s = e .before .before .before .before .before .before .before .before in
-    (s .pre .0, (s .pre .1, c .before .find-segment .ensures, sym (e .before .is-off-domain .ensures) ∙ e .if1 .left))
+    let k = ends (c .before) in
+    ((s .pre .0 .0, s .pre .0 .1, k .0, k .1), (k .2, f .find-segment .ensures, sym (e .before .is-off-domain .ensures) ∙ e .if1 .left))
 
 same-length-2 : tie.Need-same-length-2
 same-length-2 c = search needs
@@ -85,6 +101,7 @@ paint-on-spec =
     same-length
     returns
     find-segment-requires
+    add-end
     paint-held-requires
     same-length-2
     returns-2)

@@ -1,28 +1,20 @@
 -- `segments::shade` meets its contract: a step gives an end colour, any other blending mixes at the factor that the calls ensure. Assumes nothing.
-use mathlib.Core.Path.{ap, _∙_}
-use lib.Ieee.{Float}
-use Rattle.gradient.specs.Gimp.{blended}
 use Rattle.gradient.proofs.GimpLaws.{step-right, step-left, mixed-at}
 use borrow.Author.Needs.{needs}
 use Rattle.colorgrad.proofs.segments.shade.Statement.{statement}
 use Rattle.colorgrad.proofs.segments.shade.Tie as tie
 
-place-along-requires : tie.Need-place-along-requires
-place-along-requires c κs = search needs
-
 returns : tie.Need-returns
 returns c =
-    let w = c .before .before .before .before .before in
-    let h = w .before .args .h in
-    step-right (h .blending) (h .p) (h .q) (h .middle) (w .place-along .result) (c .before .before .before .if1 .taken) (c .before .if2 .taken)
-    ∙ ap (λ (x : Float). blended (h .blending) (h .p) (h .q) (h .middle) x) (w .place-along .ensures)
+    let s = c .before .before .before .before .before in
+    let h = s .args .h in
+    step-right (h .blending) (h .p) (h .q) (h .middle) (s .args .place) (c .before .before .before .if1 .taken) (c .before .if2 .taken)
 
 returns-2 : tie.Need-returns-2
 returns-2 c =
-    let w = c .before .before .before .before .before in
-    let h = w .before .args .h in
-    step-left (h .blending) (h .p) (h .q) (h .middle) (w .place-along .result) (c .before .before .before .if1 .taken) (c .before .if2 .left)
-    ∙ ap (λ (x : Float). blended (h .blending) (h .p) (h .q) (h .middle) x) (w .place-along .ensures)
+    let s = c .before .before .before .before .before in
+    let h = s .args .h in
+    step-left (h .blending) (h .p) (h .q) (h .middle) (s .args .place) (c .before .before .before .if1 .taken) (c .before .if2 .left)
 
 calc-linear-factor-requires : tie.Need-calc-linear-factor-requires
 calc-linear-factor-requires c κs = search needs
@@ -35,16 +27,14 @@ interpolate-linear-requires c κs = search needs
 
 returns-3 : tie.Need-returns-3
 returns-3 c =
-    let w = c .before .before .before .before .before in
-    let h = w .before .args .h in
-    mixed-at (h .blending) (h .p) (h .q) (h .middle) (w .place-along .result) (c .before .before .before .if1 .left) (c .before .before .calc-linear-factor .ensures) (c .before .bend .ensures) (c .interpolate-linear .ensures)
-    ∙ ap (λ (x : Float). blended (h .blending) (h .p) (h .q) (h .middle) x) (w .place-along .ensures)
+    let s = c .before .before .before .before .before in
+    let h = s .args .h in
+    mixed-at (h .blending) (h .p) (h .q) (h .middle) (s .args .place) (c .before .before .before .if1 .left) (c .before .before .calc-linear-factor .ensures) (c .before .bend .ensures) (c .interpolate-linear .ensures)
 
 pub shade-spec : {M : Type 1} → statement M
 shade-spec =
     tie.close
     (tie.spec
-    place-along-requires
     returns
     returns-2
     calc-linear-factor-requires
