@@ -7,7 +7,7 @@ use native.Mathlib.Omega.{arith}
 use lib.ListN.{length, set, take, drop, getD, replicate, length-append, length-replicate, length-drop, replicate-append-replicate, drop-of-length-le}
 use lib.Seq.{sets, sets-eq, take-at, length-take-le, take-suc, take-length, drop-drop, drop-append-add}
 use lib.Ieee.{Float, nan}
-use Rattle.gradient.specs.declared.Rgba.{Rgba}
+use Rattle.blend.specs.declared.Rgba.{Rgba}
 use Rattle.colorgrad.specs.Canvas.{channelsOf, colours}
 
 module _ {A : Type 0} where

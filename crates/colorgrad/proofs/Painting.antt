@@ -7,20 +7,20 @@ use lib.ListN.{length, replicate}
 use lib.Ieee.{Float}
 use borrow.Author.Tests.{lt-ltb, le-ltb}
 use Rattle.float.specs.F32.{f0}
-use Rattle.gradient.specs.Place.{Rising}
-use Rattle.gradient.specs.Pair.{colourIn}
+use Rattle.blend.specs.declared.Rgba.{Rgba}
+use Rattle.stops.specs.Place.{Rising}
+use Rattle.stops.specs.Pair.{colourIn}
+use Rattle.stops.specs.Near.{placeNear, pairOr, segmentFor, segmentIn}
+use Rattle.stops.specs.declared.Kind.the-variants.{CatmullRom, Gimp}
+use Rattle.stops.specs.declared.Place.{Place}
+use Rattle.stops.specs.declared.Kind.{Kind}
+use Rattle.stops.specs.declared.Checked.{Checked}
+use Rattle.stops.specs.declared.Checked.the-variants as checked
+use Rattle.stops.proofs.Nearby.{near-same, segment-colour}
 use Rattle.gradient.specs.Gimp.{gimpColour}
-use Rattle.gradient.specs.Near.{placeNear, pairOr, segmentFor, segmentIn}
 use Rattle.gradient.specs.Ramp.{isGimp, checkOf, colourOf, anyColour}
-use Rattle.gradient.specs.declared.Kind.the-variants.{CatmullRom, Gimp}
-use Rattle.gradient.specs.declared.Place.{Place}
 use Rattle.gradient.specs.Answers.{onFine, numberOfChecked}
-use Rattle.gradient.specs.declared.Rgba.{Rgba}
-use Rattle.gradient.specs.declared.Kind.{Kind}
-use Rattle.gradient.specs.declared.Checked.{Checked}
-use Rattle.gradient.specs.declared.Checked.the-variants as checked
 use Rattle.gradient.proofs.Same.{same-colour}
-use Rattle.gradient.proofs.Nearby.{near-same, segment-colour}
 use Rattle.gradient.proofs.Valid.{valid}
 use Rattle.gradient.proofs.GimpLaws.{fine-shape}
 use Rattle.colorgrad.specs.Answers.{atAnswer, paintCheck, paintAnswer}

@@ -6,17 +6,17 @@ use mathlib.Core.List.{List}
 use Prim.Native.Nat.{ℕ}
 use lib.ListN.{length}
 use lib.Ieee.{Float}
+use Rattle.blend.specs.declared.Rgba.{Rgba}
+use Rattle.stops.specs.declared.Kind.{Kind}
+use Rattle.stops.specs.declared.Checked.the-variants.{Fine}
 use Rattle.gradient.specs.Ramp.{minOf, maxOf, colourOf}
-use Rattle.gradient.specs.declared.Rgba.{Rgba}
-use Rattle.gradient.specs.declared.Kind.{Kind}
-use Rattle.gradient.specs.declared.Checked.the-variants.{Fine}
 use Rattle.linearize.specs.Cells.{cellRow, cellCount}
 use Rattle.linearize.specs.Kept.{keptOf, listEvaluations}
-use Rattle.linearize.specs.Stretch.{cellClear}
+use Rattle.refresh.specs.Stretch.{cellClear}
 use Rattle.linearize.specs.Desk.{farOf, sampleCheck}
-use Rattle.linearize.specs.RefreshDesk.{editCheck, refreshCheck, newColour, away}
-use Rattle.linearize.proofs.EditChecks.{edited}
-use Rattle.linearize.proofs.Theorem as theorem
+use Rattle.refresh.specs.RefreshDesk.{editCheck, refreshCheck, newColour, away}
+use Rattle.refresh.proofs.EditChecks.{edited}
+use Rattle.refresh.proofs.Theorem as theorem
 use Rattle.colorgrad.specs.Fresh.{Fresh}
 
 pub refreshed-is-fresh : (kind : Kind) (ps cs : List Float) (ks : List ℕ) (k : ℕ) (colour : Rgba) (asked : Float) (rows : List Float) (counts : List ℕ)

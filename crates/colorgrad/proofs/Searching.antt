@@ -8,19 +8,19 @@ use native.Mathlib.Omega.{arith}
 use lib.ListN.{length}
 use lib.Ieee.{Float, le, ne}
 use Rattle.float.proofs.Order.{ne-self}
-use Rattle.gradient.specs.Stops.{posAt}
-use Rattle.gradient.specs.Place.{Rising, firstAt, isBelow, placeOf}
-use Rattle.gradient.specs.Pair.{colourIn}
-use Rattle.gradient.specs.Near.{isBetween}
-use Rattle.gradient.specs.declared.Rgba.{Rgba}
-use Rattle.gradient.specs.declared.Kind.{Kind}
-use Rattle.gradient.specs.declared.Place.{Place}
-use Rattle.gradient.specs.declared.Place.the-variants.{End, Nowhere, Between}
-use Rattle.gradient.proofs.Choice.{rising-numbers, place-first, place-last, place-nan, place-between}
-use Rattle.gradient.proofs.Narrowing.{Bracket}
-use Rattle.gradient.proofs.Quarters.{first-part, quarter, ends-two, ends-one}
-use Rattle.gradient.proofs.Nearby.{near-pair, near-same}
-use Rattle.gradient.proofs.Valid.{pair-inside}
+use Rattle.blend.specs.declared.Rgba.{Rgba}
+use Rattle.stops.specs.Stops.{posAt}
+use Rattle.stops.specs.Place.{Rising, firstAt, isBelow, placeOf}
+use Rattle.stops.specs.Pair.{colourIn}
+use Rattle.stops.specs.Near.{isBetween}
+use Rattle.stops.specs.declared.Kind.{Kind}
+use Rattle.stops.specs.declared.Place.{Place}
+use Rattle.stops.specs.declared.Place.the-variants.{End, Nowhere, Between}
+use Rattle.stops.proofs.Choice.{rising-numbers, place-first, place-last, place-nan, place-between}
+use Rattle.stops.proofs.Narrowing.{Bracket}
+use Rattle.stops.proofs.Quarters.{first-part, quarter, ends-two, ends-one}
+use Rattle.stops.proofs.Nearby.{near-pair, near-same}
+use Rattle.stops.proofs.Valid.{pair-inside}
 use Rattle.colorgrad.specs.Canvas.{stopColour}
 use Rattle.colorgrad.specs.Unchecked.{Span, Sought, Placed}
 

@@ -4,11 +4,11 @@ use mathlib.Core.List.{List}
 use Prim.Native.Nat.{ℕ}
 use lib.Dec.{ltb}
 use lib.Ieee.{Float}
+use Rattle.stops.specs.declared.Kind.{Kind}
+use Rattle.stops.specs.declared.Checked.{Checked}
+use Rattle.stops.specs.declared.Checked.the-variants as checked
 use Rattle.gradient.specs.Ramp.{checkOf, colourOf}
 use Rattle.gradient.specs.Answers.{onFine}
-use Rattle.gradient.specs.declared.Kind.{Kind}
-use Rattle.gradient.specs.declared.Checked.{Checked}
-use Rattle.gradient.specs.declared.Checked.the-variants as checked
 use Rattle.colorgrad.specs.declared.Answer.{Answer}
 use Rattle.colorgrad.specs.declared.Answer.the-variants as answer
 use Rattle.colorgrad.specs.declared.Painted.{Painted}

@@ -6,12 +6,12 @@ use lib.Dec.{ltb}
 use lib.ListN.{length, drop, replicate}
 use lib.Ieee.{Float}
 use Rattle.float.specs.F32.{f0}
+use Rattle.blend.specs.declared.Rgba.{Rgba}
+use Rattle.stops.specs.Place.{placeOf}
+use Rattle.stops.specs.Pair.{colourIn}
+use Rattle.stops.specs.declared.Kind.{Kind}
 use Rattle.gradient.specs.Ramp.{checkOf, colourOf}
 use Rattle.gradient.specs.Answers.{onFine}
-use Rattle.gradient.specs.Place.{placeOf}
-use Rattle.gradient.specs.Pair.{colourIn}
-use Rattle.gradient.specs.declared.Rgba.{Rgba}
-use Rattle.gradient.specs.declared.Kind.{Kind}
 
 abbrev pub channelsOf : Rgba → List Float
 channelsOf c = c .r ∷ c .g ∷ c .b ∷ c .a ∷ []

@@ -4,13 +4,13 @@ use mathlib.Core.Path.{_≡_}
 use mathlib.Core.List.{List}
 use Prim.Native.Nat.{ℕ}
 use lib.Ieee.{Float}
+use Rattle.blend.specs.declared.Rgba.{Rgba}
+use Rattle.stops.specs.declared.Kind.{Kind}
 use Rattle.gradient.specs.Ramp.{colourOf}
-use Rattle.gradient.specs.declared.Rgba.{Rgba}
-use Rattle.gradient.specs.declared.Kind.{Kind}
 use Rattle.linearize.specs.Kept.{keptOf, listEvaluations}
 use Rattle.linearize.specs.Desk.{farOf, sampleRows, sampleCounts, freshList, flattenPositions, flattenChannels}
-use Rattle.linearize.specs.Edit.{changed}
-use Rattle.linearize.specs.RefreshDesk.{newColour, newList, refreshRows, refreshCounts, refreshPositions, refreshChannels}
+use Rattle.refresh.specs.Edit.{changed}
+use Rattle.refresh.specs.RefreshDesk.{newColour, newList, refreshRows, refreshCounts, refreshPositions, refreshChannels}
 
 module _ (kind : Kind) (ps cs : List Float) (ks : List ℕ) (k : ℕ) (colour : Rgba) (asked : Float) (rows : List Float) (counts : List ℕ) where
   -- the record of the old ramp

@@ -4,10 +4,10 @@ use mathlib.Core.List.{List}
 use Prim.Native.Nat.{ℕ, _*_, _≤_}
 use lib.ListN.{length}
 use lib.Ieee.{Float}
-use Rattle.gradient.specs.Place.{Rising}
+use Rattle.stops.specs.Place.{Rising}
+use Rattle.stops.specs.declared.Kind.{Kind}
 use Rattle.gradient.specs.Ramp.{checkOf}
 use Rattle.gradient.specs.Answers.{numberOfChecked}
-use Rattle.gradient.specs.declared.Kind.{Kind}
 use Rattle.colorgrad.specs.Answers.{numberOfAnswer, numberOfPainted, atAnswer, paintCheck, paintAnswer}
 use Rattle.colorgrad.specs.Canvas.{roomOf, canvas}
 use Rattle.colorgrad.specs.declared.Answer.{Answer}

@@ -1,14 +1,19 @@
 -- What is asked of slices that are read without a test: what the check of the ramp has made sure of.
 use mathlib.Core.Path.{_≡_}
-use mathlib.Core.Bool.{false}
-use mathlib.Core.List.{List}
-use Prim.Native.Nat.{ℕ, _-_, _*_, _≤_, _<_, _^_}
-use lib.ListN.{length}
-use lib.Ieee.{Float, le, isNan}
-use Rattle.gradient.specs.Stops.{posAt}
-use Rattle.gradient.specs.Place.{Rising, placeOf}
-use Rattle.gradient.specs.Gimp.{segments}
-use Rattle.gradient.specs.declared.Place.{Place}
+use mathlib.Core.Bool.{Bool, true, false}
+use mathlib.Core.List.{List, _++_}
+use Prim.Native.Nat.{ℕ, _+_, _-_, _*_, _≤_, _<_, _^_}
+use lib.Dec.{T}
+use lib.ListN.{length, take, drop, getD}
+use lib.Ieee.{Float, nan, le, lt, isNan}
+use Rattle.float.specs.F32.{f0, f1}
+use Rattle.blend.specs.declared.Rgba.{Rgba}
+use Rattle.stops.specs.Stops.{posAt, colourAt}
+use Rattle.stops.specs.Place.{Rising, placeOf}
+use Rattle.stops.specs.declared.Place.{Place}
+use Rattle.gradient.specs.Gimp.{segments, leftAt, middleAt, rightAt, blendingAt, along}
+use Rattle.colorgrad.specs.Canvas.{colours}
+use Rattle.colorgrad.specs.declared.segments.Held.{Held}
 
 -- the largest power of two below n
 pub record Span (n size : ℕ) : Type 0 where
@@ -37,3 +42,33 @@ pub record Cut (ps cs : List Float) (ks : List ℕ) : Type 0 where
   pub least : 1 ≤ segments ps
   pub channels : length cs ≡ 8 * segments ps
   pub codes : length ks ≡ 2 * segments ps
+
+-- ---- painting GIMP segments, while points lie in one
+
+-- positions that rise, and lie in the domain
+pub record Orderly (ps : List Float) : Type 0 where
+  pub rising : Rising ps
+  pub low : T (le f0 (posAt ps 0))
+  pub high : T (le (posAt ps (length ps - 1)) f1)
+
+unfoldable pub heldOf : List Float → List Float → List ℕ → ℕ → Held
+heldOf ps cs ks i = record {
+  left = leftAt ps i;
+  right = rightAt ps i;
+  middle = along (leftAt ps i) (rightAt ps i) (middleAt ps i);
+  blending = blendingAt ks i;
+  p = colourAt cs (2 * i);
+  q = colourAt cs (2 * i + 1);
+}
+
+-- point j where it comes before the end, and else another number
+pub record Peeked (ts : List Float) (j end : ℕ) (other t : Float) : Type 0 where
+  pub here : j < end → t ≡ getD ts j nan
+  pub past : end ≤ j → t ≡ other
+
+-- from point i up to j the colours are written: an output that had the first i of them now has the first j
+pub record Written (g : Float → Rgba) (ts : List Float) (i j : ℕ) (out out′ : List Float) : Type 0 where
+  pub on : i < j
+  pub within : j ≤ length ts
+  pub sized : length out′ ≡ length out
+  pub is : (o : List Float) → 4 * length ts ≤ length o → out ≡ colours g (take i ts) ++ drop (4 * i) o → out′ ≡ colours g (take j ts) ++ drop (4 * j) o

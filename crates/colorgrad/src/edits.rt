@@ -1,11 +1,10 @@
 // What an editor's change of one colour does to a record and its list. By the theorem `refreshed-is-fresh`
 // (proofs/Refreshing) both come out as if they had been made afresh from the changed ramp.
-use gradient::Kind;
-use gradient::Rgba;
+use blend::Rgba;
 use linearize::Listed;
-use linearize::refreshing;
-use linearize::refreshing::Refreshed;
-ghost use Rattle.linearize.specs.RefreshDesk.{Refreshes, RefreshLists};
+use refresh::Refreshed;
+use stops::Kind;
+ghost use Rattle.refresh.specs.RefreshDesk.{Refreshes, RefreshLists};
 
 // Refreshes the lent record of the lent ramp, as it was, after stop k is given a colour. A refusal leaves the record
 // as it was.
@@ -22,7 +21,7 @@ pub fn refresh(
 ) -> Refreshed
     ensures { λ r. ⌜ Refreshes kind (now (positions .entry)) (now (channels .entry)) (now (codes .entry)) k colour threshold (now (rows .entry)) (now (counts .entry)) (now (rows .exit)) (now (counts .exit)) r ⌝ }
 {
-    refreshing::refresh(
+    refresh::refresh(
         kind,
         positions,
         channels,
@@ -52,7 +51,7 @@ pub fn refresh_list(
 ) -> Listed
     ensures { λ r. ⌜ RefreshLists kind (now (positions .entry)) (now (channels .entry)) (now (codes .entry)) k colour threshold (now (rows .entry)) (now (counts .entry)) (now (rows .exit)) (now (counts .exit)) (now («out_positions» .entry)) (now («out_positions» .exit)) (now («out_channels» .entry)) (now («out_channels» .exit)) r ⌝ }
 {
-    refreshing::refresh_list(
+    refresh::refresh_list(
         kind,
         positions,
         channels,

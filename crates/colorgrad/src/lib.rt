@@ -1,17 +1,17 @@
 // The public face: a ramp lent as slices, checked and then used. Every call answers for any slices at all.
-use gradient::Checked;
-use gradient::Kind;
-use gradient::Rgba;
-use gradient::near;
+use blend::Rgba;
+use stops::Checked;
+use stops::Kind;
+use stops::near;
 ghost use mathlib.Core.Path.{_≡_};
 ghost use Prim.Native.Nat.{_+_, _*_, _≤_};
 ghost use lib.ListN.{length, replicate};
 ghost use lib.Seq.{sets};
 ghost use Rattle.float.specs.F32.{f0};
+ghost use Rattle.stops.specs.Near.{segmentFor};
+ghost use Rattle.stops.specs.declared.Checked.the-variants.{Fine};
 ghost use Rattle.gradient.specs.Gimp.{gimpColour};
-ghost use Rattle.gradient.specs.Near.{segmentFor};
 ghost use Rattle.gradient.specs.Ramp.{checkOf, colourOf};
-ghost use Rattle.gradient.specs.declared.Checked.the-variants.{Fine};
 ghost use Rattle.colorgrad.specs.Canvas.{channelsOf, paintedOver, stopColour};
 ghost use Rattle.colorgrad.specs.Promises.{Ready, AtIs, PaintIs};
 ghost use Rattle.colorgrad.specs.Unchecked.{Cut};
@@ -54,7 +54,7 @@ fn clear(out: &mut [f32])
     }
 }
 
-fn put(out: &mut [f32], at: usize, c: Rgba)
+pub(crate) fn put(out: &mut [f32], at: usize, c: Rgba)
     requires { ⌜ at + 4 ≤ length (now out) ⌝ }
     ensures { λ _. ⌜ now (out .exit) ≡ sets (now (out .entry)) at (channelsOf c) ⌝ }
 {
@@ -64,20 +64,15 @@ fn put(out: &mut [f32], at: usize, c: Rgba)
     out[at + 3] = c.a;
 }
 
-// GIMP segments at ts. Where they are many and orderly, the segment of the last point is tried before the search.
+// GIMP segments at ts: a segment is held while the points lie in it.
 fn paint_gimp(positions: &[f32], channels: &[f32], codes: &[u8], ts: &[f32], out: &mut [f32])
     requires { ⌜ Cut (now positions) (now channels) (now codes) × (4 * length (now ts) ≤ length (now out)) ⌝ }
     ensures { λ _. ⌜ now (out .exit) ≡ paintedOver (gimpColour (now (positions .entry)) (now (channels .entry)) (now (codes .entry))) (now (ts .entry)) (now (out .entry)) ⌝ }
 {
     let orderly = segments::is_orderly(positions);
-    let mut s = 0;
     let mut i = 0;
     while i < ts.len() {
-        let t = ts[i];
-        s = segments::find_segment(positions, t, orderly, s);
-        let c = segments::colour_in(positions, channels, codes, s, t);
-        put(out, 4 * i, c);
-        i += 1;
+        i = segments::paint_on(positions, channels, codes, ts, out, orderly, i);
     }
 }
 

@@ -1,7 +1,7 @@
 // The list that goes to press and heater: a ramp sampled into a lent record, and the record thinned to lent stops.
-use gradient::Kind;
 use linearize::Listed;
 use linearize::Sampled;
+use stops::Kind;
 ghost use Rattle.linearize.specs.Promises.{Samples, Thins, Flattens};
 
 // Samples a ramp into the lent record. A refusal leaves the record as it was.

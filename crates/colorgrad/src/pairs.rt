@@ -1,19 +1,18 @@
 // Stops that passed the check, read without the tests that it made: the place of t, and the colour there.
-use gradient::Kind;
-use gradient::Place;
-use gradient::Rgba;
-use gradient::Stop;
-use gradient::linear;
-use gradient::near;
-use gradient::sharp;
-use gradient::smoothstep;
-use gradient::stops;
+use blend::Rgba;
+use blend::Stop;
+use blend::linear;
+use blend::sharp;
+use blend::smoothstep;
+use stops::Kind;
+use stops::Place;
+use stops::near;
 ghost use mathlib.Core.Path.{_≡_};
 ghost use Prim.Native.Nat.{_*_, _≤_, _<_};
 ghost use lib.ListN.{length};
-ghost use Rattle.gradient.specs.Stops.{stopAt};
-ghost use Rattle.gradient.specs.Place.{Rising, firstAt, placeOf};
-ghost use Rattle.gradient.specs.Pair.{between};
+ghost use Rattle.stops.specs.Stops.{stopAt};
+ghost use Rattle.stops.specs.Place.{Rising, firstAt, placeOf};
+ghost use Rattle.stops.specs.Pair.{between};
 ghost use Rattle.colorgrad.specs.Canvas.{stopColour};
 ghost use Rattle.colorgrad.specs.Unchecked.{Span, Sought, Placed};
 

@@ -1,18 +1,18 @@
--- The promises of `linearize` for a kind given by its code: of a kind, of no kind, and of the answer shown. Assumes nothing.
+-- The promises of `linearize` and `refresh` for a kind given by its code: of a kind, of no kind, and of the answer shown. Assumes nothing.
 use mathlib.Core.Path.{_≡_, refl, sym, subst}
 use mathlib.Core.List.{List}
 use Prim.Native.Nat.{ℕ}
 use lib.Ieee.{Float}
-use Rattle.gradient.specs.declared.Rgba.{Rgba}
-use Rattle.gradient.specs.declared.Kind.{Kind}
+use Rattle.blend.specs.declared.Rgba.{Rgba}
+use Rattle.stops.specs.declared.Kind.{Kind}
 use Rattle.linearize.specs.Promises.{Samples, Thins, Flattens}
-use Rattle.linearize.specs.RefreshDesk.{Refreshes, RefreshLists}
+use Rattle.refresh.specs.RefreshDesk.{Refreshes, RefreshLists}
 use Rattle.linearize.specs.declared.Sampled.{Sampled}
 use Rattle.linearize.specs.declared.Sampled.the-variants as sampled
 use Rattle.linearize.specs.declared.Listed.{Listed}
 use Rattle.linearize.specs.declared.Listed.the-variants as listed
-use Rattle.linearize.specs.declared.refreshing.Refreshed.{Refreshed}
-use Rattle.linearize.specs.declared.refreshing.Refreshed.the-variants as refreshed
+use Rattle.refresh.specs.declared.Refreshed.{Refreshed}
+use Rattle.refresh.specs.declared.Refreshed.the-variants as refreshed
 use Rattle.colorgrad_c.specs.Kinds.{onCode}
 use Rattle.colorgrad_c.specs.Lists.{Shows, sampledShown, listedShown, CodedSamples, CodedThins, CodedFlattens}
 use Rattle.colorgrad_c.specs.Edits.{refreshedShown, CodedRefreshes, CodedRefreshLists}

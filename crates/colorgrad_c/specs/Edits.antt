@@ -3,11 +3,11 @@ use Prim.Native.Nat.{ℕ}
 use mathlib.Core.Path.{_≡_}
 use mathlib.Core.List.{List}
 use lib.Ieee.{Float}
-use Rattle.gradient.specs.declared.Rgba.{Rgba}
-use Rattle.gradient.specs.declared.Kind.{Kind}
-use Rattle.linearize.specs.RefreshDesk.{Refreshes, RefreshLists}
-use Rattle.linearize.specs.declared.refreshing.Refreshed.{Refreshed}
-use Rattle.linearize.specs.declared.refreshing.Refreshed.the-variants as refreshed
+use Rattle.blend.specs.declared.Rgba.{Rgba}
+use Rattle.stops.specs.declared.Kind.{Kind}
+use Rattle.refresh.specs.RefreshDesk.{Refreshes, RefreshLists}
+use Rattle.refresh.specs.declared.Refreshed.{Refreshed}
+use Rattle.refresh.specs.declared.Refreshed.the-variants as refreshed
 use Rattle.linearize.specs.declared.Listed.{Listed}
 use Rattle.linearize.specs.declared.Listed.the-variants as listed
 use Rattle.colorgrad_c.specs.Kinds.{onCode}
@@ -18,7 +18,7 @@ abbrev pub refreshedShown : Refreshed → SampleMade
 refreshedShown (refreshed.Done n) = record { refusal = 0; evaluations = n }
 refreshedShown (refreshed.Refused n) = record { refusal = n; evaluations = 0 }
 
--- the promises of `linearize`; a code that names no kind is 1 and changes nothing
+-- the promises of `refresh`; a code that names no kind is 1 and changes nothing
 pub record CodedRefreshes (code : Coded) (ps cs : List Float) (ks : List ℕ) (k : ℕ) (colour : Rgba) (asked : Float) (rows : List Float) (counts : List ℕ) (rows′ : List Float) (counts′ : List ℕ) (r : Refreshed) : Type 0 where
   pub is :
       onCode code (λ (kind : Kind). Refreshes kind ps cs ks k colour asked rows counts rows′ counts′ r)

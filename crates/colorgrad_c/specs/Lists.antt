@@ -3,7 +3,7 @@ use Prim.Native.Nat.{ℕ}
 use mathlib.Core.Path.{_≡_}
 use mathlib.Core.List.{List}
 use lib.Ieee.{Float}
-use Rattle.gradient.specs.declared.Kind.{Kind}
+use Rattle.stops.specs.declared.Kind.{Kind}
 use Rattle.linearize.specs.Promises.{Samples, Thins, Flattens}
 use Rattle.linearize.specs.declared.Sampled.{Sampled}
 use Rattle.linearize.specs.declared.Sampled.the-variants as sampled

@@ -4,10 +4,9 @@ use crate::kinds::Coded;
 use crate::lists;
 use crate::lists::ListMade;
 use crate::lists::SampleMade;
-use gradient::Rgba;
+use blend::Rgba;
 use linearize::Listed;
-use linearize::refreshing;
-use linearize::refreshing::Refreshed;
+use refresh::Refreshed;
 ghost use mathlib.Core.Path.{_≡_};
 ghost use Rattle.colorgrad_c.specs.Kinds.{kindOf};
 ghost use Rattle.colorgrad_c.specs.Lists.{Shows, listedShown};
@@ -45,7 +44,7 @@ fn coded_refresh(
 {
     match coded {
         Coded::Of(kind) => {
-            refreshing::refresh(
+            refresh::refresh(
                 kind,
                 positions,
                 channels,
@@ -105,7 +104,7 @@ fn coded_refresh_list(
 {
     match coded {
         Coded::Of(kind) => {
-            refreshing::refresh_list(
+            refresh::refresh_list(
                 kind,
                 positions,
                 channels,

@@ -1,6 +1,6 @@
 // GIMP texts: their segments, and their name.
+use blend::Rgba;
 use ggr::Answer;
-use gradient::Rgba;
 ghost use mathlib.Core.Path.{_≡_};
 ghost use lib.ListN.{length};
 ghost use Rattle.ggr.specs.File.{fileOf, roomOf, nameOf};

@@ -1,5 +1,5 @@
 // The kinds of ramp by their codes.
-use gradient::Kind;
+use stops::Kind;
 ghost use mathlib.Core.Path.{_≡_};
 ghost use Rattle.colorgrad_c.specs.Kinds.{kindOf};
 

@@ -1,11 +1,11 @@
 // A ramp's check, its domain, its colour at t, its colours at many points, and a sharp ramp built.
 use crate::kinds;
 use crate::kinds::Coded;
+use blend::Rgba;
 use colorgrad::Answer;
 use colorgrad::Painted;
-use gradient::Checked;
-use gradient::Rgba;
 use gradient::sharp::Built;
+use stops::Checked;
 ghost use mathlib.Core.Path.{_≡_};
 ghost use lib.ListN.{length};
 ghost use Rattle.gradient.specs.Sharp.{buildOf, after, bands, sharpPositions, sharpChannels};

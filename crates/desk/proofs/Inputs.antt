@@ -5,14 +5,14 @@ use mathlib.Core.Path.{_≡_, refl, sym, ap, ap₂, _∙_}
 use mathlib.Core.Bool.{Bool, true, false, cond, _&&_}
 use mathlib.Core.List.{List, [], _∷_, _++_, append-assoc, append-nil}
 use lib.ListN.{length, take, drop, set, length-append, length-drop, length-set, drop-of-length-le}
-use lib.Seq.{sets, length-sets, set-out}
+use lib.Seq.{sets, length-sets}
 use lib.Dec.{eqb}
 use lib.Ieee.{Float}
 use borrow.Author.Tests.{le-leb, lt-leb}
 use types.Run.{OneOf, miss}
 use denote.Enum.Declared.{tagOf}
-use Rattle.gradient.specs.declared.Stop.{Stop}
-use Rattle.gradient.specs.declared.Kind.{Kind}
+use Rattle.blend.specs.declared.Stop.{Stop}
+use Rattle.stops.specs.declared.Kind.{Kind}
 use Rattle.ggr.specs.Text.{lines, atLf, onFirst, firstOf, restOf}
 use Rattle.ggr.specs.Steps.{LineAt}
 use Rattle.linearize.specs.Constants.{defaultThreshold}
@@ -152,18 +152,6 @@ pub length-channels : (xs : List Stop) → length (channelsIn xs) ≡ 4 * length
 unfolding channelsIn
 length-channels [] = refl
 length-channels (x ∷ xs) = let h = length-channels xs in omega arith
-
--- four stores in a row, and stores past the end
-pub sets-four : (l : List Float) (i : ℕ) (x y z w : Float) → set (set (set (set l i x) (i + 1) y) (i + 2) z) (i + 3) w ≡ sets l i (x ∷ y ∷ z ∷ w ∷ [])
-sets-four l i x y z w =
-    let a : i + 1 ≡ suc i = omega arith in
-    let b : i + 2 ≡ suc (suc i) = omega arith in
-    let c : i + 3 ≡ suc (suc (suc i)) = omega arith in
-    rw (a, b, c)
-
-pub sets-out : (l : List Float) (i : ℕ) (vs : List Float) → length l ≤ i → sets l i vs ≡ l
-sets-out l i [] h = refl
-sets-out l i (v ∷ vs) h = ap (λ (k : List Float). sets k (suc i) vs) (set-out l i v h) ∙ sets-out l (suc i) vs (omega arith)
 
 -- one more stop
 store-position : (ps ps′ ps″ : List Float) (xs : List Stop) (x : Stop) (n : ℕ) → length xs ≡ n → ps′ ≡ sets ps 0 (positionsIn xs) → ps″ ≡ set ps′ n (x .position) → ps″ ≡ sets ps 0 (positionsIn (xs ++ x ∷ []))

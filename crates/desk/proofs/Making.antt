@@ -10,13 +10,13 @@ use lib.Dec.{leb, ltb, eqb}
 use lib.Ieee.{Float}
 use borrow.Author.Tests.{ne-eqb, le-leb, lt-leb, lt-ltb, le-ltb, ltb-false}
 use Rattle.float.specs.F32.{f0}
-use Rattle.gradient.specs.Stops.{mostStops, shaped, stopsCheck, stopAt}
+use Rattle.blend.specs.declared.Rgba.{Rgba}
+use Rattle.stops.specs.Stops.{mostStops, shaped, stopsCheck, stopAt}
+use Rattle.stops.specs.declared.Kind.{Kind}
+use Rattle.stops.specs.declared.Checked.{Checked}
+use Rattle.stops.specs.declared.Checked.the-variants as checked
 use Rattle.gradient.specs.Gimp.{mostSegments, segments, gimpShaped, gimpCheck}
-use Rattle.gradient.specs.Ramp.{isGimp, checkOf, minOf, maxOf, colourOf}
-use Rattle.gradient.specs.declared.Rgba.{Rgba}
-use Rattle.gradient.specs.declared.Kind.{Kind}
-use Rattle.gradient.specs.declared.Checked.{Checked}
-use Rattle.gradient.specs.declared.Checked.the-variants as checked
+use Rattle.gradient.specs.Ramp.{isGimp, checkOf, maxOf, colourOf}
 use Rattle.linearize.specs.Constants.{cells, recordLength}
 use Rattle.linearize.specs.Midpoints.{Gradient, Far}
 use Rattle.linearize.specs.Places.{listOf}
@@ -24,20 +24,18 @@ use Rattle.linearize.specs.Kept.{channelsOf, keptOf, refusalOf, roomOf, colours
 use Rattle.gradient.specs.Answers.{onFine}
 use Rattle.linearize.specs.Desk.{farOf, answerBy, withSampling, stopsOfListed, evaluationsOfSampled, sampleCheck, thinCheck, sampleAnswer, thinPositions, thinChannels, freshList, flattenEvaluations, flattenPositions, flattenChannels}
 use Rattle.linearize.specs.Promises.{Samples, Thins, Flattens}
-use Rattle.linearize.specs.Anew.{anewTries, anewEvaluations}
-use Rattle.linearize.specs.Edit.{changed}
-use Rattle.linearize.specs.RefreshDesk.{evaluationsOfRefreshed, refreshCheck, refreshAnswer, refreshEvaluations, newColour, away, newEvaluations, Refreshes}
+use Rattle.refresh.specs.Edit.{changed}
+use Rattle.refresh.specs.RefreshDesk.{evaluationsOfRefreshed, Refreshes}
 use Rattle.linearize.specs.declared.Listed.{Listed}
 use Rattle.linearize.specs.declared.Listed.the-variants as listed
 use Rattle.linearize.specs.declared.Sampled.{Sampled}
 use Rattle.linearize.specs.declared.Sampled.the-variants as sampled
-use Rattle.linearize.specs.declared.refreshing.Refreshed.{Refreshed}
-use Rattle.linearize.specs.declared.refreshing.Refreshed.the-variants as refreshed
+use Rattle.refresh.specs.declared.Refreshed.{Refreshed}
+use Rattle.refresh.specs.declared.Refreshed.the-variants as refreshed
 use Rattle.linearize.proofs.Stores.{fill-next, sets-all}
-use Rattle.linearize.proofs.Bounds.{summed-most}
-use Rattle.linearize.proofs.Renewing.{anew-tries-most}
 use Rattle.linearize.proofs.Calls.{kept-room, sample-most, thin-room, flatten-room}
-use Rattle.linearize.proofs.EditChecks.{edited, channels-there}
+use Rattle.refresh.proofs.EditChecks.{edited, channels-there}
+use Rattle.refresh.proofs.RefreshAnswers.{refresh-most, done-fine}
 use Rattle.desk.specs.Input.{unread, positionsIn, channelsIn, inputOf}
 use Rattle.desk.specs.Printed.{countText, stopText, rowsText, unreadText, refusedText, stopsWord, evaluationsWord, listText, Puts}
 use Rattle.desk.specs.Steps.{keptStops, Room, Ready, Told, Reads}
@@ -166,14 +164,6 @@ pub changed-of : (cs : List Float) {cs′ : List Float} (k : ℕ) (c : Rgba) →
 unfolding changed
 changed-of cs k c e = e
 
-fine-most : (check : Checked) (n most : ℕ) → n ≤ most → onFine check n (λ k. 0) ≤ most
-fine-most checked.Fine n most h = h
-fine-most (checked.Refused k) n most h = omega arith
-
-fine-of : (check : Checked) (m n : ℕ) → onFine check (refreshed.Done m) refreshed.Refused ≡ refreshed.Done n → check ≡ checked.Fine
-fine-of checked.Fine m n h = refl
-fine-of (checked.Refused k) m n h = absurd (let z : _≡_ {A = ℕ} 0 1 = cc in omega arith)
-
 module _ {kind : Kind} {ps cs : List Float} {ks : List ℕ} {asked : Float} (e : Edit) {rows rows′ : List Float} {counts counts′ : List ℕ} {r : Refreshed} (v : Refreshes kind ps cs ks (e .index) (e .colour) asked rows counts rows′ counts′ r) where
   pub refresh-no : (spent : ℕ) {number : ℕ} → r ≡ refreshed.Refused number → refusedText number ≡ refreshText kind ps cs ks asked e rows counts spent
   unfolding refreshText
@@ -181,19 +171,12 @@ module _ {kind : Kind} {ps cs : List Float} {ks : List ℕ} {asked : Float} (e :
 
   module _ {n : ℕ} (i : r ≡ refreshed.Done n) where
     pub refresh-there : 4 * e .index + 4 ≤ length cs
-    unfolding refreshAnswer
-    refresh-there = channels-there kind ps cs ks (e .index) (e .colour) (edited kind ps cs ks (e .index) (e .colour) rows counts (fine-of (refreshCheck kind ps cs ks (e .index) (e .colour) rows counts) (newEvaluations kind ps cs ks (e .index) (e .colour) asked) n (sym (v .answer) ∙ i))) .0
+    refresh-there =
+        channels-there kind ps cs ks (e .index) (e .colour)
+        (edited kind ps cs ks (e .index) (e .colour) rows counts (done-fine kind ps cs ks (e .index) (e .colour) asked rows rows′ counts counts′ r v n i)) .0
 
-    pub refresh-most : n ≤ 13716
-    unfolding refreshEvaluations newEvaluations anewEvaluations
-    refresh-most =
-        omega (
-          arith,
-          ap evaluationsOfRefreshed i,
-          v .evaluations,
-          fine-most (refreshCheck kind ps cs ks (e .index) (e .colour) rows counts) (newEvaluations kind ps cs ks (e .index) (e .colour) asked) 13716
-              (omega (arith, summed-most (anewTries (newColour kind ps cs ks (e .index) (e .colour)) (farOf asked) (away kind ps cs ks (e .index) (e .colour)) (minOf kind ps) (maxOf kind ps)) cells (anew-tries-most (newColour kind ps cs ks (e .index) (e .colour)) (farOf asked) (away kind ps cs ks (e .index) (e .colour)) (minOf kind ps) (maxOf kind ps)))),
-        )
+    pub refresh-few : n ≤ 13716
+    refresh-few = omega (arith, ap evaluationsOfRefreshed i, refresh-most kind ps cs ks (e .index) (e .colour) asked rows rows′ counts counts′ r v)
 
     pub refresh-yes : (spent : ℕ) {cs′ : List Float} → cs′ ≡ changed cs (e .index) (e .colour) → thinText kind ps cs′ ks asked rows′ counts′ (spent + n) ≡ refreshText kind ps cs ks asked e rows counts spent
     unfolding refreshText

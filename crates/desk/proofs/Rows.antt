@@ -15,7 +15,7 @@ use Rattle.float.proofs.Flags.{both-r}
 use Rattle.decimal.specs.declared.Token.{Token}
 use Rattle.decimal.specs.declared.Token.the-variants.{Number, NoNumber}
 use Rattle.decimal.specs.Decimal.{readOf}
-use Rattle.gradient.specs.declared.Kind.the-variants.{Linear, Smoothstep}
+use Rattle.stops.specs.declared.Kind.the-variants.{Linear, Smoothstep}
 use Rattle.ggr.specs.Text.{onFirst, firstOf, restOf, same, starts, countOf}
 use Rattle.ggr.specs.declared.text.Count.{Count}
 use Rattle.ggr.specs.declared.text.Count.the-variants.{Bad, Is}

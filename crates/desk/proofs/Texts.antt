@@ -11,9 +11,9 @@ use lib.Seq.{sets, length-sets, set-out, length-take-le, take-suc, take-length, 
 use lib.Dec.{ltb}
 use borrow.Author.Tests.{lt-ltb, le-ltb}
 use lib.Ieee.{Float, binary32, toBits}
-use Rattle.gradient.specs.Stops.{stopAt}
-use Rattle.gradient.specs.declared.Rgba.{Rgba}
-use Rattle.gradient.specs.declared.Stop.{Stop}
+use Rattle.blend.specs.declared.Rgba.{Rgba}
+use Rattle.blend.specs.declared.Stop.{Stop}
+use Rattle.stops.specs.Stops.{stopAt}
 use Rattle.linearize.proofs.Stores.{sets-append}
 use Rattle.desk.specs.Printed.{decimalOf, hexDigit, hexOf, fieldText, colourText, stopText, rowsText, Puts}
 

@@ -5,9 +5,9 @@ use mathlib.Core.List.{List, [], _∷_}
 use lib.ListN.{length, drop, getD}
 use lib.Dec.{leb, eqb}
 use lib.Ieee.{Float, nan}
-use Rattle.gradient.specs.declared.Rgba.{Rgba}
-use Rattle.gradient.specs.declared.Stop.{Stop}
-use Rattle.gradient.specs.declared.Kind.the-variants.{Linear, Smoothstep}
+use Rattle.blend.specs.declared.Rgba.{Rgba}
+use Rattle.blend.specs.declared.Stop.{Stop}
+use Rattle.stops.specs.declared.Kind.the-variants.{Linear, Smoothstep}
 use Rattle.ggr.specs.Text.{onFirst, same, starts, countOf}
 use Rattle.ggr.specs.Segment.{Numbers, all, none, numbers}
 use Rattle.ggr.specs.declared.text.Count.{Count}

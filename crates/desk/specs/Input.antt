@@ -5,8 +5,8 @@ use mathlib.Core.List.{List, [], _∷_, _++_}
 use lib.ListN.{length}
 use lib.Dec.{leb}
 use lib.Ieee.{Float}
-use Rattle.gradient.specs.declared.Stop.{Stop}
-use Rattle.gradient.specs.declared.Kind.{Kind}
+use Rattle.blend.specs.declared.Stop.{Stop}
+use Rattle.stops.specs.declared.Kind.{Kind}
 use Rattle.ggr.specs.Text.{lines}
 use Rattle.linearize.specs.Constants.{defaultThreshold}
 use Rattle.linearize.specs.Kept.{channelsOf}

@@ -7,9 +7,9 @@ use lib.ListN.{length, drop}
 use lib.Seq.{sets}
 use lib.Dec.{ltb}
 use lib.Ieee.{Float, binary32, toBits}
-use Rattle.gradient.specs.Stops.{stopAt}
-use Rattle.gradient.specs.declared.Rgba.{Rgba}
-use Rattle.gradient.specs.declared.Stop.{Stop}
+use Rattle.blend.specs.declared.Rgba.{Rgba}
+use Rattle.blend.specs.declared.Stop.{Stop}
+use Rattle.stops.specs.Stops.{stopAt}
 
 -- ---- numbers
 

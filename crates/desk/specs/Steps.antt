@@ -7,8 +7,8 @@ use lib.ListN.{length, take, drop}
 use lib.Seq.{sets}
 use lib.Dec.{eqb}
 use lib.Ieee.{Float}
-use Rattle.gradient.specs.declared.Stop.{Stop}
-use Rattle.gradient.specs.declared.Kind.{Kind}
+use Rattle.blend.specs.declared.Stop.{Stop}
+use Rattle.stops.specs.declared.Kind.{Kind}
 use Rattle.ggr.specs.Text.{lines, firstOf, restOf}
 use Rattle.ggr.specs.Segment.{numbers}
 use Rattle.desk.specs.Entries.{fields, exactly, entryOf}

@@ -7,20 +7,20 @@ use lib.ListN.{length, drop, replicate}
 use lib.Dec.{ltb}
 use lib.Ieee.{Float}
 use Rattle.float.specs.F32.{f0}
+use Rattle.stops.specs.declared.Kind.{Kind}
 use Rattle.gradient.specs.Ramp.{maxOf, colourOf}
-use Rattle.gradient.specs.declared.Kind.{Kind}
 use Rattle.linearize.specs.Constants.{cells, recordLength}
 use Rattle.linearize.specs.Places.{listOf}
 use Rattle.linearize.specs.Kept.{keptOf, refusalOf, coloursOf, listEvaluations}
 use Rattle.linearize.specs.Desk.{farOf, answerBy, sampleCheck, thinCheck, sampleAnswer, sampleRows, sampleCounts, freshList, flattenEvaluations}
-use Rattle.linearize.specs.Edit.{changed}
-use Rattle.linearize.specs.RefreshDesk.{refreshAnswer, refreshRows, refreshCounts}
+use Rattle.refresh.specs.Edit.{changed}
+use Rattle.refresh.specs.RefreshDesk.{refreshAnswer, refreshRows, refreshCounts}
 use Rattle.linearize.specs.declared.Listed.{Listed}
 use Rattle.linearize.specs.declared.Listed.the-variants as listed
 use Rattle.linearize.specs.declared.Sampled.{Sampled}
 use Rattle.linearize.specs.declared.Sampled.the-variants as sampled
-use Rattle.linearize.specs.declared.refreshing.Refreshed.{Refreshed}
-use Rattle.linearize.specs.declared.refreshing.Refreshed.the-variants as refreshed
+use Rattle.refresh.specs.declared.Refreshed.{Refreshed}
+use Rattle.refresh.specs.declared.Refreshed.the-variants as refreshed
 use Rattle.desk.specs.Input.{Input, unread, input, positionsIn, channelsIn, inputOf}
 use Rattle.desk.specs.Printed.{unreadText, refusedText, listText}
 use Rattle.desk.specs.declared.fields.Edit.{Edit}

@@ -1,18 +1,16 @@
 // The calls that make a list, and what is printed of it.
 use crate::fields::Edit;
 use crate::reading::Edited;
-use crate::reading::put_colour;
 use crate::writing::put_list;
 use crate::writing::put_refused;
-use gradient::Kind;
 use linearize::Listed;
 use linearize::Sampled;
 use linearize::Sampler;
-use linearize::refreshing::Refreshed;
+use linearize::thinning::put_colour;
+use refresh::Refreshed;
+use stops::Kind;
 ghost use mathlib.Core.Path.{_≡_};
 ghost use Prim.Native.Nat.{_≤_};
-ghost use lib.ListN.{length};
-ghost use Rattle.linearize.specs.Constants.{cells, recordLength};
 ghost use Rattle.linearize.specs.Desk.{evaluationsOfListed, stopsOfListed, withSampling};
 ghost use Rattle.desk.specs.Printed.{Puts};
 ghost use Rattle.desk.specs.Tool.{room, listedText, freshText, thinText, refreshText, editText, rampText};
@@ -131,7 +129,7 @@ fn put_refreshed(
 {
     let k = edit.index;
     let colour = edit.colour;
-    match linearize::refreshing::refresh(
+    match refresh::refresh(
         kind,
         positions,
         channels,

@@ -1,12 +1,12 @@
 // A line of the input: its fields, parted by single tabs, and what it says.
+use blend::Rgba;
+use blend::Stop;
 use decimal::Token;
 use ggr::text::Count;
 use ggr::text::count_of;
 use ggr::text::is_same;
 use ggr::text::starts_with;
-use gradient::Kind;
-use gradient::Rgba;
-use gradient::Stop;
+use stops::Kind;
 ghost use mathlib.Core.Path.{_≡_};
 ghost use Prim.Native.Nat.{_+_, _≤_};
 ghost use lib.ListN.{length, drop};

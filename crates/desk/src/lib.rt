@@ -1,8 +1,8 @@
 // The tool: from the bytes of its input to the bytes that it prints.
 use calls::put_ramp;
-use gradient::stops::MOST_STOPS;
 use reading::Asked;
 use reading::read;
+use stops::MOST_STOPS;
 use writing::put_refused;
 use writing::put_unread;
 ghost use mathlib.Core.Path.{_≡_};

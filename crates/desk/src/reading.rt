@@ -2,12 +2,12 @@
 use crate::fields::Edit;
 use crate::fields::Entry;
 use crate::fields::entry_of;
+use blend::Stop;
 use ggr::text::line_at;
-use gradient::Kind;
-use gradient::Rgba;
-use gradient::Stop;
-use gradient::stops::MOST_STOPS;
 use linearize::Sampler;
+use linearize::thinning::put_colour;
+use stops::Kind;
+use stops::MOST_STOPS;
 ghost use mathlib.Core.Path.{_≡_};
 ghost use Prim.Native.Nat.{_+_, _*_, _≤_};
 ghost use lib.ListN.{length, set};
@@ -86,16 +86,6 @@ fn start_at(s: &[u8], at: usize) -> Start
         at: step.next,
         line: 3,
     }
-}
-
-pub(crate) fn put_colour(channels: &mut [f32], at: usize, c: Rgba)
-    requires { ⌜ at + 4 ≤ length (now channels) ⌝ }
-    ensures { λ _. ⌜ now (channels .exit) ≡ sets (now (channels .entry)) at (channelsOf c) ⌝ }
-{
-    channels[at] = c.r;
-    channels[at + 1] = c.g;
-    channels[at + 2] = c.b;
-    channels[at + 3] = c.a;
 }
 
 // A ramp that is used has no more than the most stops: one beyond is read, and not kept.

@@ -1,6 +1,6 @@
 // What is printed. A byte past the end of the output is dropped, so that a text too long for it is measured all the same.
-use gradient::Rgba;
-use gradient::Stop;
+use blend::Rgba;
+use blend::Stop;
 ghost use mathlib.Core.Path.{_≡_};
 ghost use mathlib.Core.List.{[], _∷_};
 ghost use Prim.Native.Nat.{_+_, _*_, _<_, _≤_};
@@ -116,7 +116,7 @@ fn put_rows(out: &mut [u8], at: usize, n: usize, positions: &[f32], channels: &[
     let mut next = at;
     let mut i = 0;
     while i < n {
-        next = put_stop(out, next, gradient::stops::stop(positions, channels, i));
+        next = put_stop(out, next, stops::stop(positions, channels, i));
         i += 1;
     }
     next

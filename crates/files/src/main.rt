@@ -3,8 +3,8 @@
 // byte-order mark. Then come files that are full, long or torn.
 ghost use Prim.Native.Nat.{_≤_};
 ghost use lib.ListN.{length};
+use blend::Rgba;
 use ggr::Answer;
-use gradient::Rgba;
 use libc::STDIN_FILENO;
 use libc::STDOUT_FILENO;
 

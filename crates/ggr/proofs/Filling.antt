@@ -9,7 +9,7 @@ use lib.ListN.{length, take, drop, length-append}
 use lib.Seq.{sets, sets-eq, take-at, drop-append-add, drop-drop, length-sets}
 use lib.Ieee.{Float}
 use Rattle.float.specs.F32.{f0}
-use Rattle.gradient.specs.declared.Rgba.{Rgba}
+use Rattle.blend.specs.declared.Rgba.{Rgba}
 use Rattle.ggr.specs.declared.segment.Segment.{Segment}
 use Rattle.ggr.specs.declared.segment.SegmentRead.{SegmentRead}
 use Rattle.ggr.specs.declared.segment.SegmentRead.the-variants.{Valid, Invalid, NotCarried}

@@ -6,7 +6,7 @@ use mathlib.Core.Bool.{Bool, true, false, cond}
 use mathlib.Core.List.{List, [], _∷_}
 use lib.ListN.{length, take, drop, drop-of-length-le, length-drop}
 use borrow.Author.Tests.{le-leb, lt-leb}
-use Rattle.gradient.specs.declared.Rgba.{Rgba}
+use Rattle.blend.specs.declared.Rgba.{Rgba}
 use Rattle.ggr.specs.declared.text.Count.{Count}
 use Rattle.ggr.specs.declared.text.Count.the-variants.{Bad, Is}
 use Rattle.ggr.specs.declared.header.Lead.{Lead}

@@ -14,7 +14,7 @@ use Rattle.float.specs.F32.{f0}
 use Rattle.decimal.specs.declared.Token.{Token}
 use Rattle.decimal.specs.declared.Token.the-variants.{Number, NoNumber}
 use Rattle.decimal.specs.Decimal.{readOf}
-use Rattle.gradient.specs.declared.Rgba.{Rgba}
+use Rattle.blend.specs.declared.Rgba.{Rgba}
 use Rattle.ggr.specs.declared.segment.SegmentRead.{SegmentRead}
 use Rattle.ggr.specs.declared.segment.SegmentRead.the-variants.{Invalid}
 use Rattle.ggr.specs.Text.{lines, firstOf, restOf, words}

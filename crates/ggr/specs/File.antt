@@ -7,9 +7,9 @@ use lib.ListN.{length, drop, replicate}
 use lib.Dec.{leb}
 use lib.Ieee.{Float}
 use Rattle.float.specs.F32.{f0}
-use Rattle.gradient.specs.Stops.{finiteRgba}
+use Rattle.blend.specs.declared.Rgba.{Rgba}
+use Rattle.stops.specs.Stops.{finiteRgba}
 use Rattle.gradient.specs.Gimp.{mostSegments}
-use Rattle.gradient.specs.declared.Rgba.{Rgba}
 use Rattle.ggr.specs.declared.text.Count.{Count}
 use Rattle.ggr.specs.declared.text.Count.the-variants.{Bad, Is}
 use Rattle.ggr.specs.declared.segment.Segment.{Segment}

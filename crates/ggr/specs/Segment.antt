@@ -11,8 +11,8 @@ use Rattle.float.specs.Number.{wholeOf}
 use Rattle.decimal.specs.declared.Token.{Token}
 use Rattle.decimal.specs.declared.Token.the-variants.{Number, NoNumber}
 use Rattle.decimal.specs.Decimal.{readOf}
+use Rattle.blend.specs.declared.Rgba.{Rgba}
 use Rattle.gradient.specs.Gimp.{carried}
-use Rattle.gradient.specs.declared.Rgba.{Rgba}
 use Rattle.ggr.specs.declared.segment.Segment.{Segment}
 use Rattle.ggr.specs.declared.segment.SegmentRead.{SegmentRead}
 use Rattle.ggr.specs.declared.segment.SegmentRead.the-variants.{Valid, Invalid, NotCarried}

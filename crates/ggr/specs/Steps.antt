@@ -7,8 +7,8 @@ use lib.ListN.{length, take, drop, getD}
 use lib.Dec.{eqb, ltb}
 use lib.Ieee.{Float}
 use Rattle.float.specs.F32.{f0}
+use Rattle.blend.specs.declared.Rgba.{Rgba}
 use Rattle.gradient.specs.Gimp.{mostSegments}
-use Rattle.gradient.specs.declared.Rgba.{Rgba}
 use Rattle.ggr.specs.declared.text.Class.{Class}
 use Rattle.ggr.specs.declared.text.Class.the-variants.{NotLf, White, Blank, NotWhite}
 use Rattle.ggr.specs.declared.header.Lead.{Lead}

@@ -1,5 +1,5 @@
 // Reads GIMP gradient files: the segments, written into lent slices, and the name.
-use gradient::Rgba;
+use blend::Rgba;
 use gradient::gimp::MOST_SEGMENTS;
 use text::line_at;
 use text::marks;

@@ -1,8 +1,8 @@
 // A segment line: its numbers, and the segment that they make.
 use super::text::Class;
 use super::text::span_end;
+use blend::Rgba;
 use decimal::Token;
-use gradient::Rgba;
 use gradient::gimp;
 ghost use mathlib.Core.Path.{_≡_};
 ghost use lib.ListN.{drop};

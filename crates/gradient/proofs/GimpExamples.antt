@@ -6,7 +6,7 @@ use Prim.Native.Nat.{ℕ}
 use lib.Dec.{eqb}
 use lib.Ieee.{Float, binary32, ofBits, toBits, add, sub, mul, div, le, lt, isNan}
 use Rattle.sqrt.specs.Root.{rootOf}
-use Rattle.gradient.specs.Blend.{linear}
+use Rattle.blend.specs.Blend.{linear}
 use Rattle.gradient.specs.Gimp.{linearCode, increasingCode, decreasingCode, stepCode, rgbCode, search, segmentFor, along, linearFactor, increasing, decreasing, bent, blended, segmentColour, offDomain, gimpColour}
 
 -- positions (left, middle, right) and reds (left, right) of segments, all by bits; their blending; t, and the red there, by bits

@@ -10,12 +10,12 @@ use lib.ListN.{length, getD, List·getD-eq-default}
 use lib.Ieee.{Float, le}
 use borrow.Author.Tests.{leb-true, eqb-true, eq-eqb, ne-eqb}
 use Rattle.float.proofs.Flags.{both-l, both-r}
-use Rattle.gradient.specs.Blend.{linear, black}
-use Rattle.gradient.specs.Stops.{colourAt}
-use Rattle.gradient.specs.Finite.{allFinite}
+use Rattle.blend.specs.Blend.{linear, black}
+use Rattle.blend.specs.Finite.{allFinite}
+use Rattle.blend.specs.declared.Rgba.{Rgba}
+use Rattle.stops.specs.Stops.{colourAt}
+use Rattle.stops.specs.declared.Checked.the-variants.{Fine, Refused}
 use Rattle.gradient.specs.Gimp.{mostSegments, segments, leftAt, middleAt, rightAt, blendingAt, colouringAt, stepCode, increasingCode, decreasingCode, carried, allCarried, gimpShaped, gimpCheck, segmentFor, along, linearFactor, increasing, decreasing, bent, blended, segmentColour, offDomain, gimpColour}
-use Rattle.gradient.specs.declared.Rgba.{Rgba}
-use Rattle.gradient.specs.declared.Checked.the-variants.{Fine, Refused}
 
 -- ---- a code past the end
 pub no-code : (ks : List ℕ) (i : ℕ) → length ks ≤ i → 0 ≡ getD ks i 0

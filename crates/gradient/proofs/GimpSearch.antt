@@ -7,12 +7,15 @@ use native.Mathlib.Nat.{lt-of-not-le}
 use native.Mathlib.Omega.{arith}
 use native.Mathlib.Decide.{decLe}
 use lib.Dec.{T, ltb}
-use lib.Ieee.{Float, lt}
+use lib.ListN.{length}
+use lib.Ieee.{Float, le, lt}
 use lib.Ieee.Bits.{is-true}
 use borrow.Author.Tests.{ltb-true, lt-ltb, le-ltb}
-use Rattle.float.proofs.Order.{le-lt-trans, lt-le-trans, lt→le, le→not-lt}
-use Rattle.gradient.specs.Place.{Rising}
-use Rattle.gradient.specs.Gimp.{segments, leftAt, rightAt, search, segmentFor}
+use Rattle.float.proofs.Order.{le-trans, le-lt-trans, lt-le-trans, lt→le, le→not-lt, no-nan-l}
+use Rattle.float.specs.F32.{f0, f1}
+use Rattle.stops.specs.Stops.{posAt}
+use Rattle.stops.specs.Place.{Rising}
+use Rattle.gradient.specs.Gimp.{segments, leftAt, rightAt, search, segmentFor, offDomain}
 
 -- one turn, at segment mid: up and down are what the two halves give
 abbrev turn : Bool → Bool → Bool → ℕ → ℕ → ℕ → ℕ → ℕ
@@ -118,3 +121,11 @@ module _ (ps : List Float) (t : Float) where
     pub strict-hit : segmentFor ps t ≡ i
     unfolding segmentFor
     strict-hit = strict (segments ps) 0 0 (segments ps) (omega arith) (omega arith) there (omega arith)
+
+    -- and where they lie in the domain, so does t
+    pub in-domain : T (le f0 (posAt ps 0)) → T (le (posAt ps (length ps - 1)) f1) → offDomain t ≡ false
+    unfolding offDomain
+    in-domain low high =
+        let above : T (le f0 t) = lt→le f0 t (le-lt-trans f0 (leftAt ps i) t (le-trans f0 (posAt ps 0) (leftAt ps i) low (R 0 (3 * i) (omega arith) (omega arith))) past) in
+        let under : T (le t f1) = le-trans t (rightAt ps i) f1 (lt→le t (rightAt ps i) before) (le-trans (rightAt ps i) (posAt ps (length ps - 1)) f1 (R (3 * i + 2) (length ps - 1) (omega arith) (omega arith)) high) in
+        simp (le→not-lt t f0 above, le→not-lt f1 t under, no-nan-l t f1 under)

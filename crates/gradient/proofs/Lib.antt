@@ -1,16 +1,5 @@
-pub mod Channels
-pub mod Reading
-pub mod Checking
-pub mod Choice
-pub mod Narrowing
-pub mod Quarters
-pub mod Placing
 pub mod Valid
 pub mod Same
-pub mod Nearby
-pub mod Curves
-pub mod Pairs
-pub mod FiniteLists
 pub mod Filling
 pub mod SharpLaws
 pub mod SharpExamples

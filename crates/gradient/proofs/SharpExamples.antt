@@ -4,7 +4,7 @@ use mathlib.Core.List.{List, [], _∷_, map}
 use Prim.Native.Nat.{ℕ}
 use lib.Ieee.{binary32, ofBits, toBits, ofInt, add, sub, mul, div, lt}
 use Rattle.float.specs.Number.{clampOf}
-use Rattle.gradient.specs.Points.{linspaceAt}
+use Rattle.blend.specs.Points.{linspaceAt}
 use Rattle.gradient.specs.Sharp.{softnessOf, insetOf, bandAt, listed, sharpPositions}
 
 -- how many colours; the domain and the softness, by bits; the positions, by bits

@@ -15,8 +15,8 @@ use borrow.Author.Tests.{eq-eqb, ne-eqb, lt-ltb, le-ltb, leb-true, eqb-true, not
 use Rattle.float.proofs.Flags.{both-l, both-r}
 use Rattle.float.specs.F32.{_⊕_, _⊖_, _⊗_, _⊘_, f4, tenth}
 use Rattle.float.specs.Number.{clampOf, countOf}
-use Rattle.gradient.specs.Points.{linspaceAt}
-use Rattle.gradient.specs.Finite.{allFinite}
+use Rattle.blend.specs.Points.{linspaceAt}
+use Rattle.blend.specs.Finite.{allFinite}
 use Rattle.gradient.specs.Sharp.{mostBands, softnessOf, insetOf, bandAt, listed, sharpPositions, channelAt, sharpChannels, domainFits, steady, roomy, bands, buildOf, after}
 use Rattle.gradient.specs.declared.sharp.Built.the-variants.{Stops, Refused}
 use Rattle.gradient.proofs.Filling.{length-listed}

@@ -8,19 +8,20 @@ use lib.ListN.{length, getD}
 use lib.Ieee.{Float, nan, inf}
 use lib.Ieee.Scale.{finite}
 use borrow.Author.Tests.{eq-eqb}
-use Rattle.gradient.specs.Stops.{colourAt, finiteRgba, mostStops}
+use Rattle.blend.specs.Finite.{allFinite}
+use Rattle.blend.proofs.FiniteLists.{finite-each}
+use Rattle.stops.specs.Stops.{colourAt, finiteRgba, mostStops}
+use Rattle.stops.specs.Place.{Rising}
+use Rattle.stops.specs.declared.Kind.the-variants.{Sharp}
+use Rattle.stops.specs.declared.Checked.the-variants.{Fine}
+use Rattle.stops.proofs.Checking.{Shape}
+use Rattle.stops.proofs.Valid.{Valid, rises, finite-number}
 use Rattle.gradient.specs.Ramp.{checkOf}
-use Rattle.gradient.specs.Finite.{allFinite}
-use Rattle.gradient.specs.Place.{Rising}
 use Rattle.gradient.specs.Sharp.{sharpPositions, channelAt, sharpChannels, steady, bands, buildOf}
-use Rattle.gradient.specs.declared.Kind.the-variants.{Sharp}
-use Rattle.gradient.specs.declared.Checked.the-variants.{Fine}
 use Rattle.gradient.specs.declared.sharp.Built.the-variants.{Stops}
 use Rattle.gradient.proofs.Filling.{listed-at}
-use Rattle.gradient.proofs.FiniteLists.{finite-each}
 use Rattle.gradient.proofs.SharpLaws.{few, room, made, steady-finite, steady-rises, length-positions, length-channels}
-use Rattle.gradient.proofs.Checking.{Shape}
-use Rattle.gradient.proofs.Valid.{Valid, rises, passes, finite-number}
+use Rattle.gradient.proofs.Valid.{passes}
 
 -- a channel of a stop is one of a colour
 channel-finite : (colours : List Float) (n m : ℕ) → allFinite colours ≡ true → length colours ≡ 4 * n → m < 8 * n → finite (getD (sharpChannels colours n) m nan) ≡ true

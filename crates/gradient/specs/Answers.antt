@@ -1,7 +1,7 @@
 -- What follows a check, and document 01's number of its refusal.
 use Prim.Native.Nat.{ℕ}
-use Rattle.gradient.specs.declared.Checked.{Checked}
-use Rattle.gradient.specs.declared.Checked.the-variants.{Fine, Refused}
+use Rattle.stops.specs.declared.Checked.{Checked}
+use Rattle.stops.specs.declared.Checked.the-variants.{Fine, Refused}
 
 -- 0 for none
 abbrev pub numberOfChecked : Checked → ℕ

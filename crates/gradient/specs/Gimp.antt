@@ -9,12 +9,12 @@ use lib.ListN.{length, getD}
 use lib.Ieee.{Float, le, lt, isNan}
 use Rattle.float.specs.F32.{_⊕_, _⊖_, _⊗_, _⊘_, f0, f1, half, epsilon}
 use Rattle.sqrt.specs.Root.{rootOf}
-use Rattle.gradient.specs.Blend.{linear, black}
-use Rattle.gradient.specs.Stops.{posAt, colourAt}
-use Rattle.gradient.specs.Finite.{allFinite}
-use Rattle.gradient.specs.declared.Rgba.{Rgba}
-use Rattle.gradient.specs.declared.Checked.{Checked}
-use Rattle.gradient.specs.declared.Checked.the-variants.{Fine, Refused}
+use Rattle.blend.specs.Blend.{linear, black}
+use Rattle.blend.specs.Finite.{allFinite}
+use Rattle.blend.specs.declared.Rgba.{Rgba}
+use Rattle.stops.specs.Stops.{posAt, colourAt}
+use Rattle.stops.specs.declared.Checked.{Checked}
+use Rattle.stops.specs.declared.Checked.the-variants.{Fine, Refused}
 
 -- ---- what is lent
 abbrev pub mostSegments : ℕ

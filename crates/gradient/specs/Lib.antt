@@ -1,14 +1,5 @@
-pub mod Blend
-pub mod Basis
-pub mod CatmullRom
-pub mod Stops
-pub mod Place
-pub mod Pair
-pub mod Near
 pub mod Gimp
 pub mod Ramp
 pub mod Answers
 pub mod Prints
-pub mod Points
-pub mod Finite
 pub mod Sharp

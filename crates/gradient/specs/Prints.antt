@@ -6,14 +6,15 @@ use lib.Ieee.{Float, binary32, ofBits, toBits, add, sub, mul, div, neg, le, isNa
 use Rattle.float.specs.F32.{f0, f1}
 use Rattle.float.specs.Number.{magnitudeOf}
 use Rattle.sqrt.specs.Root.{rootOf}
-use Rattle.gradient.specs.Blend.{linear, smooth}
-use Rattle.gradient.specs.Basis.{weightsOf, weighed, basis}
-use Rattle.gradient.specs.CatmullRom.{chord, tangent, cubic, coefficientsOf, segmentOf, cubicAt, segmentAt}
-use Rattle.gradient.specs.Place.{firstAt, placeOf}
-use Rattle.gradient.specs.Pair.{linearPair, smoothPair, basisPair, catmullPair, beyond, leftOf, rightOf, pairOf, between, colourIn}
+use Rattle.blend.specs.Blend.{linear, smooth}
+use Rattle.blend.specs.Basis.{weightsOf, weighed, basis}
+use Rattle.blend.specs.CatmullRom.{chord, tangent, cubic, coefficientsOf, segmentOf, cubicAt, segmentAt}
+use Rattle.blend.specs.Pair.{linearPair, smoothPair, basisPair, catmullPair}
+use Rattle.stops.specs.Place.{firstAt, placeOf}
+use Rattle.stops.specs.Pair.{beyond, leftOf, rightOf, pairOf, between, colourIn}
+use Rattle.stops.specs.declared.Kind.{Kind}
+use Rattle.stops.specs.declared.Kind.the-variants.{Linear, Smoothstep, Basis, CatmullRom}
 use Rattle.gradient.specs.Ramp.{colourOf}
-use Rattle.gradient.specs.declared.Kind.{Kind}
-use Rattle.gradient.specs.declared.Kind.the-variants.{Linear, Smoothstep, Basis, CatmullRom}
 
 -- a kind, t, and the first channel there, both by bits: 0.25 to 0.25, 0.25 to 0.15625, 0.5 to 0.5, 0.25 to 0.25
 table : List (Kind × ℕ × ℕ)

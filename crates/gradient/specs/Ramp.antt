@@ -5,14 +5,14 @@ use mathlib.Core.List.{List}
 use lib.ListN.{length}
 use lib.Ieee.{Float}
 use Rattle.float.specs.F32.{f0, f1}
-use Rattle.gradient.specs.Stops.{posAt, stopsCheck}
-use Rattle.gradient.specs.Place.{placeOf, placeIn}
-use Rattle.gradient.specs.Pair.{colourIn}
+use Rattle.blend.specs.declared.Rgba.{Rgba}
+use Rattle.stops.specs.Stops.{posAt, stopsCheck}
+use Rattle.stops.specs.Place.{placeOf, placeIn}
+use Rattle.stops.specs.Pair.{colourIn}
+use Rattle.stops.specs.declared.Kind.{Kind}
+use Rattle.stops.specs.declared.Kind.the-variants.{Linear, Smoothstep, Sharp, Basis, CatmullRom, Gimp}
+use Rattle.stops.specs.declared.Checked.{Checked}
 use Rattle.gradient.specs.Gimp.{gimpCheck, gimpColour}
-use Rattle.gradient.specs.declared.Rgba.{Rgba}
-use Rattle.gradient.specs.declared.Kind.{Kind}
-use Rattle.gradient.specs.declared.Kind.the-variants.{Linear, Smoothstep, Sharp, Basis, CatmullRom, Gimp}
-use Rattle.gradient.specs.declared.Checked.{Checked}
 
 -- segments and not stops
 abbrev pub isGimp : Kind → Bool

@@ -8,8 +8,8 @@ use lib.Ieee.{Float, nan, inf, lt, eq}
 use lib.Ieee.Scale.{finite}
 use Rattle.float.specs.F32.{_⊕_, _⊖_, _⊗_, _⊘_, f4, tenth}
 use Rattle.float.specs.Number.{clampOf, countOf}
-use Rattle.gradient.specs.Points.{linspaceAt}
-use Rattle.gradient.specs.Finite.{allFinite}
+use Rattle.blend.specs.Points.{linspaceAt}
+use Rattle.blend.specs.Finite.{allFinite}
 use Rattle.gradient.specs.declared.sharp.Built.{Built}
 use Rattle.gradient.specs.declared.sharp.Built.the-variants.{Stops, Refused}
 

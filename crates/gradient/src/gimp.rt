@@ -1,9 +1,8 @@
 // GIMP segments: their check, and their colour at t. Segment i has positions 3i.. (left, middle, right),
 // channels 8i.. (left r g b a, right r g b a) and codes 2i.. (blending, colouring).
-use super::Checked;
-use super::Rgba;
-use super::stops;
-use super::utils;
+use blend::Rgba;
+use blend::utils;
+use stops::Checked;
 ghost use mathlib.Core.Path.{_≡_};
 ghost use Prim.Native.Nat.{_*_, _≤_};
 ghost use lib.ListN.{length, getD};
@@ -139,7 +138,7 @@ pub fn place_along(left: f32, right: f32, x: f32) -> f32
     (x - left) / length
 }
 
-fn calc_linear_factor(middle: f32, place: f32) -> f32
+pub fn calc_linear_factor(middle: f32, place: f32) -> f32
     ensures { λ r. ⌜ r ≡ linearFactor middle place ⌝ }
 {
     if place <= middle {
@@ -166,7 +165,7 @@ fn spherical_decreasing(f: f32) -> f32
     1.0 - sqrt::root(1.0 - f * f)
 }
 
-fn bend(blending: u8, f: f32) -> f32
+pub fn bend(blending: u8, f: f32) -> f32
     ensures { λ r. ⌜ r ≡ bent blending f ⌝ }
 {
     if blending == SPHERICAL_INCREASING {
@@ -178,7 +177,7 @@ fn bend(blending: u8, f: f32) -> f32
     f
 }
 
-pub fn blend(blending: u8, p: Rgba, q: Rgba, middle: f32, place: f32) -> Rgba
+fn blend(blending: u8, p: Rgba, q: Rgba, middle: f32, place: f32) -> Rgba
     ensures { λ r. ⌜ r ≡ blended blending p q middle place ⌝ }
 {
     if blending == STEP {

@@ -1,60 +1,12 @@
 // Colour ramps lent as slices: their check, and their colour at t.
+use blend::Rgba;
+use stops::Checked;
+use stops::Kind;
 ghost use mathlib.Core.Path.{_≡_};
 ghost use Rattle.gradient.specs.Ramp.{isGimp, checkOf, anyColour, minOf, maxOf};
 
-pub mod basis;
-pub mod catmull_rom;
 pub mod gimp;
-pub mod linear;
-pub mod near;
 pub mod sharp;
-pub mod smoothstep;
-pub mod stops;
-pub mod utils;
-
-// Document 01's numbers of what a ramp is refused for.
-pub const MISSHAPEN: u8 = 1;
-
-pub const NOT_FINITE: u8 = 2;
-
-pub const FALLING: u8 = 3;
-
-#[repr(C)]
-pub struct Rgba {
-    pub r: f32,
-    pub g: f32,
-    pub b: f32,
-    pub a: f32,
-}
-
-pub struct Stop {
-    pub position: f32,
-    pub colour: Rgba,
-}
-
-// The kinds of ramp. Stops are n positions and 4n channels, with no codes. GIMP segments are 3n positions
-// (left, middle, right), 8n channels (left, then right) and 2n codes (blending, colouring).
-pub enum Kind {
-    Linear,
-    Smoothstep,
-    Sharp,
-    Basis,
-    CatmullRom,
-    Gimp,
-}
-
-// A ramp that may be used, or the number of the refusal.
-pub enum Checked {
-    Fine,
-    Refused(u8),
-}
-
-// Where t lies among stops: at an end, whose stop it names, nowhere, or between stop k - 1 and stop k.
-pub enum Place {
-    End(usize),
-    Nowhere,
-    Between(usize),
-}
 
 pub fn is_gimp(kind: Kind) -> bool
     ensures { λ r. ⌜ r ≡ isGimp kind ⌝ }

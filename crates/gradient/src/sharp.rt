@@ -1,10 +1,6 @@
-// The sharp gradient: its colour between two stops, and how it is built: n colours, each a band, give 2n stops.
-use super::Rgba;
-use super::Stop;
-use super::smoothstep;
-use super::utils;
+// How a sharp ramp is built: n colours, each a band, give 2n stops.
+use blend::utils;
 ghost use mathlib.Core.Path.{_≡_};
-ghost use Rattle.gradient.specs.Pair.{sharpPair};
 ghost use mathlib.Core.Bool.{true};
 ghost use mathlib.Core.List.{_++_};
 ghost use Prim.Native.Nat.{_*_, _<_, _≤_};
@@ -13,16 +9,6 @@ ghost use lib.Ieee.{inf};
 ghost use Rattle.gradient.specs.Sharp.{mostBands, softnessOf, insetOf, bandAt, sharpPositions, sharpChannels, domainFits, steady, roomy, bands, buildOf, after};
 
 pub const MOST_BANDS: usize = 256;
-
-// A pair with even lower index is one colour: no share is worked out.
-pub fn pair_colour(lower: usize, p: Stop, q: Stop, t: f32) -> Rgba
-    ensures { λ r. ⌜ r ≡ sharpPair lower p q t ⌝ }
-{
-    if lower % 2 == 0 {
-        return p.colour;
-    }
-    smoothstep::pair_colour(p, q, t)
-}
 
 // How many stops were written, or the number of the refusal.
 pub enum Built {

@@ -11,9 +11,9 @@ use lib.ListN.{length, drop, getD, drop-of-length-le}
 use lib.Seq.{drop-cons}
 use lib.Ieee.{Float, neg, lt}
 use Rattle.float.proofs.Flags.{both-l, both-r}
-use Rattle.gradient.specs.declared.Checked.{Checked}
-use Rattle.gradient.specs.declared.Checked.the-variants as checked
-use Rattle.gradient.specs.declared.Kind.{Kind}
+use Rattle.stops.specs.declared.Checked.{Checked}
+use Rattle.stops.specs.declared.Checked.the-variants as checked
+use Rattle.stops.specs.declared.Kind.{Kind}
 use Rattle.gradient.specs.Ramp.{checkOf, minOf, maxOf}
 use Rattle.linearize.specs.Constants.{farthest}
 use Rattle.linearize.specs.Desk.{beyondOf, andThen, countsGood, shapeCheck, countsCheck, sampleCheck, thinCheck}
@@ -162,3 +162,14 @@ module _ (kind : Kind) (ps cs : List Float) (ks : List ℕ) (rows : List Float) 
           some = λ i k. each-good counts counts-fine i (omega (arith, l)) .0;
           most = λ i k. each-good counts counts-fine i (omega (arith, l)) .1;
         }
+
+-- and what the test of the counts asks of a record, one that may be thinned has
+all-good : (l : List ℕ) → ((i : ℕ) → i < length l → (1 ≤ getD l i 0) × (getD l i 0 ≤ 128)) → countsGood l ≡ true
+unfolding countsGood
+all-good [] each = refl
+all-good (n ∷ l) each =
+    let a = each 0 (omega arith) in
+    rw (le-leb 1 n (a .0), le-leb n 128 (a .1)) (all-good l (λ i h. each (suc i) (omega arith)))
+
+pub ready-counts : (rows : List Float) (counts : List ℕ) → Ready rows counts → countsCheck counts ≡ checked.Fine
+ready-counts rows counts r = sym (counts-pass counts (all-good counts (λ i h. (r .some i (omega (arith, r .many)), r .most i (omega (arith, r .many))))))

@@ -10,8 +10,8 @@ use lib.ListN.{length, set, length-append}
 use lib.Seq.{sets}
 use lib.Ieee.{Float}
 use Rattle.float.specs.F32.{half}
-use Rattle.gradient.specs.Blend.{linear}
-use Rattle.gradient.specs.declared.Rgba.{Rgba}
+use Rattle.blend.specs.Blend.{linear}
+use Rattle.blend.specs.declared.Rgba.{Rgba}
 use Rattle.linearize.specs.Midpoints.{Gradient, Far, midOf, keeps, halves, tries}
 use Rattle.linearize.proofs.Stores.{sets-append}
 

@@ -4,6 +4,7 @@ pub mod Tabled
 pub mod Thresholds
 pub mod Halves
 pub mod Rows
+pub mod OneCell
 pub mod Filling
 pub mod Bounds
 pub mod Checks
@@ -14,14 +15,4 @@ pub mod Following
 pub mod Going
 pub mod Lists
 pub mod Calls
-pub mod Agree
-pub mod Sides
 pub mod Edges
-pub mod Words
-pub mod Outer
-pub mod Renewing
-pub mod Edits
-pub mod EditChecks
-pub mod Theorem
-pub mod Changes
-pub mod RefreshAnswers

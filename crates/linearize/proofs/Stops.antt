@@ -1,5 +1,5 @@
 -- The refusals 7, 8 and 9 of a stop, by the tests that lead to them. Assumes nothing.
-use mathlib.Core.Path.{_≡_, refl}
+use mathlib.Core.Path.{_≡_, refl, _∙_}
 use mathlib.Core.Bool.{Bool, true, false, cond}
 use mathlib.Core.List.{List}
 use Prim.Native.Nat.{ℕ, suc, _+_, _≤_, _<_}
@@ -10,8 +10,8 @@ use lib.ListN.{set}
 use lib.Seq.{sets}
 use lib.Ieee.{Float, lt}
 use lib.Ieee.Scale.{finite}
-use Rattle.gradient.specs.declared.Rgba.{Rgba}
-use Rattle.gradient.specs.Stops.{finiteRgba}
+use Rattle.blend.specs.declared.Rgba.{Rgba}
+use Rattle.stops.specs.Stops.{finiteRgba}
 use Rattle.linearize.specs.Kept.{stopRefusal, channelsOf}
 
 module _ (room n : ℕ) (last t : Float) (c : Rgba) where
@@ -47,10 +47,11 @@ module _ (room n : ℕ) (last t : Float) (c : Rgba) where
   unfolding stopRefusal
   has-room h = leb-false room n (not-seven (leb room n) _ h)
 
-pub four-stores : (out : List Float) (k : ℕ) (c : Rgba)
-    → set (set (set (set out k (c .r)) (k + 1) (c .g)) (k + 2) (c .b)) (k + 3) (c .a) ≡ sets out k (channelsOf c)
-four-stores out k c =
+-- four stores one after the other
+pub four-stores : (out a b d e : List Float) (k : ℕ) (c : Rgba) → a ≡ set out k (c .r) → b ≡ set a (k + 1) (c .g) → d ≡ set b (k + 2) (c .b) → e ≡ set d (k + 3) (c .a)
+    → e ≡ sets out k (channelsOf c)
+four-stores out a b d e k c p q r s =
     let one : k + 1 ≡ suc k = omega arith in
     let two : k + 2 ≡ suc (suc k) = omega arith in
     let three : k + 3 ≡ suc (suc (suc k)) = omega arith in
-    rw (one, two, three)
+    s ∙ rw (r, q, p, one, two, three)

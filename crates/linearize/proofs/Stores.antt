@@ -1,11 +1,11 @@
 -- Laws of a run of stores, and of lists put one after the other. Assumes nothing.
-use mathlib.Core.Path.{_≡_, sym, ap, _∙_}
+use mathlib.Core.Path.{_≡_, refl, sym, ap, _∙_}
 use mathlib.Core.List.{List, [], _∷_, _++_, append-assoc, append-nil}
 use Prim.Native.Nat.{ℕ, _+_, _-_, _≤_, suc}
 use native.Mathlib.Nat.{add-zero, add-suc, suc-add}
 use native.Mathlib.Omega.{arith}
 use lib.ListN.{length, set, take, drop, replicate, length-append, length-replicate, length-drop, replicate-append-replicate, drop-of-length-le, take-append-drop}
-use lib.Seq.{sets, sets-eq, take-at, drop-drop, drop-append-add}
+use lib.Seq.{sets, sets-eq, set-out, take-at, drop-drop, drop-append-add}
 
 module _ {A : Type 0} where
   pub sets-append : (l : List A) (i : ℕ) (xs ys : List A) → sets l i (xs ++ ys) ≡ sets (sets l i xs) (i + length xs) ys
@@ -41,3 +41,8 @@ module _ {A : Type 0} where
   pub part-sets : (l vs : List A) (a e : ℕ) → a ≤ e → e ≤ length l → length vs ≡ e - a
       → take a l ++ (vs ++ drop (e - a) (drop a l)) ≡ sets l a vs
   part-sets l vs a e h k f = rw (drop-drop, ← f, ← append-assoc) (sym (sets-eq vs l a (omega arith)))
+
+  -- stores past the end are none
+  pub sets-out : (l : List A) (i : ℕ) (vs : List A) → length l ≤ i → sets l i vs ≡ l
+  sets-out l i [] h = refl
+  sets-out l i (v ∷ vs) h = ap (λ (k : List A). sets k (suc i) vs) (set-out l i v h) ∙ sets-out l (suc i) vs (omega arith)

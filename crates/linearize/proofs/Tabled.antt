@@ -10,16 +10,16 @@ use lib.Dec.{T}
 use lib.ListN.{length, getD, set, take, length-set}
 use lib.Seq.{getD-set-same, getD-set-other, getD-take, length-take-le}
 use lib.Ieee.{Float}
-use Rattle.gradient.specs.Near.{pairOr, segmentFor, segmentIn}
-use Rattle.gradient.specs.Pair.{colourIn}
-use Rattle.gradient.specs.Place.{placeIn}
+use Rattle.blend.specs.declared.Rgba.{Rgba}
+use Rattle.stops.specs.Near.{pairOr, segmentFor, segmentIn}
+use Rattle.stops.specs.Pair.{colourIn}
+use Rattle.stops.specs.Place.{placeIn}
+use Rattle.stops.specs.declared.Place.{Place}
+use Rattle.stops.specs.declared.Kind.{Kind}
+use Rattle.stops.specs.declared.Kind.the-variants.{Linear, Smoothstep, Sharp, Basis, CatmullRom, Gimp}
+use Rattle.stops.proofs.Nearby.{segment-colour}
 use Rattle.gradient.specs.Gimp.{gimpColour}
 use Rattle.gradient.specs.Ramp.{isGimp, anyColour}
-use Rattle.gradient.specs.declared.Rgba.{Rgba}
-use Rattle.gradient.specs.declared.Place.{Place}
-use Rattle.gradient.specs.declared.Kind.{Kind}
-use Rattle.gradient.specs.declared.Kind.the-variants.{Linear, Smoothstep, Sharp, Basis, CatmullRom, Gimp}
-use Rattle.gradient.proofs.Nearby.{segment-colour}
 use Rattle.linearize.specs.Segments.{isCatmullRom, Segments}
 
 -- ---- filling

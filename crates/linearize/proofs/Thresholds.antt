@@ -1,5 +1,5 @@
 -- A sampler's threshold, by the tests that lead to it; and that its cutoff makes the same test without a root. Assumes nothing.
-use mathlib.Core.Path.{_≡_, sym, ap, _∙_, fun-ext}
+use mathlib.Core.Path.{_≡_, sym, fun-ext}
 use mathlib.Core.Bool.{true, false}
 use lib.Ieee.{Float, binary32, lt}
 use lib.Ieee.Fits.{add-fits}
@@ -26,7 +26,7 @@ module _ (x : Float) where
   unfolding thresholdOf
   is-same f l m = simp (f, l, m)
 
-pub far-by-cutoff : (asked th cutoff : Float) → th ≡ thresholdOf asked → IsCutoff th cutoff → exceeds cutoff ≡ farOf asked
+pub far-by-cutoff : (asked cutoff : Float) → IsCutoff (thresholdOf asked) cutoff → exceeds cutoff ≡ farOf asked
 unfolding exceeds differs squaresOf
-far-by-cutoff asked th cutoff e w =
-    fun-ext (λ x. fun-ext (λ y. sym (w .cuts (squaresOf (clampedOf x) (clampedOf y)) (add-fits binary32 _ _)) ∙ ap (λ (t : Float). differs t x y) e))
+far-by-cutoff asked cutoff w =
+    fun-ext (λ x. fun-ext (λ y. sym (w .cuts (squaresOf (clampedOf x) (clampedOf y)) (add-fits binary32 _ _))))

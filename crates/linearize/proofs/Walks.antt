@@ -10,8 +10,8 @@ use lib.ListN.{length, set}
 use lib.Seq.{sets}
 use lib.Ieee.{Float}
 use Rattle.float.specs.F32.{_⊖_, _⊘_}
-use Rattle.gradient.specs.Blend.{linear}
-use Rattle.gradient.specs.declared.Rgba.{Rgba}
+use Rattle.blend.specs.Blend.{linear}
+use Rattle.blend.specs.declared.Rgba.{Rgba}
 use Rattle.linearize.specs.Midpoints.{Gradient, Far}
 use Rattle.linearize.specs.Kept.{nearOf, stays, thinned, weighed, stopRefusal, firstRefusal, refusalFrom, channelsOf, coloursOf}
 use Rattle.linearize.specs.Walk.{Run, run, emitBy, emitRun, onceMore, stepRun, Outcome, reached, comesTo, outcome, Ends}

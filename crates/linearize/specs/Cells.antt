@@ -1,6 +1,8 @@
 -- A cell's row, count and tries, and the record of all cells, over any gradient.
+use mathlib.Core.Bool.{cond}
 use mathlib.Core.List.{List, [], _∷_, _++_}
 use Prim.Native.Nat.{ℕ, zero, suc, _+_, _-_, _*_}
+use lib.Dec.{leb}
 use lib.ListN.{length, replicate}
 use lib.Ieee.{Float}
 use Rattle.float.specs.F32.{_⊕_, _⊖_, _⊗_, _⊘_, f0}
@@ -11,6 +13,10 @@ use Rattle.linearize.specs.Midpoints.{Gradient, Far, halves, tries}
 -- the left end of cell i, and the right end of cell i - 1: min + (max - min)·(i/36)
 unfoldable pub edgeOf : Float → Float → ℕ → Float
 edgeOf lo hi i = lo ⊕ (hi ⊖ lo) ⊗ (countOf i ⊘ countOf cells)
+
+-- the same of any number: past the last cell it is max
+unfoldable pub endOf : Float → Float → ℕ → Float
+endOf lo hi i = cond (leb i cells) (edgeOf lo hi i) hi
 
 -- the points between t0 and t1: the left end, then every midpoint kept
 unfoldable pub pointsOf : Gradient → Far → Float → Float → List Float

@@ -5,11 +5,11 @@ use Prim.Native.Nat.{ℕ, zero, suc, _+_}
 use lib.Dec.{eqb, leb}
 use lib.ListN.{length}
 use lib.Ieee.{Float, neg, lt}
+use Rattle.stops.specs.declared.Kind.{Kind}
+use Rattle.stops.specs.declared.Checked.{Checked}
+use Rattle.stops.specs.declared.Checked.the-variants as checked
 use Rattle.gradient.specs.Answers.{onFine}
 use Rattle.gradient.specs.Ramp.{checkOf, minOf, maxOf, colourOf}
-use Rattle.gradient.specs.declared.Kind.{Kind}
-use Rattle.gradient.specs.declared.Checked.{Checked}
-use Rattle.gradient.specs.declared.Checked.the-variants as checked
 use Rattle.linearize.specs.Constants.{cells, rowLength, recordLength, farthest, thresholdOf}
 use Rattle.linearize.specs.Difference.{differs}
 use Rattle.linearize.specs.Midpoints.{Gradient, Far}

@@ -4,7 +4,7 @@ use lib.Ieee.{Float, lt}
 use Rattle.float.specs.F32.{_⊕_, _⊖_, _⊗_, _⊘_, f2}
 use Rattle.float.specs.Number.{clampOf}
 use Rattle.sqrt.specs.Root.{rootOf}
-use Rattle.gradient.specs.declared.Rgba.{Rgba}
+use Rattle.blend.specs.declared.Rgba.{Rgba}
 
 unfoldable pub clampedOf : Rgba → Rgba
 clampedOf x = record { r = clampOf (x .r); g = clampOf (x .g); b = clampOf (x .b); a = clampOf (x .a) }

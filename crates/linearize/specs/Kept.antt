@@ -9,9 +9,9 @@ use lib.Ieee.{Float, lt}
 use lib.Ieee.Scale.{finite}
 use Rattle.float.specs.F32.{_⊖_, _⊘_, f0, epsilon}
 use Rattle.float.specs.Number.{magnitudeOf}
-use Rattle.gradient.specs.Blend.{linear}
-use Rattle.gradient.specs.Stops.{finiteRgba}
-use Rattle.gradient.specs.declared.Rgba.{Rgba}
+use Rattle.blend.specs.Blend.{linear}
+use Rattle.blend.specs.declared.Rgba.{Rgba}
+use Rattle.stops.specs.Stops.{finiteRgba}
 use Rattle.linearize.specs.Midpoints.{Gradient, Far}
 
 -- nearer than 2^-23

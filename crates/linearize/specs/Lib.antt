@@ -8,7 +8,3 @@ pub mod Kept
 pub mod Walk
 pub mod Desk
 pub mod Promises
-pub mod Stretch
-pub mod Anew
-pub mod Edit
-pub mod RefreshDesk

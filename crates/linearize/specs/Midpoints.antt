@@ -4,8 +4,8 @@ use mathlib.Core.List.{List, [], _∷_, _++_}
 use Prim.Native.Nat.{ℕ, zero, suc, _+_}
 use lib.Ieee.{Float}
 use Rattle.float.specs.F32.{_⊕_, _⊘_, f2, half}
-use Rattle.gradient.specs.Blend.{linear}
-use Rattle.gradient.specs.declared.Rgba.{Rgba}
+use Rattle.blend.specs.Blend.{linear}
+use Rattle.blend.specs.declared.Rgba.{Rgba}
 
 -- a colour for each number
 abbrev pub Gradient : Type 0

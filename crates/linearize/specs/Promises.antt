@@ -1,14 +1,16 @@
 -- What the functions promise, part by part.
 use mathlib.Core.Path.{_≡_}
+use mathlib.Core.Bool.{Bool, cond, _&&_}
 use mathlib.Core.List.{List}
 use Prim.Native.Nat.{ℕ, _+_, _*_, _≤_, _<_}
+use lib.Dec.{eqb, ltb}
 use lib.ListN.{length, getD, set}
 use lib.Seq.{sets}
 use lib.Ieee.{Float}
+use Rattle.stops.specs.declared.Kind.{Kind}
+use Rattle.stops.specs.declared.Checked.{Checked}
 use Rattle.gradient.specs.Answers.{numberOfChecked}
 use Rattle.gradient.specs.Ramp.{maxOf, colourOf}
-use Rattle.gradient.specs.declared.Kind.{Kind}
-use Rattle.gradient.specs.declared.Checked.{Checked}
 use Rattle.linearize.specs.Places.{listOf}
 use Rattle.linearize.specs.Constants.{cells, depth, rowLength, recordLength}
 use Rattle.linearize.specs.Midpoints.{Gradient, Far, halves, tries}
@@ -42,6 +44,16 @@ pub record CellAnew (g : Gradient) (far : Far) (lo hi : Float) (i : ℕ) (rows r
   pub tried : n ≡ cellTries g far lo hi i
   pub written : rows′ ≡ sets rows (i * rowLength) (cellRow g far lo hi i)
   pub counted : counts′ ≡ set counts i (cellCount g far lo hi i)
+
+-- a record, by its lengths, and a cell of it
+unfoldable pub hasCell : ℕ → ℕ → ℕ → Bool
+hasCell i rows counts = ltb i cells && (eqb rows recordLength && eqb counts cells)
+
+-- the same of any lists and any i: without such a cell nothing is done
+pub record CellSampled (g : Gradient) (far : Far) (lo hi : Float) (i : ℕ) (rows rows′ : List Float) (counts counts′ : List ℕ) (n : ℕ) : Type 0 where
+  pub tried : n ≡ cond (hasCell i (length rows) (length counts)) (cellTries g far lo hi i) 0
+  pub written : rows′ ≡ cond (hasCell i (length rows) (length counts)) (sets rows (i * rowLength) (cellRow g far lo hi i)) rows
+  pub counted : counts′ ≡ cond (hasCell i (length rows) (length counts)) (set counts i (cellCount g far lo hi i)) counts
 
 -- the record is the gradient's
 pub record RecordIs (g : Gradient) (far : Far) (lo hi : Float) (rows′ : List Float) (counts′ : List ℕ) (n : ℕ) : Type 0 where

@@ -7,7 +7,7 @@ use lib.ListN.{length, set}
 use lib.Seq.{sets}
 use lib.Ieee.{Float}
 use Rattle.float.specs.F32.{_⊖_, _⊘_}
-use Rattle.gradient.specs.Blend.{linear}
+use Rattle.blend.specs.Blend.{linear}
 use Rattle.linearize.specs.Midpoints.{Gradient, Far}
 use Rattle.linearize.specs.Kept.{nearOf, thinned, weighed, stopRefusal, refusalFrom, channelsOf, coloursOf}
 use Rattle.linearize.specs.declared.Point.{Point}

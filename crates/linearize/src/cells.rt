@@ -4,10 +4,9 @@ use crate::Point;
 use crate::Sampler;
 use crate::difference::stands_out;
 use crate::segments;
-use gradient::Kind;
+use blend::utils::interpolate_linear;
 use gradient::gimp;
-use gradient::stops;
-use gradient::utils::interpolate_linear;
+use stops::Kind;
 ghost use mathlib.Core.Path.{_≡_};
 ghost use Prim.Native.Nat.{_+_, _≤_, _<_, _^_, _-_};
 ghost use lib.ListN.{length, replicate};
@@ -16,17 +15,11 @@ ghost use Rattle.float.specs.F32.{f0};
 ghost use Rattle.gradient.specs.Ramp.{anyColour};
 ghost use Rattle.linearize.specs.Constants.{cells, rowLength, recordLength};
 ghost use Rattle.linearize.specs.Difference.{exceeds};
-ghost use Rattle.linearize.specs.Cells.{edgeOf};
+ghost use Rattle.linearize.specs.Cells.{edgeOf, endOf};
 ghost use Rattle.linearize.specs.Segments.{Segments};
-ghost use Rattle.linearize.specs.Promises.{Coloured, HalvesTo, RowIs, CellAnew, RecordIs};
+ghost use Rattle.linearize.specs.Promises.{Coloured, HalvesTo, RowIs, CellAnew, CellSampled, RecordIs};
 
-pub(crate) fn point_of(
-    kind: Kind,
-    positions: &[f32],
-    channels: &[f32],
-    codes: &[u8],
-    t: f32,
-) -> Point
+fn point_of(kind: Kind, positions: &[f32], channels: &[f32], codes: &[u8], t: f32) -> Point
     ensures { λ r. ⌜ (r .t ≡ t) × Coloured (anyColour kind (now (positions .entry)) (now (channels .entry)) (now (codes .entry))) r ⌝ }
 {
     Point {
@@ -172,16 +165,18 @@ fn row_into(
     h
 }
 
-// The end between cell i - 1 and cell i.
-pub(crate) fn edge(min: f32, max: f32, i: usize) -> f32
-    requires { ⌜ i ≤ cells ⌝ }
-    ensures { λ r. ⌜ r ≡ edgeOf min max i ⌝ }
+// The end between cell i - 1 and cell i; past the last cell it is max.
+pub fn edge(min: f32, max: f32, i: usize) -> f32
+    ensures { λ r. ⌜ r ≡ endOf min max i ⌝ }
 {
+    if i > Sampler::CELLS {
+        return max;
+    }
     min + (max - min) * (i as f32 / Sampler::CELLS as f32)
 }
 
 // Samples cell i, from p to q, anew.
-pub(crate) fn cell_into(
+fn cell_into(
     kind: Kind,
     positions: &[f32],
     channels: &[f32],
@@ -217,6 +212,50 @@ pub(crate) fn cell_into(
     );
     counts[i] = h.at as u8;
     h.tries
+}
+
+// Samples cell i of a record anew. Gives the tries. Without such a cell, or with other lengths than a record's, it does nothing.
+pub fn sample_cell(
+    kind: Kind,
+    positions: &[f32],
+    channels: &[f32],
+    codes: &[u8],
+    cutoff: f32,
+    min: f32,
+    max: f32,
+    i: usize,
+    rows: &mut [f32],
+    counts: &mut [u8],
+) -> usize
+    ensures { λ r. ⌜ CellSampled (anyColour kind (now (positions .entry)) (now (channels .entry)) (now (codes .entry))) (exceeds cutoff) min max i (now (rows .entry)) (now (rows .exit)) (now (counts .entry)) (now (counts .exit)) r ⌝ }
+{
+    if i >= Sampler::CELLS {
+        return 0;
+    }
+    if rows.len() != Sampler::CELLS * Sampler::ROW {
+        return 0;
+    }
+    if counts.len() != Sampler::CELLS {
+        return 0;
+    }
+    let p = point_of(kind, positions, channels, codes, edge(min, max, i));
+    let q = point_of(kind, positions, channels, codes, edge(min, max, i + 1));
+    let none = [[[0.0f32; 4]; 4]; 1];
+    cell_into(
+        kind,
+        positions,
+        channels,
+        codes,
+        cutoff,
+        min,
+        max,
+        i,
+        p,
+        q,
+        rows,
+        counts,
+        &none[..0],
+    )
 }
 
 // Samples every cell; a cell's right end is the next one's left. Gives the tries.

@@ -1,9 +1,10 @@
 // How far apart two colours are.
 use crate::Sampler;
-use gradient::Rgba;
+use blend::Rgba;
 ghost use mathlib.Core.Path.{_≡_};
+ghost use Rattle.sqrt.specs.Cutoff.{IsCutoff};
+ghost use Rattle.linearize.specs.Constants.{thresholdOf};
 ghost use Rattle.linearize.specs.Difference.{clampedOf, squaresOf, exceeds};
-ghost use Rattle.linearize.specs.Desk.{farOf};
 
 pub(crate) fn clamped(x: Rgba) -> Rgba
     ensures { λ r. ⌜ r ≡ clampedOf x ⌝ }
@@ -26,9 +27,10 @@ pub(crate) fn squares(x: Rgba, y: Rgba) -> f32
     dr * dr + dg * dg + db * db + da * da
 }
 
-// The cutoff of a threshold as it was asked for: colours differ by more where their squares are above it.
-pub(crate) fn cutoff_of(threshold: f32) -> f32
-    ensures { λ r. ⌜ exceeds r ≡ farOf threshold ⌝ }
+// The cutoff of a threshold as it was asked for: colours differ by more where their squares are above it
+// (proofs/Thresholds).
+pub fn cutoff_of(threshold: f32) -> f32
+    ensures { λ r. ⌜ IsCutoff (thresholdOf threshold) r ⌝ }
 {
     let sampler = Sampler::new(threshold);
     sqrt::half_root::cutoff(sampler.threshold)

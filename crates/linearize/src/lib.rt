@@ -1,18 +1,17 @@
 // Flattening a ramp: sampling it cell by cell into a lent record, and thinning the record to stops.
-use gradient::Checked;
-use gradient::Kind;
-use gradient::Rgba;
+use blend::Rgba;
+use stops::Checked;
+use stops::Kind;
 ghost use mathlib.Core.Path.{_≡_};
 ghost use Prim.Native.Nat.{_≤_};
 ghost use Rattle.linearize.specs.Constants.{thresholdOf};
 ghost use Rattle.linearize.specs.Desk.{evaluationsOfListed, beyondOf, shapeCheck, countsCheck, sampleCheck, thinCheck, withSampling};
 ghost use Rattle.linearize.specs.Promises.{Samples, Thins, Flattens};
 
-mod cells;
-mod difference;
-pub mod refreshing;
+pub mod cells;
+pub mod difference;
 mod segments;
-mod thinning;
+pub mod thinning;
 
 // The shape of a record, the depth of the halving, the thresholds, and how far a domain may reach.
 pub struct Sampler {
@@ -201,7 +200,7 @@ fn check_counts(counts: &[u8]) -> Checked
 }
 
 // Refusals 1 to 5 of a thinning.
-fn check_thin(
+pub fn check_thin(
     kind: Kind,
     positions: &[f32],
     channels: &[f32],

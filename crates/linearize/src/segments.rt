@@ -1,13 +1,13 @@
 // Catmull-Rom segments worked out once for a call: those of the first pairs, as many as a table has room for.
-use gradient::Kind;
-use gradient::Place;
-use gradient::Rgba;
-use gradient::near;
+use blend::Rgba;
+use stops::Kind;
+use stops::Place;
+use stops::near;
 ghost use mathlib.Core.Path.{_≡_};
 ghost use Prim.Native.Nat.{_≤_};
 ghost use lib.ListN.{length, take};
-ghost use Rattle.gradient.specs.Near.{segmentFor};
-ghost use Rattle.gradient.specs.Pair.{colourIn};
+ghost use Rattle.stops.specs.Near.{segmentFor};
+ghost use Rattle.stops.specs.Pair.{colourIn};
 ghost use Rattle.linearize.specs.Segments.{isCatmullRom, Segments};
 
 // The pairs of a table on the stack: 16 KiB.

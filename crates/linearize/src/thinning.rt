@@ -8,13 +8,13 @@ use crate::cells::clear_from;
 use crate::cells::evaluate;
 use crate::difference::stands_out;
 use crate::segments;
-use gradient::Kind;
-use gradient::Rgba;
-use gradient::stops::is_finite_colour;
-use gradient::utils::interpolate_linear;
+use blend::Rgba;
+use blend::utils::interpolate_linear;
+use stops::Kind;
+use stops::is_finite_colour;
 ghost use mathlib.Core.Path.{_≡_};
 ghost use Prim.Native.Nat.{_+_, _*_, _/_, _≤_, _<_, min};
-ghost use lib.ListN.{length, drop};
+ghost use lib.ListN.{length, drop, set};
 ghost use lib.Seq.{sets};
 ghost use Rattle.gradient.specs.Ramp.{anyColour};
 ghost use Rattle.linearize.specs.Constants.{cells, rowLength, recordLength};
@@ -79,17 +79,25 @@ fn stop_refusal(room: usize, n: usize, last: f32, t: f32, c: Rgba) -> u8
     0
 }
 
-pub(crate) fn put_colour(out: &mut [f32], k: usize, c: Rgba)
-    requires { ⌜ k + 4 ≤ length (now out) ⌝ }
+// Stores x at i; past the end nothing is stored.
+fn put(out: &mut [f32], i: usize, x: f32)
+    ensures { λ _. ⌜ now (out .exit) ≡ set (now (out .entry)) i x ⌝ }
+{
+    if i < out.len() {
+        out[i] = x;
+    }
+}
+
+// Stores the four numbers of a colour from k on, as many as there is room for.
+pub fn put_colour(out: &mut [f32], k: usize, c: Rgba)
     ensures { λ _. ⌜ now (out .exit) ≡ sets (now (out .entry)) k (channelsOf c) ⌝ }
 {
-    let green = k + 1;
-    let blue = k + 2;
-    let alpha = k + 3;
-    out[k] = c.r;
-    out[green] = c.g;
-    out[blue] = c.b;
-    out[alpha] = c.a;
+    if k < out.len() {
+        put(out, k, c.r);
+        put(out, k + 1, c.g);
+        put(out, k + 2, c.b);
+        put(out, k + 3, c.a);
+    }
 }
 
 // Writes a stop at p, unless it is refused.

@@ -14,16 +14,17 @@ use Rattle.sqrt.proofs.Prints.{root-bits, root-prints, table as roots}
 use Rattle.decimal.specs.Decimal.{areDigits, valueAfter, beforePoint, afterPoint, numberOf, unsignedOf, readOf}
 use Rattle.decimal.specs.declared.Token.{Token}
 use Rattle.decimal.specs.declared.Token.the-variants.{Number, NoNumber}
-use Rattle.gradient.specs.Blend.{linear, smooth}
-use Rattle.gradient.specs.Basis.{weightsOf, weighed, basis}
-use Rattle.gradient.specs.CatmullRom.{chord, tangent, cubic, coefficientsOf, segmentOf, cubicAt, segmentAt}
-use Rattle.gradient.specs.Place.{firstAt, placeOf}
-use Rattle.gradient.specs.Pair.{linearPair, smoothPair, basisPair, catmullPair, beyond, leftOf, rightOf, pairOf, between, colourIn}
+use Rattle.blend.specs.Blend.{linear, smooth}
+use Rattle.blend.specs.Basis.{weightsOf, weighed, basis}
+use Rattle.blend.specs.CatmullRom.{chord, tangent, cubic, coefficientsOf, segmentOf, cubicAt, segmentAt}
+use Rattle.blend.specs.Pair.{linearPair, smoothPair, basisPair, catmullPair}
+use Rattle.stops.specs.Place.{firstAt, placeOf}
+use Rattle.stops.specs.Pair.{beyond, leftOf, rightOf, pairOf, between, colourIn}
+use Rattle.stops.specs.declared.Kind.{Kind}
+use Rattle.stops.specs.declared.Kind.the-variants.{Linear, Smoothstep, Basis, CatmullRom, Gimp}
 use Rattle.gradient.specs.Gimp.{search, segmentFor, along, linearFactor, bent, blended, segmentColour, offDomain, gimpColour}
 use Rattle.gradient.specs.Ramp.{colourOf}
 use Rattle.gradient.specs.Sharp.{sharpPositions}
-use Rattle.gradient.specs.declared.Kind.{Kind}
-use Rattle.gradient.specs.declared.Kind.the-variants.{Linear, Smoothstep, Basis, CatmullRom, Gimp}
 use Rattle.gradient.proofs.SharpExamples.{prints}
 
 -- what the definitions give, and what document 01 prints

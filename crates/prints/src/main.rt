@@ -2,14 +2,14 @@
 // A number is 8 hex digits of its bits.
 ghost use Prim.Native.Nat.{_+_, _≤_, _<_};
 ghost use lib.ListN.{length};
+use blend::Rgba;
 use colorgrad::Answer;
 use decimal::Token;
-use gradient::Kind;
-use gradient::Rgba;
 use gradient::sharp::Built;
 use libc::STDOUT_FILENO;
 use linearize::Listed;
 use linearize::Sampler;
+use stops::Kind;
 
 fn out(s: &[u8]) {
     io::write_all(STDOUT_FILENO, s);

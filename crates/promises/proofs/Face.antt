@@ -5,7 +5,7 @@ use Prim.Native.Nat.{ℕ}
 use mathlib.Core.Path.{_≡_, _∙_, ap}
 use mathlib.Core.List.{List}
 use lib.Ieee.{Float}
-use Rattle.gradient.specs.declared.Rgba.{Rgba}
+use Rattle.blend.specs.declared.Rgba.{Rgba}
 use Rattle.sqrt.proofs.Theorems.{cutoff-unique}
 use Rattle.colorgrad_c.specs.Kinds.{kindOf}
 use Rattle.colorgrad_c.specs.Lists.{Shows, sampledShown, listedShown, CodedSamples, CodedThins, CodedFlattens}

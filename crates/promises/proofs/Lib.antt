@@ -3,9 +3,12 @@
 pub mod Float
 pub mod Sqrt
 pub mod Decimal
+pub mod Blend
+pub mod Stops
 pub mod Gradient
 pub mod Ggr
 pub mod Linearize
+pub mod Refresh
 pub mod Colorgrad
 pub mod Desk
 pub mod Face

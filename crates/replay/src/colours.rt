@@ -1,9 +1,9 @@
 // Stored colours: the refusal of a ramp, or 0, and its colours at some points.
 use crate::Tally;
 use crate::words;
-use gradient::Checked;
-use gradient::Kind;
-use gradient::Rgba;
+use blend::Rgba;
+use stops::Checked;
+use stops::Kind;
 
 fn is_colour(c: Rgba) -> bool {
     let r = words::word();

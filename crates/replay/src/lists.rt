@@ -1,11 +1,10 @@
 // Stored lists: of a ramp, of a record, and of a ramp after one of its stops was given another colour.
 use crate::Tally;
 use crate::words;
-use gradient::Kind;
-use gradient::Rgba;
+use blend::Rgba;
 use linearize::Listed;
 use linearize::Sampler;
-use linearize::refreshing;
+use stops::Kind;
 
 const RECORD: usize = Sampler::CELLS * Sampler::ROW;
 
@@ -190,7 +189,7 @@ fn refresh(
         rows,
         &mut counts,
     );
-    let made = refreshing::refresh_list(
+    let made = refresh::refresh_list(
         kind,
         positions,
         channels,

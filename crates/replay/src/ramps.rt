@@ -3,7 +3,7 @@ use crate::Tally;
 use crate::colours;
 use crate::lists;
 use crate::words;
-use gradient::Kind;
+use stops::Kind;
 
 pub const COLOURS: u32 = 1;
 

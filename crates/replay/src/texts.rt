@@ -1,8 +1,8 @@
 // Stored GIMP texts: the refusal and its line, or 0 and the segments; and the name.
 use crate::Tally;
 use crate::words;
+use blend::Rgba;
 use ggr::Answer;
-use gradient::Rgba;
 
 const MOST_BYTES: usize = 4096;
 

@@ -1,7 +1,7 @@
 -- `rootOf` of each kind of f32, by its pattern. Assumes nothing.
 use mathlib.Core.Path.{_≡_, refl, sym, ap, _∙_, subst}
 use Prim.Native.Nat.{ℕ, zero, suc, _+_, _-_, _*_, _/_, _%_, _^_, _≤_, _<_}
-use native.Mathlib.Nat.{lt-irrefl, mul-div-cancel, zero-mul, mul-pos}
+use native.Mathlib.Nat.{lt-irrefl, mul-div-cancel, zero-mul, mul-one, mul-pos}
 use native.Mathlib.Omega.{arith}
 use mathlib.Core.Bool.{Bool, true, false, not, cond, true≢false}
 use lib.Dec.{T, leb, eqb, le→leb, T-not}
@@ -13,7 +13,6 @@ use lib.Ieee.Exact.{HasValue, odd-sign}
 use lib.Ieee.Fits.{down-pos}
 use Rattle.sqrt.specs.Root.{count, nearestRoot, rootOf}
 use Rattle.sqrt.proofs.Values.{ofBits-is, normal, subnormal}
-use Rattle.sqrt.proofs.Shift.{zeros, unmoved}
 
 -- ---- by the value
 
@@ -44,11 +43,12 @@ below-zero (fin false (suc m) e) a h p = absurd (true≢false (sym (h .0)))
 
 -- ---- by the pattern
 
-at-subnormal : (b : ℕ) → 0 < b → b < 8388608 → rootOf (ofBits binary32 b) ≡ nearestRoot (b * 2 ^ (1 - 1) * 2 ^ 149)
+pub at-subnormal : (b : ℕ) → 0 < b → b < 8388608 → rootOf (ofBits binary32 b) ≡ nearestRoot (b * 2 ^ 149)
 at-subnormal b p h =
     above-zero (ofBits binary32 b) (b * 2 ^ 0) (subst (λ (x : Float). HasValue x false (b * 2 ^ 0) (2 ^ 149)) (sym (subnormal b h)) (odd-sign 24 false b 0 149)) (mul-pos p (pow-pos 0))
+    ∙ ap (λ (n : ℕ). nearestRoot (n * 2 ^ 149)) (mul-one b)
 
-at-normal : (b : ℕ) → 8388608 ≤ b → b < 2139095040 → rootOf (ofBits binary32 b) ≡ nearestRoot ((b % 8388608 + 8388608) * 2 ^ (b / 8388608 - 1) * 2 ^ 149)
+pub at-normal : (b : ℕ) → 8388608 ≤ b → b < 2139095040 → rootOf (ofBits binary32 b) ≡ nearestRoot ((b % 8388608 + 8388608) * 2 ^ (b / 8388608 - 1) * 2 ^ 149)
 at-normal b l h =
     let x = b / 8388608 - 1 in
     let t = b % 8388608 in
@@ -56,38 +56,6 @@ at-normal b l h =
     above-zero (ofBits binary32 b) ((t + 8388608) * 2 ^ x)
     (subst (λ (y : Float). HasValue y false ((t + 8388608) * 2 ^ x) (2 ^ 149)) (sym (normal b x t (omega arith) (omega arith) (omega arith) ∙ ap (λ (n : ℕ). odd 24 false n x 149) e)) (odd-sign 24 false (t + 8388608) x 149))
     (mul-pos {m = t + 8388608} (omega arith) (pow-pos x))
-
--- what `root` reads from the pattern b: the digits m, how far they are moved up, and the exponent's field
-pub record Read (b m z f : ℕ) : Type 0 where
-  pub some : 0 < m
-  pub few : m < 2 ^ 24
-  pub least : 0 < f
-  pub most : f < 255
-  pub shift : z ≡ zeros m
-  pub is : rootOf (ofBits binary32 b) ≡ nearestRoot (m * 2 ^ (f - 1) * 2 ^ 149)
-
-same : (i m j f : ℕ) → m ≡ i → f ≡ j → nearestRoot (i * 2 ^ (j - 1) * 2 ^ 149) ≡ nearestRoot (m * 2 ^ (f - 1) * 2 ^ 149)
-same i m j f e g = sym (ap (λ (x : ℕ). nearestRoot (x * 2 ^ (f - 1) * 2 ^ 149)) e ∙ ap (λ (x : ℕ). nearestRoot (i * 2 ^ (x - 1) * 2 ^ 149)) g)
-
-pub read-subnormal : (b m z f : ℕ) → 0 < b → b < 8388608 → m ≡ b → z ≡ zeros b → f ≡ 1 → Read b m z f
-read-subnormal b m z f p h e k g = record {
-  some = omega arith;
-  few = omega arith;
-  least = omega arith;
-  most = omega arith;
-  shift = k ∙ ap zeros (sym e);
-  is = at-subnormal b p h ∙ same b m 1 f e g;
-}
-
-pub read-normal : (b m z f : ℕ) → 8388608 ≤ b → b < 2139095040 → m ≡ b % 8388608 + 8388608 → z ≡ 0 → f ≡ b / 8388608 → Read b m z f
-read-normal b m z f l h e k g = record {
-  some = omega arith;
-  few = omega arith;
-  least = omega arith;
-  most = omega arith;
-  shift = k ∙ sym (unmoved m (omega arith) (omega arith));
-  is = at-normal b l h ∙ same (b % 8388608 + 8388608) m (b / 8388608) f e g;
-}
 
 empty : (z : Bool) → rootOf (cond z (inf true) nan) ≡ nan
 unfolding rootOf

@@ -1,4 +1,4 @@
--- The shifts of `root_of`: the significand m moved up by its leading zeros, and then by 23 or 24, is the n of 47 or 48 digits whose root is taken. Assumes nothing.
+-- The shifts of `root_of_subnormal` and `root_of_normal`: the significand m moved up by its leading zeros, and then by 23 or 24, is the n of 47 or 48 digits whose root is taken. Assumes nothing.
 use mathlib.Core.Path.{_≡_, refl, sym, ap, _∙_, subst}
 use Prim.Native.Nat.{ℕ, zero, suc, _+_, _-_, _*_, _/_, _%_, _^_, _≤_, _<_}
 use native.Mathlib.Nat.{mod-eq-of-lt, not-le-of-lt, lt-of-not-le, le-trans, lt-of-lt-of-le, mul-assoc, mul-le-mul-right, mul-le-mul}
@@ -57,10 +57,10 @@ unmoved m l h = go (zeros m) (moved m (omega arith) h .high)
         absurd (not-le-of-lt k g)
 
 -- as the machine has it, cut to 32 bits
-moved-exact : (m : ℕ) → 0 < m → m < 2 ^ 24 → m * 2 ^ zeros m % 2 ^ 32 ≡ m * 2 ^ zeros m
+pub moved-exact : (m : ℕ) → 0 < m → m < 2 ^ 24 → m * 2 ^ zeros m % 2 ^ 32 ≡ m * 2 ^ zeros m
 moved-exact m p h = mod-eq-of-lt (lt-of-lt-of-le (moved m p h .high) (pow-mono {i = 24} {j = 32} (omega arith)))
 
--- the n of `root_of`, c being field + 127 - zeros m
+-- the n whose root is taken, c being field + 127 - zeros m
 abbrev pub scaled : ℕ → ℕ → ℕ
 scaled m c = m * 2 ^ zeros m * 2 ^ (23 + c % 2)
 
@@ -81,8 +81,12 @@ scaled-high m c p h =
     let g : 2 ^ (23 + c % 2) ≤ 2 ^ 24 = pow-mono {i = 23 + c % 2} {j = 24} (omega arith) in
     mul-le-mul t g
 
+-- how many of the root's digits, in units, are dropped
+abbrev pub dropped : ℕ → ℕ → ℕ
+dropped m f = (f + 127 - zeros m) / 2 - 1
+
 -- what is rooted is n times a power of four
-pub regroup : (m f : ℕ) → 0 < m → m < 2 ^ 24 → 0 < f → m * 2 ^ (f - 1) * 2 ^ 149 ≡ scaled m (f + 127 - zeros m) * 4 ^ ((f + 127 - zeros m) / 2 - 1)
+pub regroup : (m f : ℕ) → 0 < m → m < 2 ^ 24 → 0 < f → m * 2 ^ (f - 1) * 2 ^ 149 ≡ scaled m (f + 127 - zeros m) * 4 ^ dropped m f
 regroup m f p h g =
     let z = zeros m in
     let c = f + 127 - z in
@@ -95,34 +99,72 @@ regroup m f p h g =
     ∙ sym (mul-assoc (m * 2 ^ z) (2 ^ (23 + c % 2)) (2 ^ (k + k)))
     ∙ ap (λ (x : ℕ). scaled m c * x) (pow-add 2 k k ∙ sym (four-pow k))
 
+-- n and k are what `root_of` may be asked for m units times 2 ^ (f - 1)
+pub record Taken (m f n k : ℕ) : Type 0 where
+  pub low : 2 ^ 46 ≤ n
+  pub high : n ≤ (2 ^ 24 - 1) * 2 ^ 24
+  pub few : k < 200
+  pub is : nearestRoot (n * 4 ^ k) ≡ nearestRoot (m * 2 ^ (f - 1) * 2 ^ 149)
+
+pub taken : (m f n k : ℕ) → 0 < m → m < 2 ^ 24 → 0 < f → f < 255 → n ≡ scaled m (f + 127 - zeros m) → k ≡ dropped m f → Taken m f n k
+taken m f n k p h g l e d =
+    let lo : 2 ^ 46 ≤ scaled m (f + 127 - zeros m) = scaled-low m (f + 127 - zeros m) p h in
+    let hi : scaled m (f + 127 - zeros m) ≤ (2 ^ 24 - 1) * 2 ^ 24 = scaled-high m (f + 127 - zeros m) p h in
+    record {
+      low = subst (λ (x : ℕ). 2 ^ 46 ≤ x) (sym e) lo;
+      high = subst (λ (x : ℕ). x ≤ (2 ^ 24 - 1) * 2 ^ 24) (sym e) hi;
+      few = omega arith;
+      is = ap (λ (x : ℕ). nearestRoot (x * 4 ^ k)) e ∙ ap (λ (x : ℕ). nearestRoot (scaled m (f + 127 - zeros m) * 4 ^ x)) d ∙ ap nearestRoot (sym (regroup m f p h g));
+    }
+
+-- ---- a pattern b that is not subnormal: its digits have 24 places already
+
+-- the digits of b, with the one that a pattern leaves out
+abbrev pub digits : ℕ → ℕ
+digits b = b % 8388608 + 8388608
+
+pub still : (b : ℕ) → zeros (digits b) ≡ 0
+still b = unmoved (digits b) (omega arith) (omega arith)
+
+-- n is read off the digits and the exponent's last one, which stand side by side in b
+scaled-by : (b p : ℕ) → (b / 8388608 + 127 - 0) % 2 ≡ p → scaled (digits b) (b / 8388608 + 127 - zeros (digits b)) ≡ digits b * 2 ^ 0 * 2 ^ (23 + p)
+scaled-by b p e =
+    ap (λ (z : ℕ). digits b * 2 ^ z * 2 ^ (23 + (b / 8388608 + 127 - z) % 2)) (still b)
+    ∙ ap (λ (x : ℕ). digits b * 2 ^ 0 * 2 ^ (23 + x)) e
+
+even : (f h : ℕ) → f ≡ 2 * h → (f + 127 - 0) % 2 ≡ 1
+even f h e = omega arith
+
+odd : (f h : ℕ) → f ≡ 2 * h + 1 → (f + 127 - 0) % 2 ≡ 0
+odd f h e = omega arith
+
+pub scaled-even : (b s : ℕ) → b % 16777216 < 8388608 → s ≡ 2 * (b % 16777216) + 16777216 → s * 8388608 ≡ scaled (digits b) (b / 8388608 + 127 - zeros (digits b))
+scaled-even b s h e =
+    let d : s ≡ 2 * digits b = omega arith in
+    let g : s * 8388608 ≡ digits b * 1 * 16777216 = omega arith in
+    let f : b / 8388608 ≡ 2 * (b / 16777216) = omega arith in
+    g ∙ sym (scaled-by b 1 (even (b / 8388608) (b / 16777216) f))
+
+pub scaled-odd : (b s : ℕ) → 8388608 ≤ b % 16777216 → s ≡ b % 16777216 → s * 8388608 ≡ scaled (digits b) (b / 8388608 + 127 - zeros (digits b))
+scaled-odd b s h e =
+    let d : s ≡ digits b = omega arith in
+    let g : s * 8388608 ≡ digits b * 1 * 8388608 = omega arith in
+    let f : b / 8388608 ≡ 2 * (b / 16777216) + 1 = omega arith in
+    g ∙ sym (scaled-by b 0 (odd (b / 8388608) (b / 16777216) f))
+
 -- ---- from the whole number nearest to the root of n to the root's pattern
 
--- the k of `root_of`: how many of the root's digits, in units, are dropped
-abbrev pub dropped : ℕ → ℕ → ℕ
-dropped m f = (f + 127 - zeros m) / 2 - 1
-
-pub record Found (m f q : ℕ) : Type 0 where
-  pub low : 2 ^ 23 ≤ q
+pub record Found (n k q : ℕ) : Type 0 where
   pub high : q < 2 ^ 24
-  pub least : 1 ≤ (f + 127 - zeros m) / 2
-  pub most : dropped m f < 200
-  pub is : ofBits binary32 (dropped m f * 8388608 + q) ≡ nearestRoot (m * 2 ^ (f - 1) * 2 ^ 149)
+  pub is : ofBits binary32 (k * 8388608 + q) ≡ nearestRoot (n * 4 ^ k)
 
-pub found : (m f q : ℕ) → 0 < m → m < 2 ^ 24 → 0 < f → f < 255 → Near (scaled m (f + 127 - zeros m)) q → Found m f q
-found m f q p h g l near =
-    let n = scaled m (f + 127 - zeros m) in
-    let few : zeros m ≤ 23 = moved m p h .few in
-    let lo : 2 ^ 46 ≤ n = scaled-low m (f + 127 - zeros m) p h in
-    let hi : n ≤ (2 ^ 24 - 1) * 2 ^ 24 = scaled-high m (f + 127 - zeros m) p h in
+pub found : (n k q : ℕ) → 2 ^ 46 ≤ n → n ≤ (2 ^ 24 - 1) * 2 ^ 24 → k < 200 → Near n q → Found n k q
+found n k q lo hi k-lt near =
     let q-hi : q ≤ 2 ^ 24 - 1 = order n (2 ^ 24 - 1) q (omega arith) (near .0) in
     let q-lo : 2 ^ 23 ≤ q = order n q (2 ^ 23) (near .1) (omega arith) in
     let q-lt : q < 2 ^ 24 = omega arith in
     let n-lt : n < 2 ^ 48 = omega arith in
-    let k-lt : dropped m f < 200 = omega arith in
     record {
-      low = q-lo;
       high = q-lt;
-      least = omega arith;
-      most = k-lt;
-      is = pattern q (dropped m f) q-lo q-lt k-lt ∙ sym (nearestRoot-at n (dropped m f) q lo n-lt near) ∙ ap nearestRoot (sym (regroup m f p h g));
+      is = pattern q k q-lo q-lt k-lt ∙ sym (nearestRoot-at n k q lo n-lt near);
     }

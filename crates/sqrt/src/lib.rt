@@ -1,7 +1,7 @@
 // The correctly rounded square root of an f32, for every f32, worked out from its bits.
 ghost use mathlib.Core.Path.{_≡_};
-ghost use Prim.Native.Nat.{_+_, _-_, _*_, _<_, _≤_, _^_};
-ghost use lib.Count.{leadingZeros};
+ghost use Prim.Native.Nat.{_+_, _-_, _*_, _/_, _%_, _<_, _≤_, _^_};
+ghost use lib.Ieee.{binary32, ofBits};
 ghost use Rattle.sqrt.specs.Root.{nearestRoot, rootOf};
 
 pub mod half_root;
@@ -18,26 +18,24 @@ const INFINITY: u32 = 0x7f80_0000;
 // The weight of the sign: the pattern of -0.
 const SIGN: u32 = 0x8000_0000;
 
-// The chord of a piece, and the bow above it, at a place of the piece, in units of 2 ^ -32.
-fn arc(start: u32, slope: u32, bow: u32, change: u32, done: u64) -> u64
-    requires { ⌜ done < 2 ^ 18 ⌝ }
+// A place of a piece: from its start up by a slope that falls to the one at its end, in units of 2 ^ -32.
+fn arc(start: u32, slope: u32, fall: u32, done: u64) -> u64
+    requires { ⌜ done < 2 ^ 17 ⌝ }
     ensures { λ r. ⌜ r < 2 ^ 32 ⌝ }
 {
-    let left = 0x3_ffff - done;
-    let chord = start as u64 * 0x100_0000 + done * slope as u64;
-    let high = done * left / 0x4000 * (bow as u64 + left * change as u64 / 0x4_0000);
-    (chord + high) / 0x1_0000_0000
+    let left = 0x1_ffff - done;
+    let steep = slope as u64 + left * fall as u64 / 0x1_0000;
+    (start as u64 * 0x100_0000 + done * steep) / 0x1_0000_0000
 }
 
-// About the root of n, which is s * 2 ^ 23, or twice that where odd is 1: on each of 32 pieces of the range of s
-// a chord and a bow. Its closeness is not promised: where it is off, `nearest_root` takes longer and gives the
-// same answer.
-fn guess(s: u64, odd: u64) -> u64
-    requires { ⌜ odd < 2 ⌝ }
+// About the significand of the root of the pattern b, by a parabola on each of 64 pieces of the significand, for an
+// even and an odd exponent. Its closeness is not promised: where it is off, `nearest_root` takes longer and gives
+// the same answer.
+fn guess(b: u32) -> u64
     ensures { λ r. ⌜ r < 2 ^ 32 ⌝ }
 {
-    let p = piece(odd * 32 + s / 0x4_0000 % 32);
-    arc(p[0], p[1], p[2], p[3], s % 0x4_0000)
+    let p = piece(b / 0x2_0000 % 128);
+    arc(p[0], p[1], p[2], (b % 0x2_0000) as u64)
 }
 
 // The whole number nearest to the root of n, by steps from any start.
@@ -55,32 +53,78 @@ fn walk_to_root(n: u64, start: u64) -> u64
     q
 }
 
-// The same, and at once where the start is the one.
+// The same, and at once where the start is the one: what its square and itself are above n is then below 2 * start. Where
+// they are below n, the difference wraps to a number that is larger.
 fn nearest_root(n: u64, start: u64) -> u64
     requires { ⌜ (0 < n) × (n < 2 ^ 48) × (start < 2 ^ 32) ⌝ }
     ensures { λ r. ⌜ (r * r < n + r) × (n ≤ r * r + r) ⌝ }
 {
-    let low = start * start - start;
-    if low < n {
-        if n - low <= 2 * start {
-            return start;
-        }
+    if std::num::wrapping_sub_u64(start * start + start, n) < 2 * start {
+        return start;
     }
     walk_to_root(n, start)
 }
 
-// The root of m units times 2 ^ (field - 1), a unit being 2 ^ -149. Moved up by z, as its leading
-// zeros say, the significand m has 24 digits: a subnormal is so normalised, and what is not is moved by none.
-// Half of c is the root's exponent; where c is odd, n has the one place more.
-fn root_of(m: u32, z: u32, field: u32) -> f32
-    requires { ⌜ (0 < m) × (m < 2 ^ 24) × (0 < field) × (field < 255) × (z ≡ leadingZeros 32 m - 8) ⌝ }
-    ensures { λ r. ⌜ r ≡ nearestRoot (m * 2 ^ (field - 1) * 2 ^ 149) ⌝ }
+// What a root is taken of: n * 4 ^ k units of 2 ^ -149. The guess is taken at the pattern `at`.
+struct Radicand {
+    n: u64,
+    k: u32,
+    at: u32,
+}
+
+// That of the pattern b of a number that is not subnormal. Its digits are 24; where the exponent's field is even, n has
+// the one place more. Half of the exponent is the root's.
+fn normal(b: u32) -> Radicand
+    requires { ⌜ (0x80_0000 ≤ b) × (b < 0x7f80_0000) ⌝ }
+    ensures { λ r. ⌜ (2 ^ 46 ≤ r .n) × (r .n ≤ (2 ^ 24 - 1) * 2 ^ 24) × (r .k < 200) ⌝ }
+    ensures { λ r. ⌜ nearestRoot (r .n * 4 ^ r .k) ≡ rootOf (ofBits binary32 b) ⌝ }
 {
-    let c = field + 127 - z;
-    let s = (m << z) as u64;
-    let n = s << (23 + c % 2);
-    let q = nearest_root(n, guess(s, (c % 2) as u64)) as u32;
-    f32::from_bits((c / 2 - 1) * FIELD + q)
+    let mut s = b % (2 * FIELD);
+    if s < FIELD {
+        s = 2 * s + 2 * FIELD;
+    }
+    Radicand {
+        n: s as u64 * FIELD as u64,
+        k: (b / FIELD + 125) / 2,
+        at: b,
+    }
+}
+
+// That of the pattern b of a subnormal. Moved up by z, as its leading zeros say, b has 24 digits. Half of c is the root's
+// exponent; where c is odd, n has the one place more.
+fn subnormal(b: u32) -> Radicand
+    requires { ⌜ (0 < b) × (b < 0x80_0000) ⌝ }
+    ensures { λ r. ⌜ (2 ^ 46 ≤ r .n) × (r .n ≤ (2 ^ 24 - 1) * 2 ^ 24) × (r .k < 200) ⌝ }
+    ensures { λ r. ⌜ nearestRoot (r .n * 4 ^ r .k) ≡ rootOf (ofBits binary32 b) ⌝ }
+{
+    let z = u32::leading_zeros(b) - 8;
+    let c = 128 - z;
+    let s = b << z;
+    Radicand {
+        n: (s as u64) << (23 + c % 2),
+        k: c / 2 - 1,
+        at: s + c % 2 * FIELD,
+    }
+}
+
+fn read(b: u32) -> Radicand
+    requires { ⌜ (0 < b) × (b < 0x7f80_0000) ⌝ }
+    ensures { λ r. ⌜ (2 ^ 46 ≤ r .n) × (r .n ≤ (2 ^ 24 - 1) * 2 ^ 24) × (r .k < 200) ⌝ }
+    ensures { λ r. ⌜ nearestRoot (r .n * 4 ^ r .k) ≡ rootOf (ofBits binary32 b) ⌝ }
+{
+    if b < FIELD {
+        return subnormal(b);
+    }
+    normal(b)
+}
+
+// Its root. With one caller the compiler puts it in place.
+fn root_of(n: u64, k: u32, at: u32) -> f32
+    requires { ⌜ (2 ^ 46 ≤ n) × (n ≤ (2 ^ 24 - 1) * 2 ^ 24) × (k < 200) ⌝ }
+    ensures { λ r. ⌜ r ≡ nearestRoot (n * 4 ^ k) ⌝ }
+{
+    let q = nearest_root(n, guess(at)) as u32;
+    f32::from_bits(k * FIELD + q)
 }
 
 // The f32 nearest to the root of x, a tie to the even one. -0, +0 and infinity give themselves; below zero, and
@@ -92,20 +136,11 @@ pub fn root(x: f32) -> f32
         return x;
     }
     let b = f32::to_bits(x);
-    // One call for subnormals and the others: the compiler puts it in place, and counts the zeros of subnormals only.
-    let mut m = b % FIELD + FIELD;
-    let mut z = 0;
-    let mut field = b / FIELD;
-    if b < FIELD {
-        if b == 0 {
-            return x;
+    if 0 < b {
+        if b < INFINITY {
+            let a = read(b);
+            return root_of(a.n, a.k, a.at);
         }
-        m = b;
-        z = u32::leading_zeros(b) - 8;
-        field = 1;
-    }
-    if b < INFINITY {
-        return root_of(m, z, field);
     }
     if b <= SIGN {
         return x;

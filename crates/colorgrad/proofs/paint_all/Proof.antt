@@ -1,7 +1,7 @@
 -- `paint_all` meets its contract: by the kind. Assumes nothing.
 use mathlib.Core.Path.{refl}
 use denote.Ref.{now}
-use Rattle.gradient.specs.declared.Kind.the-variants.{Linear, Smoothstep, Sharp, Basis, CatmullRom}
+use Rattle.stops.specs.declared.Kind.the-variants.{Linear, Smoothstep, Sharp, Basis, CatmullRom}
 use Rattle.colorgrad.proofs.Painting.{ready, cut, as-stops, as-kept, as-gimp}
 use borrow.Author.Needs.{needs}
 use Rattle.colorgrad.proofs.paint_all.Statement.{statement}

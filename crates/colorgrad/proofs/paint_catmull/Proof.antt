@@ -9,8 +9,8 @@ use lib.ListN.{length, take, drop}
 use lib.Seq.{sets, length-sets}
 use lib.Ieee.{Float}
 use Rattle.colorgrad.proofs.Filling.{colours-next, colours-done}
-use Rattle.gradient.specs.Near.{segmentFor}
-use Rattle.gradient.specs.declared.Kind.the-variants.{CatmullRom}
+use Rattle.stops.specs.Near.{segmentFor}
+use Rattle.stops.specs.declared.Kind.the-variants.{CatmullRom}
 use Rattle.colorgrad.specs.Canvas.{channelsOf, colours, stopColour}
 use Rattle.colorgrad.proofs.Painting.{kept-colour}
 use Rattle.colorgrad.proofs.paint_catmull.Statement.{statement}

@@ -2,7 +2,7 @@
 use mathlib.Core.Path.{sym, _∙_, ap}
 use Prim.Native.Nat.{ℕ}
 use denote.Ref.{now}
-use Rattle.gradient.specs.Near.{segmentFor}
+use Rattle.stops.specs.Near.{segmentFor}
 use borrow.Author.Needs.{needs}
 use Rattle.colorgrad.proofs.renewed.Statement.{statement}
 use Rattle.colorgrad.proofs.renewed.Tie as tie

@@ -2,7 +2,7 @@
 use mathlib.Core.Path.{sym, _∙_, ap}
 use Prim.Native.Nat.{ℕ}
 use denote.Ref.{now}
-use Rattle.gradient.specs.Stops.{posAt}
+use Rattle.stops.specs.Stops.{posAt}
 use Rattle.gradient.specs.Ramp.{maxOf}
 use borrow.Author.Needs.{needs}
 use Rattle.gradient.proofs.max_of.Statement.{statement}

@@ -7,6 +7,7 @@ use Rattle.linearize.specs.Cells.{samplingEvaluations}
 use Rattle.linearize.specs.Places.{listOf}
 use Rattle.linearize.specs.Kept.{roomOf}
 use Rattle.linearize.specs.Desk.{farOf, evaluationsOfListed}
+use Rattle.linearize.proofs.Thresholds.{far-by-cutoff}
 use Rattle.linearize.proofs.Filling.{record-ready}
 use Rattle.linearize.proofs.Bounds.{tries-bound, answer-bound}
 use Rattle.linearize.proofs.Following.{list-some, list-most}
@@ -90,7 +91,7 @@ returns-2 c =
     let w = fresh (a .kind) (a .positions .now) (a .channels .now) (a .codes .now) (a .threshold) (a .rows .now) (a .counts .now) rows′ counts′ (n .0 .0) (k .result) (n .1) (k .ensures) in
     let h = c .before .before .before .before .before .thin-record in
     flatten-done (a .kind) (a .positions .now) (a .channels .now) (a .codes .now) (a .threshold) (a .rows .now) (a .counts .now) (a .out-positions .now) (a .out-channels .now) (exceeds (c .before .before .before .before .before .before .before .before .before .before .before .cutoff-of .result)) (c .before .before .before .before .before .before .before .before .before .before .max-of .result)
-    rows′ counts′ (n .0 .0) (h .last .1 .1 .1 .1 .1 .1 .1 .1 .0) (h .last .1 .1 .1 .1 .1 .1 .1 .1 .1 .0) (h .result) (c .with-sampling .result) w (c .before .before .before .before .before .before .before .before .before .before .before .cutoff-of .ensures) (c .before .before .before .before .before .before .before .before .before .before .max-of .ensures) (h .ensures) (c .with-sampling .ensures)
+    rows′ counts′ (n .0 .0) (h .last .1 .1 .1 .1 .1 .1 .1 .1 .0) (h .last .1 .1 .1 .1 .1 .1 .1 .1 .1 .0) (h .result) (c .with-sampling .result) w (far-by-cutoff _ _ (c .before .before .before .before .before .before .before .before .before .before .before .cutoff-of .ensures)) (c .before .before .before .before .before .before .before .before .before .before .max-of .ensures) (h .ensures) (c .with-sampling .ensures)
 
 pub flatten-spec : {M : Type 1} → statement M
 flatten-spec =

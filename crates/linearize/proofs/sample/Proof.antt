@@ -3,6 +3,7 @@ use mathlib.Core.Path.{sym, _∙_}
 use native.Mathlib.Omega.{arith}
 use Rattle.gradient.specs.Ramp.{anyColour}
 use Rattle.linearize.specs.Difference.{exceeds}
+use Rattle.linearize.proofs.Thresholds.{far-by-cutoff}
 use Rattle.linearize.proofs.Bounds.{tries-bound}
 use Rattle.linearize.proofs.Checks.{record-lengths}
 use Rattle.linearize.proofs.Answers.{sample-refused, sample-done}
@@ -50,7 +51,7 @@ returns-2 : tie.Need-returns-2
 returns-2 c =
     let s = (c .before .before .before .before .before .before .before .before .before .before .before .before .before .before .before .before .before .before) in
     sample-done (s .args .kind) (s .args .positions .now) (s .args .channels .now) (s .args .codes .now) (s .args .threshold) (s .args .rows .now) (s .args .counts .now) (exceeds (c .before .before .before .before .before .before .before .before .before .cutoff-of .result)) (c .before .before .before .before .before .before .before .before .min-of .result) (c .before .before .before .before .before .before .before .max-of .result) (c .before .before .before .before .sample-cells .last .1 .1 .1 .1 .1 .1 .1 .0) (c .before .before .before .before .sample-cells .last .1 .1 .1 .1 .1 .1 .1 .1 .0) (c .before .before .before .before .sample-cells .result)
-    (sym (c .before .before .before .before .before .before .before .before .before .before .before .before .check-sample .ensures) ∙ c .before .before .before .before .before .before .before .before .before .before .enum-told .given .1) (c .before .before .before .before .before .before .before .before .before .cutoff-of .ensures) (c .before .before .before .before .before .before .before .before .min-of .ensures) (c .before .before .before .before .before .before .before .max-of .ensures) (c .before .before .before .before .sample-cells .ensures)
+    (sym (c .before .before .before .before .before .before .before .before .before .before .before .before .check-sample .ensures) ∙ c .before .before .before .before .before .before .before .before .before .before .enum-told .given .1) (far-by-cutoff _ _ (c .before .before .before .before .before .before .before .before .before .cutoff-of .ensures)) (c .before .before .before .before .before .before .before .before .min-of .ensures) (c .before .before .before .before .before .before .before .max-of .ensures) (c .before .before .before .before .sample-cells .ensures)
 
 pub sample-spec : {M : Type 1} → statement M
 sample-spec =

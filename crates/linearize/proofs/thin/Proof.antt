@@ -3,6 +3,7 @@ use mathlib.Core.Path.{sym, _∙_}
 use Rattle.linearize.proofs.Checks.{ready}
 use Rattle.linearize.proofs.Answers.{thin-refused, thin-done}
 use Rattle.linearize.specs.Difference.{exceeds}
+use Rattle.linearize.proofs.Thresholds.{far-by-cutoff}
 use borrow.Author.Needs.{needs}
 use Rattle.linearize.proofs.thin.Statement.{statement}
 use Rattle.linearize.proofs.thin.Tie as tie
@@ -39,7 +40,7 @@ returns-2 c =
     let a = c .before .before .before .before .before .before .before .before .before .before .before .before .before .before .before .before .before .before .before .args in
     let h = (c .before .before .before .before .thin-record) in
     thin-done (a .kind) (a .positions .now) (a .channels .now) (a .codes .now) (a .threshold) (a .rows .now) (a .counts .now) (a .out-positions .now) (a .out-channels .now) (exceeds (c .before .before .before .before .before .before .before .before .cutoff-of .result)) (c .before .before .before .before .before .before .before .max-of .result)
-    (h .last .1 .1 .1 .1 .1 .1 .1 .1 .0) (h .last .1 .1 .1 .1 .1 .1 .1 .1 .1 .0) (h .result) (sym (c .before .before .before .before .before .before .before .before .before .before .before .check-thin .ensures) ∙ c .before .before .before .before .before .before .before .before .before .enum-told .given .1) (c .before .before .before .before .before .before .before .before .cutoff-of .ensures) (c .before .before .before .before .before .before .before .max-of .ensures) (h .ensures)
+    (h .last .1 .1 .1 .1 .1 .1 .1 .1 .0) (h .last .1 .1 .1 .1 .1 .1 .1 .1 .1 .0) (h .result) (sym (c .before .before .before .before .before .before .before .before .before .before .before .check-thin .ensures) ∙ c .before .before .before .before .before .before .before .before .before .enum-told .given .1) (far-by-cutoff _ _ (c .before .before .before .before .before .before .before .before .cutoff-of .ensures)) (c .before .before .before .before .before .before .before .max-of .ensures) (h .ensures)
 
 pub thin-spec : {M : Type 1} → statement M
 thin-spec =

@@ -11,8 +11,7 @@ use lib.Ieee.Bits.{ofBits-toBits, toBits-lt}
 use Rattle.sqrt.specs.Root.{rootOf}
 use lib.Ieee.Compare.{differs-from-itself}
 use Rattle.sqrt.proofs.Values.{is-number}
-use Rattle.sqrt.proofs.Cases.{Read, read-subnormal, read-normal, at-zero, at-itself, at-below}
-use Rattle.sqrt.proofs.Shift.{moved}
+use Rattle.sqrt.proofs.Cases.{at-zero, at-itself, at-below}
 use Rattle.sqrt.proofs.root.Statement.{statement}
 use Rattle.sqrt.proofs.root.Tie as tie
 
@@ -44,36 +43,27 @@ returns c = let e = differs-from-itself (c .before .args .x) (subst T (sym (c .i
 float-to-bits-b : tie.Need-float-to-bits-b
 float-to-bits-b c = is-number (c .before .args .x) (c .if1 .left)
 
-add-m : tie.Need-add-m
-add-m c = search needs
-
-returns-2 : tie.Need-returns-2
-returns-2 c = itself (c .before .before .before) (subst (λ (b : ℕ). rootOf (ofBits binary32 b) ≡ ofBits binary32 b) (sym (c .if3 .taken)) at-zero)
-
-sub-z : tie.Need-sub-z
-sub-z c = let b = toBits binary32 (c .before .before .before .args .x) in moved b (omega arith) (omega arith) .enough
-
--- the two ways to the digits meet
-read : (c : tie.Then4) → Read (toBits binary32 (c .before .before .before .args .x)) (c .before .if2 .m) (c .before .if2 .z) (c .before .if2 .field)
-read c =
-    let b = toBits binary32 (c .before .before .before .args .x) in
-    let j = c .before .if2 in
-    ⊎-elim
-    (λ w. read-subnormal b (j .m) (j .z) (j .field) (omega arith) (w .0 .taken) (w .2) (w .3) (w .4))
-    (λ w. read-normal b (j .m) (j .z) (j .field) (w .0 .left) (omega arith) (w .1) (w .2) (w .3))
-    (j .came)
+read-requires : tie.Need-read-requires
+read-requires c κs = search needs
 
 root-of-requires : tie.Need-root-of-requires
-root-of-requires c κs = let r = read c in (r .some, r .few, r .least, r .most, r .shift)
+root-of-requires c κs = search needs
+
+returns-2 : tie.Need-returns-2
+returns-2 c = by-pattern (c .before .before .before .before .before) (c .root-of .result) (sym (c .root-of .ensures ∙ c .before .read .ensures .1))
 
 returns-3 : tie.Need-returns-3
-returns-3 c = by-pattern (c .before .before .before .before) (c .root-of .result) (read (c .before) .is ∙ sym (c .root-of .ensures))
+returns-3 c =
+    let s = c .before .before .before in
+    let b = toBits binary32 (s .args .x) in
+    itself s
+    (⊎-elim
+    (λ w. at-itself b (w .1 .left) (c .if4 .taken) (subst (λ (x : Float). T (not (isNan x))) (sym (back s)) (is-number (s .args .x) (c .before .before .if1 .left))))
+    (λ w. let h = w .left in let e : b ≡ 0 = omega arith in subst (λ (n : ℕ). rootOf (ofBits binary32 n) ≡ ofBits binary32 n) (sym e) at-zero)
+    (c .before .if2 .came))
 
 returns-4 : tie.Need-returns-4
-returns-4 c = let s = c .before .before .before .before in let b = toBits binary32 (s .args .x) in itself s (at-itself b (omega arith) (omega arith) (subst (λ (x : Float). T (not (isNan x))) (sym (back s)) (is-number (s .args .x) (c .before .before .before .if1 .left))))
-
-returns-5 : tie.Need-returns-5
-returns-5 c = let s = c .before .before .before .before in let b = toBits binary32 (s .args .x) in by-pattern s (div binary32 (ofBits binary32 0) (ofBits binary32 0)) (at-below b (omega arith) (toBits-lt binary32 (s .args .x) (held s)) ∙ sym zero-by-zero)
+returns-4 c = let s = c .before .before .before in by-pattern s (div binary32 (ofBits binary32 0) (ofBits binary32 0)) (at-below (toBits binary32 (s .args .x)) (c .if4 .left) (toBits-lt binary32 (s .args .x) (held s)) ∙ sym zero-by-zero)
 
 pub root-spec : {M : Type 1} → statement M
-root-spec = tie.close (tie.spec returns float-to-bits-b add-m returns-2 sub-z root-of-requires returns-3 returns-4 returns-5)
+root-spec = tie.close (tie.spec returns float-to-bits-b read-requires root-of-requires returns-2 returns-3 returns-4)

@@ -2,8 +2,8 @@
 use borrow.Author.Needs.{needs}
 use mathlib.Core.Path.{refl}
 use denote.Ref.{now}
-use Rattle.gradient.specs.Pair.{colourIn}
-use Rattle.gradient.specs.declared.Place.the-variants.{End, Nowhere, Between}
+use Rattle.stops.specs.Pair.{colourIn}
+use Rattle.stops.specs.declared.Place.the-variants.{End, Nowhere, Between}
 use Rattle.colorgrad.proofs.Searching.{placed-colour, placed-inside}
 use Rattle.colorgrad.proofs.pairs.colour_in.Statement.{statement}
 use Rattle.colorgrad.proofs.pairs.colour_in.Tie as tie

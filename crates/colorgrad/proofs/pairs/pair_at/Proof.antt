@@ -3,9 +3,9 @@ use borrow.Author.Needs.{needs}
 use mathlib.Core.Path.{refl}
 use denote.Ref.{now}
 use lib.ListN.{length}
-use Rattle.gradient.specs.Pair.{pairOf, colourIn}
-use Rattle.gradient.specs.declared.Kind.the-variants.{Linear, Smoothstep}
-use Rattle.gradient.proofs.Pairs.{by-kind, by-sharp, by-pair}
+use Rattle.stops.specs.Pair.{pairOf, colourIn}
+use Rattle.stops.specs.declared.Kind.the-variants.{Linear, Smoothstep}
+use Rattle.stops.proofs.Pairs.{by-kind, by-sharp, by-pair}
 use Rattle.colorgrad.proofs.pairs.pair_at.Statement.{statement}
 use Rattle.colorgrad.proofs.pairs.pair_at.Tie as tie
 

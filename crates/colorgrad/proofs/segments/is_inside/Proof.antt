@@ -4,9 +4,9 @@ use native.Mathlib.Omega.{arith}
 use denote.Ref.{now}
 use lib.ListN.{length}
 use lib.Ieee.{lt}
+use Rattle.stops.proofs.Narrowing.{passed-over}
+use Rattle.stops.proofs.Nearby.{both-yes}
 use Rattle.gradient.specs.Gimp.{leftAt, rightAt}
-use Rattle.gradient.proofs.Narrowing.{passed-over}
-use Rattle.gradient.proofs.Nearby.{both-yes}
 use Rattle.colorgrad.proofs.segments.is_inside.Statement.{statement}
 use Rattle.colorgrad.proofs.segments.is_inside.Tie as tie
 

@@ -1,4 +1,4 @@
--- `colorgrad_refresh_list` meets its contract: the call of `linearize` for the kind of the code, its answer shown. Assumes nothing.
+-- `colorgrad_refresh_list` meets its contract: the call of `refresh` for the kind of the code, its answer shown. Assumes nothing.
 use Rattle.colorgrad_c.proofs.Listing.{refresh-lists-shown}
 use borrow.Author.Needs.{needs}
 use Rattle.colorgrad_c.proofs.edits.colorgrad_refresh_list.Statement.{statement}

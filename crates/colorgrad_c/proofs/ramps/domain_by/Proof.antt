@@ -1,6 +1,6 @@
 -- `domain_by` meets its contract: each case of a check is shown as its own struct. Assumes nothing.
 use mathlib.Core.Path.{sym, ap}
-use Rattle.gradient.specs.declared.Checked.{Checked}
+use Rattle.stops.specs.declared.Checked.{Checked}
 use Rattle.colorgrad_c.specs.Ramps.{domainBy}
 use borrow.Author.Needs.{needs}
 use Rattle.colorgrad_c.proofs.ramps.domain_by.Statement.{statement}

@@ -2,7 +2,7 @@
 use borrow.Author.Needs.{needs}
 use denote.Ref.{now}
 use native.Mathlib.Omega.{arith}
-use Rattle.desk.proofs.Making.{puts-as, changed-of, refresh-no, refresh-there, refresh-most, refresh-yes}
+use Rattle.desk.proofs.Making.{puts-as, changed-of, refresh-no, refresh-there, refresh-few, refresh-yes}
 use Rattle.desk.proofs.calls.put_refreshed.Statement.{statement}
 use Rattle.desk.proofs.calls.put_refreshed.Tie as tie
 
@@ -25,13 +25,13 @@ mul-put-colour : tie.Need-mul-put-colour
 mul-put-colour c = omega (arith, refresh-there (c .before .before .before .before .before .before .before .before .before .before .before .before .before .before .before .before .before .before .before .before .before .args .edit) (c .before .before .before .before .before .before .before .before .refresh .ensures) (c .before .before .n .given .1))
 
 put-colour-requires : tie.Need-put-colour-requires
-put-colour-requires c κs = refresh-there (c .before .before .before .before .before .before .before .before .before .before .before .before .before .before .before .before .before .before .before .before .before .args .edit) (c .before .before .before .before .before .before .before .before .refresh .ensures) (c .before .before .n .given .1)
+put-colour-requires c κs = search needs
 
 add-put-thinned : tie.Need-add-put-thinned
-add-put-thinned c = omega (arith, refresh-most (c .before .before .before .before .before .before .before .before .before .before .before .before .before .before .before .before .before .before .before .before .before .before .before .before .before .before .before .before .args .edit) (c .before .before .before .before .before .before .before .before .before .before .before .before .before .before .before .refresh .ensures) (c .before .before .before .before .before .before .before .before .before .n .given .1), c .before .before .before .before .before .before .before .before .before .before .before .before .before .before .before .before .before .before .before .before .before .before .before .before .before .before .before .before .pre .1)
+add-put-thinned c = omega (arith, refresh-few (c .before .before .before .before .before .before .before .before .before .before .before .before .before .before .before .before .before .before .before .before .before .before .before .before .before .before .before .before .args .edit) (c .before .before .before .before .before .before .before .before .before .before .before .before .before .before .before .refresh .ensures) (c .before .before .before .before .before .before .before .before .before .n .given .1), c .before .before .before .before .before .before .before .before .before .before .before .before .before .before .before .before .before .before .before .before .before .before .before .before .before .before .before .before .pre .1)
 
 put-thinned-requires : tie.Need-put-thinned-requires
-put-thinned-requires c κs = (c .before .before .before .before .before .before .before .before .before .before .before .before .before .before .before .before .before .before .before .before .before .before .before .before .before .before .before .before .before .before .pre .0, omega (arith, refresh-most (c .before .before .before .before .before .before .before .before .before .before .before .before .before .before .before .before .before .before .before .before .before .before .before .before .before .before .before .before .before .before .args .edit) (c .before .before .before .before .before .before .before .before .before .before .before .before .before .before .before .before .before .refresh .ensures) (c .before .before .before .before .before .before .before .before .before .before .before .n .given .1), c .before .before .before .before .before .before .before .before .before .before .before .before .before .before .before .before .before .before .before .before .before .before .before .before .before .before .before .before .before .before .pre .1))
+put-thinned-requires c κs = (c .before .before .before .before .before .before .before .before .before .before .before .before .before .before .before .before .before .before .before .before .before .before .before .before .before .before .before .before .before .before .pre .0, omega (arith, refresh-few (c .before .before .before .before .before .before .before .before .before .before .before .before .before .before .before .before .before .before .before .before .before .before .before .before .before .before .before .before .before .before .args .edit) (c .before .before .before .before .before .before .before .before .before .before .before .before .before .before .before .before .before .refresh .ensures) (c .before .before .before .before .before .before .before .before .before .before .before .n .given .1), c .before .before .before .before .before .before .before .before .before .before .before .before .before .before .before .before .before .before .before .before .before .before .before .before .before .before .before .before .before .before .pre .1))
 
 same-length : tie.Need-same-length
 same-length c = search needs

@@ -6,7 +6,7 @@ use denote.Ref.{now}
 use lib.ListN.{length, length-set}
 use lib.Seq.{set-out, length-sets}
 use Rattle.linearize.specs.Kept.{channelsOf}
-use Rattle.desk.proofs.Inputs.{sets-out}
+use Rattle.linearize.proofs.Stores.{sets-out}
 use Rattle.desk.proofs.reading.keep.Statement.{statement}
 use Rattle.desk.proofs.reading.keep.Tie as tie
 

@@ -15,7 +15,7 @@ use borrow.Fn.PlainCycle.{Measures, is, falls, and}
 use Rattle.linearize.proofs.cells.halve.Reads as halve
 use Rattle.linearize.proofs.cells.halve.Kinds as halve-kinds
 use Rattle.linearize.proofs.cells.+halve.Lts-halve as halve-lts
-use Rattle.gradient.proofs.utils.interpolate_linear.Reads as interpolate-linear-reads
+use Rattle.blend.proofs.utils.interpolate_linear.Reads as interpolate-linear-reads
 use Rattle.linearize.proofs.cells.evaluate.Reads as evaluate-reads
 use Rattle.linearize.proofs.difference.stands_out.Reads as stands-out-reads
 use Rattle.linearize.proofs.cells.+halve.{statement}

@@ -1,5 +1,7 @@
 -- `cutoff_of` meets its contract: the cutoff of the sampler's threshold. Assumes nothing.
-use Rattle.linearize.proofs.Thresholds.{far-by-cutoff}
+use mathlib.Core.Path.{subst}
+use lib.Ieee.{Float}
+use Rattle.sqrt.specs.Cutoff.{IsCutoff}
 use borrow.Author.Needs.{needs}
 use Rattle.linearize.proofs.difference.cutoff_of.Statement.{statement}
 use Rattle.linearize.proofs.difference.cutoff_of.Tie as tie
@@ -11,7 +13,7 @@ cutoff-requires : tie.Need-cutoff-requires
 cutoff-requires c κs = search needs
 
 returns : tie.Need-returns
-returns c = far-by-cutoff _ _ _ (c .before .new .ensures) (c .cutoff .ensures)
+returns c = subst (λ (t : Float). IsCutoff t (c .cutoff .result)) (c .before .new .ensures) (c .cutoff .ensures)
 
 pub cutoff-of-spec : {M : Type 1} → statement M
 cutoff-of-spec = tie.close (tie.spec new-requires cutoff-requires returns)

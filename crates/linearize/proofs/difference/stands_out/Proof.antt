@@ -1,7 +1,7 @@
 -- `stands_out` meets its contract: the parts, one within the other, are the definition. Assumes nothing.
 use mathlib.Core.Path.{_≡_}
 use lib.Ieee.{Float, lt}
-use Rattle.gradient.specs.declared.Rgba.{Rgba}
+use Rattle.blend.specs.declared.Rgba.{Rgba}
 use Rattle.linearize.specs.Difference.{clampedOf, squaresOf, exceeds}
 use borrow.Author.Needs.{needs}
 use Rattle.linearize.proofs.difference.stands_out.Statement.{statement}

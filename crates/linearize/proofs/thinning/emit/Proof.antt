@@ -32,9 +32,7 @@ mul-put-colour c =
     omega (arith, h, c .before .before .before .before .before .before .pre, c .before .before .before .before .before .before .good .1 .1 .1 .1 .0 .0)
 
 put-colour-requires : tie.Need-put-colour-requires
-put-colour-requires c κs =
-    let h = has-room _ _ _ _ _ (sym (c .before .before .stop-refusal .ensures) ∙ c .before .if1 .left) in
-    omega (arith, h, c .before .before .before .before .before .before .pre)
+put-colour-requires c κs = search needs
 
 add-t10 : tie.Need-add-t10
 add-t10 c =

@@ -1,0 +1,6 @@
+pub mod Blend
+pub mod Basis
+pub mod CatmullRom
+pub mod Pair
+pub mod Points
+pub mod Finite

@@ -1,0 +1,10 @@
+pub mod Agree
+pub mod Sides
+pub mod Words
+pub mod Outer
+pub mod Renewing
+pub mod Edits
+pub mod EditChecks
+pub mod Theorem
+pub mod Changes
+pub mod RefreshAnswers

@@ -1,0 +1,4 @@
+pub mod Stretch
+pub mod Anew
+pub mod Edit
+pub mod RefreshDesk

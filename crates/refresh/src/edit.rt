@@ -1,0 +1,52 @@
+// An edit: stop k is given a colour. Whether it may be made, and the ramp with it made.
+use blend::Rgba;
+use linearize::thinning::put_colour;
+use stops::Checked;
+use stops::Kind;
+ghost use mathlib.Core.Path.{_≡_};
+ghost use Prim.Native.Nat.{_+_, _*_, _≤_};
+ghost use lib.ListN.{length, take};
+ghost use Rattle.refresh.specs.Edit.{changed};
+ghost use Rattle.refresh.specs.RefreshDesk.{refreshable, editCheck};
+
+fn is_refreshable(kind: Kind) -> bool
+    ensures { λ r. ⌜ r ≡ refreshable kind ⌝ }
+{
+    match kind {
+        Kind::Linear => true,
+        Kind::Smoothstep => true,
+        Kind::Sharp => false,
+        Kind::Basis => false,
+        Kind::CatmullRom => false,
+        Kind::Gimp => false,
+    }
+}
+
+// Refusal 6 of an edit: stop k of n is given a colour.
+pub(crate) fn check_edit(kind: Kind, n: usize, k: usize, colour: Rgba) -> Checked
+    ensures { λ r. ⌜ r ≡ editCheck kind n k colour ⌝ }
+{
+    if !is_refreshable(kind) {
+        return Checked::Refused(6);
+    }
+    if n <= k {
+        return Checked::Refused(6);
+    }
+    if !stops::is_finite_colour(colour) {
+        return Checked::Refused(6);
+    }
+    Checked::Fine
+}
+
+// The channels with the colour of stop k changed, in a copy: the lent ramp is not written.
+pub(crate) fn change(channels: &[f32], k: usize, colour: Rgba, copy: &mut [f32])
+    requires { ⌜ (4 * k + 4 ≤ length (now channels)) × (length (now channels) ≤ length (now copy)) ⌝ }
+    ensures { λ _. ⌜ take (length (now (channels .entry))) (now (copy .exit)) ≡ changed (now (channels .entry)) k colour ⌝ }
+{
+    let mut i = 0;
+    while i < channels.len() {
+        copy[i] = channels[i];
+        i += 1;
+    }
+    put_colour(copy, 4 * k, colour);
+}

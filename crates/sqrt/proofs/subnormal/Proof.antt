@@ -1,0 +1,65 @@
+-- `sqrt::subnormal` meets its contract: its shifts are exact, and its n and k are what `proofs/Shift.antt` takes of its units. Assumes nothing.
+use borrow.Author.Needs.{needs}
+use native.Mathlib.Nat.{mul-one}
+use native.Mathlib.Omega.{arith}
+use mathlib.Core.Path.{_≡_, refl, sym, ap, _∙_}
+use Prim.Native.Nat.{ℕ, _+_, _-_, _*_, _/_, _%_, _^_, _<_}
+use Rattle.sqrt.specs.Root.{nearestRoot}
+use Rattle.sqrt.proofs.Cases.{at-subnormal}
+use Rattle.sqrt.proofs.Shift.{Moved, moved, zeros, exact, moved-exact, Taken, taken}
+use Rattle.sqrt.proofs.subnormal.Statement.{statement}
+use Rattle.sqrt.proofs.subnormal.Tie as tie
+
+few : (c : tie.Start) → c .args .b < 2 ^ 24
+few c = omega arith
+
+shift : (c : tie.Start) → Moved (c .args .b)
+shift c = moved (c .args .b) (c .pre .0) (few c)
+
+-- n as the machine has it
+abbrev shifted : ℕ → ℕ
+shifted b = (b * 2 ^ zeros b % 2 ^ 32) * 2 ^ (23 + (128 - zeros b) % 2) % 2 ^ 64
+
+asked : (c : tie.Start) → Taken (c .args .b) 1 (shifted (c .args .b)) ((128 - zeros (c .args .b)) / 2 - 1)
+asked c =
+    let b = c .args .b in
+    taken b 1 (shifted b) ((128 - zeros b) / 2 - 1) (c .pre .0) (few c) (omega arith) (omega arith) (exact b (128 - zeros b) (c .pre .0) (few c)) refl
+
+sub-z : tie.Need-sub-z
+sub-z c = let h = shift c .enough in omega arith
+
+sub-c : tie.Need-sub-c
+sub-c c = let h = shift c .few in omega arith
+
+shl-s : tie.Need-shl-s
+shl-s c = let h = shift c .few in omega arith
+
+cast-t6 : tie.Need-cast-t6
+cast-t6 c = search needs
+
+add-t7 : tie.Need-add-t7
+add-t7 c = search needs
+
+cast-t8 : tie.Need-cast-t8
+cast-t8 c = search needs
+
+shl-t9 : tie.Need-shl-t9
+shl-t9 c = search needs
+
+sub-t11 : tie.Need-sub-t11
+sub-t11 c = let h = shift c .few in omega arith
+
+mul-t13 : tie.Need-mul-t13
+mul-t13 c = search needs
+
+add-t14 : tie.Need-add-t14
+add-t14 c = let h = shift c .high in let e = moved-exact (c .args .b) (c .pre .0) (few c) in omega arith
+
+returns : tie.Need-returns
+returns c =
+    let a = asked c in
+    let b = c .args .b in
+    ((a .low, a .high, a .few), a .is ∙ ap (λ (n : ℕ). nearestRoot (n * 2 ^ 149)) (mul-one b) ∙ sym (at-subnormal b (c .pre .0) (c .pre .1)))
+
+pub subnormal-spec : {M : Type 1} → statement M
+subnormal-spec = tie.close (tie.spec sub-z sub-c shl-s cast-t6 add-t7 cast-t8 shl-t9 sub-t11 mul-t13 add-t14 returns)

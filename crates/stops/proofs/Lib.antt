@@ -1,0 +1,10 @@
+pub mod Reading
+pub mod Checking
+pub mod Choice
+pub mod Narrowing
+pub mod Quarters
+pub mod Placing
+pub mod Same
+pub mod Valid
+pub mod Nearby
+pub mod Pairs

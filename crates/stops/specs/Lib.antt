@@ -1,0 +1,4 @@
+pub mod Stops
+pub mod Place
+pub mod Pair
+pub mod Near
