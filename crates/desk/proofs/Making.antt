@@ -21,7 +21,7 @@ use Rattle.linearize.specs.Constants.{cells, recordLength}
 use Rattle.linearize.specs.Midpoints.{Gradient, Far}
 use Rattle.linearize.specs.Places.{listOf}
 use Rattle.linearize.specs.Kept.{channelsOf, keptOf, refusalOf, roomOf, coloursOf, writtenOf, positionsWritten, channelsWritten, listEvaluations}
-use Rattle.gradient.specs.Answers.{onFine}
+use Rattle.stops.specs.Answers.{onFine}
 use Rattle.linearize.specs.Desk.{farOf, answerBy, withSampling, stopsOfListed, evaluationsOfSampled, sampleCheck, thinCheck, sampleAnswer, thinPositions, thinChannels, freshList, flattenEvaluations, flattenPositions, flattenChannels}
 use Rattle.linearize.specs.Promises.{Samples, Thins, Flattens}
 use Rattle.refresh.specs.Edit.{changed}

@@ -17,7 +17,8 @@ use Rattle.float.specs.F32.{_⊕_, _⊖_, _⊗_, _⊘_, f4, tenth}
 use Rattle.float.specs.Number.{clampOf, countOf}
 use Rattle.blend.specs.Points.{linspaceAt}
 use Rattle.blend.specs.Finite.{allFinite}
-use Rattle.gradient.specs.Sharp.{mostBands, softnessOf, insetOf, bandAt, listed, sharpPositions, channelAt, sharpChannels, domainFits, steady, roomy, bands, buildOf, after}
+use Rattle.gradient.specs.Sharp.{mostBands, softnessOf, insetOf, bandAt, listed, sharpPositions, channelAt, sharpChannels, domainFits, steady, roomy, bands, buildOf, numberOfBuilt, stopsOfBuilt, after, Builds}
+use Rattle.gradient.specs.declared.sharp.Built.{Built}
 use Rattle.gradient.specs.declared.sharp.Built.the-variants.{Stops, Refused}
 use Rattle.gradient.proofs.Filling.{length-listed}
 
@@ -199,3 +200,8 @@ after-stops m k written old h e = e ∙ ap (λ (j : ℕ). written ++ drop j old)
 pub after-copy : (m : ℕ) (written old xs : List Float) → xs ≡ written → {l : List Float} → l ≡ xs ++ drop (length xs) old → l ≡ after (Stops m) written old
 unfolding after
 after-copy m written old xs h e = e ∙ ap (λ (ys : List Float). ys ++ drop (length ys) old) h
+
+-- all that `build` promises, from its answer and what that leaves
+pub builds : {colours : List Float} {min max s : Float} {ps ps′ cs cs′ : List Float} {r : Built} → r ≡ buildOf colours min max s (length ps) (length cs)
+    → ps′ ≡ after r (sharpPositions min max s (bands colours)) ps → cs′ ≡ after r (sharpChannels colours (bands colours)) cs → Builds colours min max s ps ps′ cs cs′ r
+builds e p q = record { answer = e; number = ap numberOfBuilt e; stops = ap stopsOfBuilt e; positions = rw e at p; channels = rw e at q }
