@@ -5,6 +5,7 @@ pub mod Examples
 pub mod Grammar
 pub mod IsNearest
 pub mod Neighbours
+pub mod OneForm
 pub mod Parts
 pub mod Place
 pub mod Rounding

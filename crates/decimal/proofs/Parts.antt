@@ -87,14 +87,14 @@ digits-more before s v b rest d h =
     }
 
 -- ---- before and after the point
-before-run : (xs ys : List ℕ) → areDigits xs ≡ true → beforePoint (xs ++ ys) ≡ xs ++ beforePoint ys
+pub before-run : (xs ys : List ℕ) → areDigits xs ≡ true → beforePoint (xs ++ ys) ≡ xs ++ beforePoint ys
 unfolding areDigits beforePoint
 before-run [] ys h = refl
 before-run (x ∷ xs) ys h =
     ap (λ (t : Bool). cond t [] (x ∷ beforePoint (xs ++ ys))) (no-digit x 46 (first-of (isDigit x) (areDigits xs) h) refl)
     ∙ ap (λ (r : List ℕ). x ∷ r) (before-run xs ys (second-of (isDigit x) (areDigits xs) h))
 
-after-run : (xs ys : List ℕ) → areDigits xs ≡ true → afterPoint (xs ++ ys) ≡ afterPoint ys
+pub after-run : (xs ys : List ℕ) → areDigits xs ≡ true → afterPoint (xs ++ ys) ≡ afterPoint ys
 unfolding areDigits afterPoint
 after-run [] ys h = refl
 after-run (x ∷ xs) ys h =

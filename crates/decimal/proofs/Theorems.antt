@@ -17,6 +17,7 @@ use Rattle.decimal.specs.Means.{Means, written, other}
 use Rattle.decimal.proofs.Grammar as grammar
 use Rattle.decimal.proofs.Grammar.{SomeForm}
 use Rattle.decimal.proofs.IsNearest as nearest
+use Rattle.decimal.proofs.OneForm as form
 use Rattle.decimal.proofs.Scale.{ten-le}
 
 small : {s : List ℕ} {neg : Bool} {d k : ℕ} → Form s neg d k → d < 2 ^ 64
@@ -38,12 +39,16 @@ none-across = nearest.none-across
 pub only-numbers : (s : List ℕ) (x : Float) → readOf s ≡ Number x → (neg : Bool) × (d : ℕ) × (k : ℕ) × Form s neg d k × (x ≡ round binary32 neg d (10 ^ k))
 only-numbers = grammar.only-numbers
 
+-- and of one form only
+pub one-form : {s : List ℕ} {neg sgn : Bool} {d e k l : ℕ} → Form s neg d k → Form s sgn e l → (neg ≡ sgn) × (d ≡ e) × (k ≡ l)
+one-form = form.one-form
+
 -- ---- all of it, of any t that `read` may answer: for bytes of the form the nearest f32, and for others that they are no number
 pub read-means : (s : List ℕ) (t : Token) → t ≡ readOf s → Means s t
-read-means s t e = subst (Means s) (sym e) (elim (grammar.form-or-none s) [ inl f ↦ form f | inr h ↦ none h ])
+read-means s t e = subst (Means s) (sym e) (elim (grammar.form-or-none s) [ inl f ↦ some f | inr h ↦ none h ])
   where
-    form : SomeForm s → Means s (readOf s)
-    form f = let n = decimal-is-nearest (f .3) in subst (Means s) (sym (n .1)) (written (f .3) (n .2))
+    some : SomeForm s → Means s (readOf s)
+    some f = let n = decimal-is-nearest (f .3) in subst (Means s) (sym (n .1)) (written (f .3) (n .2))
 
     apart : (r : Float) → readOf s ≡ NoNumber → readOf s ≡ Number r → ⊥
     apart r h k = let z : _≡_ {A = ℕ} 0 1 = cc in omega arith
