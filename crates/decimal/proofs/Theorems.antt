@@ -6,19 +6,21 @@ use mathlib.Core.List.{List}
 use Prim.Native.Nat.{ℕ, _+_, _*_, _^_, _≤_, _<_, zero-le}
 use native.Mathlib.Nat.{lt-of-lt-of-le}
 use native.Mathlib.Omega.{arith}
-use lib.Dec.{lit≤}
-use lib.Ieee.{Float, binary32, round}
+use lib.Dec.{T, lit≤}
+use lib.IntN.{ℤ}
+use lib.Ieee.{Float, fin, binary32, round, fits}
 use Rattle.decimal.specs.declared.Token.{Token}
 use Rattle.decimal.specs.declared.Token.the-variants.{Number, NoNumber}
 use Rattle.decimal.specs.Decimal.{readOf}
 use Rattle.decimal.specs.Form.{Form}
-use Rattle.decimal.specs.Nearest.{far, IsNearest}
+use Rattle.decimal.specs.Nearest.{Sized, far, IsNearest}
 use Rattle.decimal.specs.Means.{Means, written, other}
 use Rattle.decimal.proofs.Grammar as grammar
 use Rattle.decimal.proofs.Grammar.{SomeForm}
 use Rattle.decimal.proofs.IsNearest as nearest
 use Rattle.decimal.proofs.OneForm as form
 use Rattle.decimal.proofs.Scale.{ten-le}
+use Rattle.decimal.proofs.Units as units
 
 small : {s : List ℕ} {neg : Bool} {d k : ℕ} → Form s neg d k → d < 2 ^ 64
 small f = lt-of-lt-of-le (grammar.form-small f) (lit≤ tt)
@@ -30,6 +32,10 @@ decimal-is-nearest {neg = neg} {d = d} {k = k} f = (round binary32 neg d (10 ^ k
 -- and nothing else is
 pub decimal-is-only : {s : List ℕ} {neg : Bool} {d k : ℕ} → Form s neg d k → (r : Float) → IsNearest neg d (10 ^ k) r → readOf s ≡ Number r
 decimal-is-only {neg = neg} {d = d} {k = k} f r i = grammar.grammar f ∙ ap Number (sym (nearest.nearest-is-round neg d (10 ^ k) (ten-le 0 k zero-le) (small f) r i))
+
+-- `IsNearest` asks of every finite f32 of the sign, since each is a number of units
+pub all-sized : (s : Bool) (m : ℕ) (e : ℤ) → T (fits binary32 (fin s m e)) → (c : ℕ) × Sized (fin s m e) s c
+all-sized = units.sized
 
 -- no f32 of the other sign is nearer: c units on the other side of zero
 pub none-across : {neg : Bool} {d p : ℕ} {r : Float} (i : IsNearest neg d p r) (c : ℕ) → far d p (i .count) ≤ c * p + d * 2 ^ 149

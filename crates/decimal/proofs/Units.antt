@@ -40,42 +40,46 @@ parts s m e t =
     let abc = and-l (a && b && c) d t in
     (ltb→lt (suc m) (2 ^ 24) (and-r a b (and-l (a && b) c abc)), leb→le (down e) (2 ^ 149) (and-r (a && b) c abc))
 
+-- no digit of an f32 is below 2 ^ -149
+not-below : (i : ℕ) → 2 ^ i ≤ 2 ^ 149 → i ≤ 149
+not-below i l = let g : i < 150 = pow-under i 150 (2 ^ 149) l (pow-lt {i = 149} {j = 150} (lit< tt)) in omega arith
+
 whole-exp : (m k c : ℕ) → m < 2 ^ 24 → m * 2 ^ k * 2 ^ 149 ≡ c * 1 → Shape c
 whole-exp m k c h e = record { m = m; g = k + 149; is = sym (mul-one c) ∙ sym e ∙ mul-assoc m (2 ^ k) (2 ^ 149) ∙ ap (λ (x : ℕ). m * x) (sym (pow-add 2 k 149)); small = h }
 
-part-exp : (m j c : ℕ) → m < 2 ^ 24 → j ≤ 149 → m * 1 * 2 ^ 149 ≡ c * 2 ^ j → Shape c
-part-exp m j c h l e = record { m = m; g = 149 - j; is = eq-of-mul-eq-mul-right (2 ^ j) (pow-pos j) c (m * 2 ^ (149 - j)) (sym e ∙ moved); small = h }
+part-units : (m j : ℕ) → j ≤ 149 → m * 1 * 2 ^ 149 ≡ m * 2 ^ (149 - j) * 2 ^ j
+part-units m j l =
+    ap (λ (x : ℕ). x * 2 ^ 149) (mul-one m)
+    ∙ ap (λ (x : ℕ). m * x) (ap (λ (x : ℕ). 2 ^ x) (back j l) ∙ pow-add 2 (149 - j) j)
+    ∙ sym (mul-assoc m (2 ^ (149 - j)) (2 ^ j))
   where
     back : (x : ℕ) → x ≤ 149 → 149 ≡ 149 - x + x
     back x h = omega arith
 
-    moved : m * 1 * 2 ^ 149 ≡ m * 2 ^ (149 - j) * 2 ^ j
-    moved =
-        ap (λ (x : ℕ). x * 2 ^ 149) (mul-one m)
-        ∙ ap (λ (x : ℕ). m * x) (ap (λ (x : ℕ). 2 ^ x) (back j l) ∙ pow-add 2 (149 - j) j)
-        ∙ sym (mul-assoc m (2 ^ (149 - j)) (2 ^ j))
+part-exp : (m j c : ℕ) → m < 2 ^ 24 → j ≤ 149 → m * 1 * 2 ^ 149 ≡ c * 2 ^ j → Shape c
+part-exp m j c h l e = record { m = m; g = 149 - j; is = eq-of-mul-eq-mul-right (2 ^ j) (pow-pos j) c (m * 2 ^ (149 - j)) (sym e ∙ part-units m j l); small = h }
+
+zero-units : (e : ℤ) → 0 * up e * 2 ^ 149 ≡ 0 * down e
+zero-units e = ap (λ (x : ℕ). x * 2 ^ 149) (zero-mul (up e)) ∙ zero-mul (2 ^ 149) ∙ sym (zero-mul (down e))
 
 no-units : (e : ℤ) (c : ℕ) → 0 * up e * 2 ^ 149 ≡ c * down e → Shape c
-no-units e c h =
-    record {
-      m = 0;
-      g = 0;
-      is = eq-of-mul-eq-mul-right (down e) (down-pos e) c 0 (sym h ∙ ap (λ (x : ℕ). x * 2 ^ 149) (zero-mul (up e)) ∙ zero-mul (2 ^ 149) ∙ sym (zero-mul (down e)));
-      small = lit< tt;
-    }
+no-units e c h = record { m = 0; g = 0; is = eq-of-mul-eq-mul-right (down e) (down-pos e) c 0 (sym h ∙ zero-units e); small = lit< tt }
 
 shape-at : (y : Float) (s : Bool) (c : ℕ) → T (fits binary32 y) → HasValue y s c (2 ^ 149) → Shape c
 shape-at nan s c t v = absurd v
 shape-at (inf r) s c t v = absurd v
 shape-at (fin r zero e) s c t v = no-units e c (v .1)
 shape-at (fin r (suc m) (pos k)) s c t v = whole-exp (suc m) k c (parts r m (pos k) t .0) (v .1)
-shape-at (fin r (suc m) (negsuc j)) s c t v = let h = parts r m (negsuc j) t in part-exp (suc m) (suc j) c (h .0) (below (suc j) (h .1)) (v .1)
-  where
-    below : (i : ℕ) → 2 ^ i ≤ 2 ^ 149 → i ≤ 149
-    below i l = let g : i < 150 = pow-under i 150 (2 ^ 149) l (pow-lt {i = 149} {j = 150} (lit< tt)) in omega arith
+shape-at (fin r (suc m) (negsuc j)) s c t v = let h = parts r m (negsuc j) t in part-exp (suc m) (suc j) c (h .0) (not-below (suc j) (h .1)) (v .1)
 
 pub shape : {y : Float} {s : Bool} {c : ℕ} → Sized y s c → Shape c
 shape {y} {s} {c} z = shape-at y s c (z .one) (z .is)
+
+-- every finite f32 is a number of units
+pub sized : (s : Bool) (m : ℕ) (e : ℤ) → T (fits binary32 (fin s m e)) → (c : ℕ) × Sized (fin s m e) s c
+sized s zero e t = (0, record { one = t; is = (refl, zero-units e) })
+sized s (suc m) (pos k) t = (suc m * 2 ^ k * 2 ^ 149, record { one = t; is = (refl, sym (mul-one (suc m * 2 ^ k * 2 ^ 149))) })
+sized s (suc m) (negsuc j) t = (suc m * 2 ^ (149 - suc j), record { one = t; is = (refl, part-units (suc m) (suc j) (not-below (suc j) (parts s m (negsuc j) t .1))) })
 
 -- ---- nothing between two that are next to each other
 
