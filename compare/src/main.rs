@@ -16,6 +16,7 @@ mod ours;
 mod ramps;
 mod random;
 mod refresh;
+mod refused;
 mod report;
 mod roots;
 mod sample;

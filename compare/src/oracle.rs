@@ -22,6 +22,41 @@ pub fn gradient(ramp: &Ramp) -> Boxed {
     }
 }
 
+/// What the Rust makes of a ramp that is refused here.
+pub enum Unchecked {
+    /// Lengths that disagree, and lent sharp stops that do not pass the check; colouring by hue is not run.
+    NoSuchInput,
+    Refused,
+    Panics,
+    Made(Boxed),
+}
+
+pub fn unchecked(ramp: &Ramp) -> Unchecked {
+    let (positions, channels, codes) = (ramp.positions.len(), ramp.channels.len(), ramp.codes.len());
+    let is_whole = match ramp.kind {
+        Kind::Gimp => {
+            (3 * codes, 8 * codes) == (2 * positions, 2 * channels) && ramp.codes.chunks(2).all(|c| c[1..] == [0])
+        }
+        Kind::Sharp => ramp.refusal() == 0,
+        _ => channels == 4 * positions && codes == 0,
+    };
+    if !is_whole {
+        return Unchecked::NoSuchInput;
+    }
+    let made = || -> Option<Boxed> {
+        match ramp.kind {
+            Kind::Linear => Some(Box::new(LinearGradient::from_rgba_data(ramp.stops())?)),
+            Kind::Gimp => Some(Box::new(read(segments_text(ramp).as_bytes(), [0.0; 4], [0.0; 4]).ok()?.0)),
+            _ => Some(gradient(ramp)),
+        }
+    };
+    match catch_unwind(AssertUnwindSafe(made)) {
+        Ok(Some(g)) => Unchecked::Made(g),
+        Ok(None) => Unchecked::Refused,
+        Err(_) => Unchecked::Panics,
+    }
+}
+
 pub fn at(g: &Boxed, t: f32) -> [f32; 4] {
     g.at(t).to_array()
 }
