@@ -1,7 +1,7 @@
 //! The published crate, as assembled: what it keeps private is reached through its door.
 
 use crate::ramps::{Kind, Ramp};
-use colorgrad::{door, Color, Gradient, LinearGradient};
+use colorgrad::{door, Color, Gradient, GradientBuilder, LinearGradient};
 use std::cell::Cell;
 use std::panic::{catch_unwind, AssertUnwindSafe};
 use std::rc::Rc;
@@ -20,6 +20,13 @@ pub fn gradient(ramp: &Ramp) -> Boxed {
         Kind::CatmullRom => Box::new(door::catmull_rom(&ramp.stops())),
         Kind::Gimp => Box::new(read(segments_text(ramp).as_bytes(), [0.0; 4], [0.0; 4]).expect("its own segments").0),
     }
+}
+
+/// A linear gradient by the Rust's builder, or what it says.
+pub fn built(positions: &[f32], reds: &[f32]) -> Result<Boxed, String> {
+    let colours: Vec<Color> = reds.iter().map(|r| Color::new(*r, 0.0, 0.0, 1.0)).collect();
+    let made = GradientBuilder::new().colors(&colours).domain(positions).build::<LinearGradient>();
+    made.map(|g| Box::new(g) as Boxed).map_err(|e| e.to_string())
 }
 
 /// What the Rust makes of a ramp that is refused here.

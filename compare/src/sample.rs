@@ -11,6 +11,7 @@ use crate::random::Random;
 use crate::refresh::{self, changed};
 use crate::sharp;
 use crate::texts;
+use std::collections::BTreeSet;
 use std::fmt::Write;
 use std::path::Path;
 
@@ -29,7 +30,7 @@ const BUILT: u64 = 100;
 /// Refusals that the first cases must have, so that all that a call can give are stored: of the first two
 /// lists of each kind, and of the other sorts from their start. The ramps at the limits have those of a ramp.
 const OF_LISTS: [[u32; 2]; 6] = [[1, 4], [2, 8], [3, 5], [4, 7], [7, 8], [5, 1]];
-const OF_THINNED: [u32; 5] = [5, 8, 9, 9, 4];
+const OF_THINNED: [u32; 8] = [5, 8, 9, 9, 4, 1, 2, 3];
 const OF_REFRESHED: [u32; 18] = [1, 2, 3, 4, 5, 6, 6, 8, 0, 0, 0, 0, 0, 0, 0, 0, 0, 0];
 const OF_TEXTS: [u32; 8] = [2, 10, 11, 12, 13, 14, 15, 16];
 const OF_BUILT: [u32; 3] = [17, 1, 2];
@@ -60,6 +61,7 @@ struct Words {
     /// Records of the sort at hand, those of them that are not refused, and what of all is compared.
     records: u64,
     answered: u64,
+    refusals: BTreeSet<u32>,
     answers: u64,
     /// The lines that the program prints.
     printed: String,
@@ -146,6 +148,7 @@ impl Words {
     fn record_done(&mut self, refusal: u32, answers: u64) {
         self.records += 1;
         self.answered += (refusal == 0) as u64;
+        self.refusals.insert(refusal);
         self.answers += answers;
     }
 
@@ -153,7 +156,8 @@ impl Words {
     fn printed(&mut self, name: &str) {
         let n = std::mem::take(&mut self.answers);
         let (records, answered) = (std::mem::take(&mut self.records), std::mem::take(&mut self.answered));
-        println!("{name}: {records} records, {answered} of them not refused");
+        let refusals: Vec<u32> = std::mem::take(&mut self.refusals).into_iter().filter(|n| *n != 0).collect();
+        println!("{name}: {records} records, {answered} of them not refused, the others with {refusals:?}");
         writeln!(self.printed, "{name} {n} equal {n}").expect("a string takes it");
     }
 }

@@ -15,6 +15,7 @@ pub fn run() {
     numbers();
     built();
     lent();
+    by_the_builder();
     texts();
     lists();
 }
@@ -78,6 +79,12 @@ fn built() {
 
 fn lent() {
     let many: Vec<f32> = (0..513).map(|i| i as f32 / 512.0).collect();
+    let segments = |n: usize, blending: u8| Ramp {
+        kind: Kind::Gimp,
+        positions: [0.0, 0.5, 1.0].repeat(n),
+        channels: [0.0, 0.0, 0.0, 1.0, 1.0, 1.0, 1.0, 1.0].repeat(n),
+        codes: [blending, 0].repeat(n),
+    };
     let inputs = [
         ("linear, 513 stops", stops(Kind::Linear, &many, &many)),
         ("linear, positions 1, 0", stops(Kind::Linear, &[1.0, 0.0], &[0.0, 1.0])),
@@ -90,6 +97,8 @@ fn lent() {
         ("basis, one stop", stops(Kind::Basis, &[0.5], &[0.25])),
         ("Catmull-Rom, one stop", stops(Kind::CatmullRom, &[0.5], &[0.25])),
         ("smoothstep, no stop", stops(Kind::Smoothstep, &[], &[])),
+        ("lent GIMP segments, 257", segments(257, 0)),
+        ("lent GIMP segment, curved", segments(1, 1)),
     ];
     for (input, ramp) in inputs {
         let rust = || match oracle::unchecked(&ramp) {
@@ -102,17 +111,29 @@ fn lent() {
     }
 }
 
+/// The Rust's builder, beside the ramp as it is lent.
+fn by_the_builder() {
+    for (input, positions, red) in [("two stops at 0.5", [0.5, 0.5], 0.0), ("a red of 2", [0.0, 1.0], 2.0)] {
+        let rust =
+            || oracle::built(&positions, &[0.0, red]).map_or_else(|e| e, |g| format!("red {}", oracle::at(&g, 1.0)[0]));
+        let here = ours::at(&stops(Kind::Linear, &positions, &[0.0, red]), 1.0);
+        row(&format!("linear, {input}, at 1"), rust, here.map_or_else(refused, |c| format!("red {}", c[0])));
+    }
+}
+
 fn texts() {
     let head = "GIMP Gradient\nName: n\n";
     let long = format!("{head}1\n{SEGMENT}\n");
     let many = format!("{head}257\n{}", format!("{SEGMENT}\n").repeat(257));
     let one = |segment: &str| format!("{head}1\n{segment}\n").into_bytes();
     let count = |count: &str| format!("{head}{count}\n{SEGMENT}\n").into_bytes();
-    let inputs: [(&str, Vec<u8>, f32); 12] = [
+    let inputs: [(&str, Vec<u8>, f32); 14] = [
         ("a name in UTF-8", format!("GIMP Gradient\nName: \u{e9}\n1\n{SEGMENT}\n").into_bytes(), 0.0),
         ("line 1 not UTF-8", [b"\xff", &long.as_bytes()[13..]].concat(), 0.0),
         ("65,537 bytes", [long.as_bytes(), &vec![b' '; 65_537 - long.len()]].concat(), 0.0),
         ("1e0", one("0 .5 1e0 0 0 0 1 1 1 1 1 0 0"), 0.0),
+        ("inf", one("0 .5 inf 0 0 0 1 1 1 1 1 0 0"), 0.0),
+        ("nan", one("0 .5 1 nan 0 0 1 1 1 1 1 0 0"), 0.0),
         ("19 digits", one("0 .5 1 0.000000000000000001 0 0 1 1 1 1 1 0 0"), 0.0),
         ("257 segments", many.into_bytes(), 0.0),
         ("count 2^64 - 1", count("18446744073709551615"), 0.0),
