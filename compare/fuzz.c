@@ -2,6 +2,9 @@
  * looked at afterwards; each input is a block of its own size. An answer that is not a promised one ends the program. */
 #define _GNU_SOURCE
 #include "colorgrad.h"
+#ifdef FAULT
+#include "faults.h"
+#endif
 #include <sanitizer/asan_interface.h>
 #include <stdio.h>
 #include <stdlib.h>
