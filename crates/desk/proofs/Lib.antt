@@ -3,3 +3,4 @@ mod Texts
 mod Rows
 mod Inputs
 pub mod Making
+pub mod Fits

@@ -51,7 +51,7 @@ use Rattle.desk.proofs.Texts.{puts-size}
 use Rattle.desk.proofs.Inputs.{length-positions, length-channels}
 
 -- ---- stores from the start
-sets-front : {A : Type 0} (vs l : List A) → length vs ≤ length l → sets l 0 vs ≡ vs ++ drop (length vs) l
+pub sets-front : {A : Type 0} (vs l : List A) → length vs ≤ length l → sets l 0 vs ≡ vs ++ drop (length vs) l
 sets-front vs l h =
     let m : 0 + length vs ≡ length vs = omega arith in
     sets-eq vs l 0 (omega arith) ∙ ap (λ (n : ℕ). vs ++ drop n l) m
