@@ -174,3 +174,6 @@ pub all-printed : (s : List ℕ) {out out′ : List ℕ} {n : ℕ} → length ou
 all-printed s {out} {out′} {n} l p =
     let c : n ≡ length (deskOf s) = omega (arith, p .next) in
     record { count = c; fits = omega (arith, desk-most s); contents = p .written ∙ sets-front (deskOf s) out (omega (arith, desk-most s)) }
+
+pub printed-within : {s out out′ : List ℕ} {n : ℕ} → Prints s out out′ n → n ≤ length out′
+printed-within {s} {out} w = omega (arith, w .count, ap length (w .contents), length-append (deskOf s) (drop (length (deskOf s)) out))
