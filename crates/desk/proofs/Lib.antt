@@ -4,3 +4,6 @@ mod Rows
 mod Inputs
 pub mod Making
 pub mod Fits
+mod Finite
+mod Heads
+pub mod EditedText
