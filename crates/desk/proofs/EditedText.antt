@@ -4,45 +4,38 @@ use native.Mathlib.Decide.{decLe}
 use native.Mathlib.Omega.{arith}
 use mathlib.Core.Path.{_≡_, refl, sym, ap, ap₂, subst, _∙_}
 use mathlib.Core.Bool.{Bool, true, false, cond, _&&_}
-use mathlib.Core.List.{List, [], _∷_, _++_}
+use mathlib.Core.List.{List, [], _∷_}
 use lib.ListN.{length, replicate, getD}
-use lib.Seq.{sets}
-use lib.Dec.{ltb}
 use lib.Ieee.{Float, nan, inf, lt}
 use lib.Ieee.Scale.{finite}
-use borrow.Author.Tests.{lt-ltb}
 use Rattle.float.specs.F32.{f0}
-use Rattle.float.proofs.Flags.{both-l, both-r}
-use Rattle.blend.specs.Finite.{allFinite}
 use Rattle.blend.specs.declared.Rgba.{Rgba}
 use Rattle.blend.specs.declared.Stop.{Stop}
 use Rattle.blend.proofs.FiniteLists.{finite-each}
-use Rattle.stops.specs.Stops.{posAt, colourAt, finiteRgba, shaped, eachStop, stopsCheck}
+use Rattle.stops.specs.Stops.{posAt, colourAt, finiteRgba, eachStop, stopsCheck}
 use Rattle.stops.specs.declared.Kind.{Kind}
 use Rattle.stops.specs.declared.Kind.the-variants.{Linear, Smoothstep, Sharp, Basis, CatmullRom, Gimp}
 use Rattle.stops.specs.declared.Checked.{Checked}
 use Rattle.stops.specs.declared.Checked.the-variants as checked
-use Rattle.gradient.specs.Answers.{onFine}
 use Rattle.gradient.specs.Ramp.{isGimp, checkOf, minOf, maxOf, colourOf}
 use Rattle.linearize.specs.Constants.{cells, recordLength}
 use Rattle.linearize.specs.Cells.{rowsOf, countsOf, samplingEvaluations}
-use Rattle.linearize.specs.Places.{listOf}
-use Rattle.linearize.specs.Kept.{channelsOf, keptOf, refusalOf, coloursOf, listEvaluations}
-use Rattle.linearize.specs.Desk.{andThen, farOf, answerBy, countsCheck, shapeCheck, sampleCheck, thinCheck, sampleAnswer, sampleRows, sampleCounts, freshList, flattenEvaluations}
+use Rattle.linearize.specs.Kept.{keptOf, refusalOf, coloursOf, listEvaluations}
+use Rattle.linearize.specs.Desk.{andThen, farOf, shapeCheck, sampleCheck, thinCheck, sampleAnswer, sampleRows, sampleCounts, freshList, flattenEvaluations}
 use Rattle.linearize.proofs.Checks.{record-lengths, ready-counts}
 use Rattle.linearize.proofs.Filling.{sampled-ready}
 use Rattle.refresh.specs.Edit.{changed}
-use Rattle.refresh.specs.RefreshDesk.{refreshable, editCheck, newEvaluations, refreshCheck, refreshAnswer, refreshRows, refreshCounts}
+use Rattle.refresh.specs.RefreshDesk.{refreshable, editCheck, newEvaluations, refreshAnswer}
 use Rattle.refresh.proofs.Edits.{colour-other, colour-new, changed-length}
 use Rattle.refresh.proofs.EditChecks.{edit-fine}
 use Rattle.refresh.proofs.Theorem.{refresh-passes, refreshed-rows-fresh, refreshed-counts-fresh}
 use Rattle.desk.specs.Input.{input, positionsIn, channelsIn, inputOf}
 use Rattle.desk.specs.Recoloured.{recoloured, SameStops}
-use Rattle.desk.specs.Tool.{room, listedText, keptText, onSampled, onRefreshed, freshText, thinText, refreshText, editText, rampText, inputText, deskOf}
+use Rattle.desk.specs.Tool.{room, freshText, thinText, refreshText, editText, inputText, deskOf}
 use Rattle.desk.specs.declared.fields.Edit.{Edit}
 use Rattle.desk.specs.declared.reading.Edited.the-variants as edit
 use Rattle.desk.proofs.Inputs.{length-positions, length-channels}
-use Rattle.desk.proofs.Finite.{read-finite}
+use Rattle.desk.proofs.Plain.{read-finite}
 use Rattle.desk.proofs.Heads.{same-text, same-answers}
 
 -- ---- the changed stops as they are lent

@@ -19,8 +19,8 @@ use Rattle.gradient.specs.Ramp.{minOf, maxOf, colourOf}
 use Rattle.linearize.specs.Constants.{cells, recordLength}
 use Rattle.linearize.specs.Cells.{rowsOf, countsOf, samplingEvaluations}
 use Rattle.linearize.specs.Places.{listOf}
-use Rattle.linearize.specs.Kept.{keptOf, refusalOf, coloursOf, listEvaluations}
-use Rattle.linearize.specs.Desk.{farOf, answerBy, sampleCheck, thinCheck, sampleAnswer, sampleRows, sampleCounts, freshList, flattenEvaluations}
+use Rattle.linearize.specs.Kept.{listEvaluations}
+use Rattle.linearize.specs.Desk.{farOf, answerBy, sampleCheck, thinCheck, sampleAnswer, freshList, flattenEvaluations}
 use Rattle.linearize.specs.declared.Sampled.the-variants as sampled
 use Rattle.linearize.proofs.Bounds.{summed-most, sampling-bound, list-bound}
 use Rattle.linearize.proofs.Calls.{kept-room}
@@ -29,14 +29,13 @@ use Rattle.linearize.proofs.Filling.{sampled-ready}
 use Rattle.linearize.proofs.Following.{list-some, list-most}
 use Rattle.refresh.specs.Anew.{anewTries, anewEvaluations}
 use Rattle.refresh.specs.Edit.{changed}
-use Rattle.refresh.specs.RefreshDesk.{newColour, away, newEvaluations, refreshCheck, refreshAnswer, refreshRows, refreshCounts}
+use Rattle.refresh.specs.RefreshDesk.{newColour, away, newEvaluations, refreshCheck, refreshAnswer}
 use Rattle.refresh.specs.declared.Refreshed.the-variants as refreshed
 use Rattle.refresh.proofs.Renewing.{anew-tries-most}
 use Rattle.desk.specs.Input.{Input, unread, input, positionsIn, channelsIn, inputOf}
 use Rattle.desk.specs.Printed.{decimalOf, countText, stopText, rowsText, lineText, unreadText, refusedText, evaluationsWord, listText, Puts}
-use Rattle.desk.specs.Tool.{room, listedText, onSampled, onRefreshed, freshText, thinText, refreshText, editText, rampText, inputText, deskOf, mostPrinted, Prints}
+use Rattle.desk.specs.Tool.{room, listedText, onSampled, onRefreshed, freshText, thinText, refreshText, editText, inputText, deskOf, mostPrinted, Prints}
 use Rattle.desk.specs.declared.fields.Edit.{Edit}
-use Rattle.desk.specs.declared.reading.Edited.{Edited}
 use Rattle.desk.specs.declared.reading.Edited.the-variants as edit
 use Rattle.desk.proofs.Texts.{length-decimal, length-stop}
 use Rattle.desk.proofs.Making.{sets-front}

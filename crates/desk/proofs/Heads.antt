@@ -3,9 +3,9 @@ use Prim.Native.Nat.{ℕ, zero, suc, _+_, _/_, _%_, _<_}
 use native.Mathlib.Nat.{mod-lt}
 use native.Mathlib.Omega.{arith}
 use mathlib.Core.Path.{_≡_, refl, sym, ap, _∙_}
-use mathlib.Core.Bool.{Bool, true, false, not, cond, _&&_}
+use mathlib.Core.Bool.{Bool, true, false, not, cond}
 use mathlib.Core.List.{List, [], _∷_, _++_}
-use lib.ListN.{length, take}
+use lib.ListN.{take}
 use lib.Dec.{ltb, eqb}
 use lib.Ieee.{Float}
 use borrow.Author.Tests.{ne-eqb}
@@ -13,7 +13,7 @@ use Rattle.float.proofs.Flags.{both-l, both-r, failed}
 use Rattle.ggr.specs.Text.{every, onFirst}
 use Rattle.linearize.specs.Desk.{listedOf}
 use Rattle.desk.specs.Entries.{notTab, fields}
-use Rattle.desk.specs.Printed.{decimalOf, countText, rowsText, stopsWord, evaluationsWord, listText}
+use Rattle.desk.specs.Printed.{decimalOf, countText, rowsText, evaluationsWord, listText}
 use Rattle.desk.specs.Recoloured.{firstLine, afterFirst, SameStops}
 use Rattle.desk.specs.Tool.{listedText}
 

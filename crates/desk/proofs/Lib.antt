@@ -5,5 +5,11 @@ mod Inputs
 pub mod Making
 pub mod Fits
 mod Finite
+mod Plain
 mod Heads
 pub mod EditedText
+pub mod Allowed
+mod Parted
+mod ChangedLines
+pub mod EditedLines
+pub mod EditExample
