@@ -5,7 +5,7 @@ use native.Mathlib.Omega.{arith}
 use mathlib.Core.Path.{_≡_, refl, sym, ap, _∙_}
 use mathlib.Core.Bool.{Bool, true, false, not, cond}
 use mathlib.Core.List.{List, [], _∷_, _++_}
-use lib.ListN.{take}
+use lib.ListN.{take, getD}
 use lib.Dec.{ltb, eqb}
 use lib.Ieee.{Float}
 use borrow.Author.Tests.{ne-eqb}
@@ -13,7 +13,7 @@ use Rattle.float.proofs.Flags.{both-l, both-r, failed}
 use Rattle.ggr.specs.Text.{every, onFirst}
 use Rattle.linearize.specs.Desk.{listedOf}
 use Rattle.desk.specs.Entries.{notTab, fields}
-use Rattle.desk.specs.Printed.{decimalOf, countText, rowsText, evaluationsWord, listText}
+use Rattle.desk.specs.Printed.{decimalOf, countText, rowsText, lineText, refusedText, evaluationsWord, listText}
 use Rattle.desk.specs.Recoloured.{firstLine, afterFirst, SameStops}
 use Rattle.desk.specs.Tool.{listedText}
 
@@ -82,11 +82,21 @@ module _ (n : ℕ) (ps cs : List Float) where
   unfolding listText afterFirst
   list-rest e = after-past (countText n) (evaluationsWord ++ (countText e ++ 10 ∷ rowsText n ps cs)) (no-lf n) ∙ after-past (countText e) (10 ∷ rowsText n ps cs) (no-lf e)
 
+  -- it is no refusal, which starts otherwise
+  list-not-refused : (e number : ℕ) → listText n e ps cs ≡ refusedText number → ⊥
+  unfolding listText refusedText lineText
+  list-not-refused e number h = omega (arith, ap (λ (t : List ℕ). getD t 0 0) h)
+
 -- the same text
 pub same-text : {x y : List ℕ} → x ≡ y → SameStops x y
-same-text e = record { first = ap (λ (t : List ℕ). take 3 (fields (firstLine t))) e; rest = ap afterFirst e }
+same-text e = record { first = ap (λ (t : List ℕ). take 3 (fields (firstLine t))) e; rest = ap afterFirst e; refused = λ number. (λ h. sym e ∙ h, λ h. e ∙ h) }
 
 -- answers that differ in the number of evaluations alone
 pub same-answers : (refusal n e e′ : ℕ) (ps cs : List Float) → SameStops (listedText (listedOf refusal n e) ps cs) (listedText (listedOf refusal n e′) ps cs)
 same-answers (suc r) n e e′ ps cs = same-text refl
-same-answers zero n e e′ ps cs = record { first = list-first n ps cs e ∙ sym (list-first n ps cs e′); rest = list-rest n ps cs e ∙ sym (list-rest n ps cs e′) }
+same-answers zero n e e′ ps cs =
+    record {
+      first = list-first n ps cs e ∙ sym (list-first n ps cs e′);
+      rest = list-rest n ps cs e ∙ sym (list-rest n ps cs e′);
+      refused = λ number. (λ h. absurd (list-not-refused n ps cs e number h), λ h. absurd (list-not-refused n ps cs e′ number h));
+    }

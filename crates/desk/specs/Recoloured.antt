@@ -10,6 +10,7 @@ use Rattle.blend.specs.declared.Stop.{Stop}
 use Rattle.ggr.specs.Text.{lines}
 use Rattle.desk.specs.Entries.{fields, stopTag, entryOf}
 use Rattle.desk.specs.Input.{mostBytes, ifStop}
+use Rattle.desk.specs.Printed.{refusedText}
 use Rattle.desk.specs.declared.fields.Edit.{Edit}
 use Rattle.desk.specs.declared.fields.Entry.the-variants as entry
 
@@ -28,11 +29,12 @@ unfoldable pub afterFirst : List ℕ → List ℕ
 afterFirst [] = []
 afterFirst (b ∷ s) = cond (eqb b 10) s (afterFirst s)
 
--- The same stop lines, byte for byte, after the same first line but for its fourth field, the number of evaluations: `stops`, their number and `evaluations`;
--- of a refusal `refused` and its number, which is all of it.
+-- The same stop lines, byte for byte, after the same first line but for its fourth field, the number of evaluations: `stops`, their number and `evaluations`.
+-- Where one of the two is a refusal, which is a line alone, the other is the same refusal.
 pub record SameStops (x y : List ℕ) : Type 0 where
   pub first : take 3 (fields (firstLine x)) ≡ take 3 (fields (firstLine y))
   pub rest : afterFirst x ≡ afterFirst y
+  pub refused : (number : ℕ) → (x ≡ refusedText number → y ≡ refusedText number) × (y ≡ refusedText number → x ≡ refusedText number)
 
 -- ---- the same of the lines of a text
 
