@@ -146,6 +146,9 @@ number-all : (x : Float) (ys : List Float) → addNumber (Number x) (all ys) ≡
 unfolding addNumber
 number-all x ys = refl
 
+pub edit-fields : (d : List ℕ) {e : Edit} → entryOf d ≡ entry.Change e → 1 < length (fields (drop 5 d))
+edit-fields d h = channels-of (fields (drop 5 d)) (edit-line d h) .many
+
 five-numbers : (x : Float) (ys : List Float) → length ys ≡ 4 → exactly 5 toStop (all (x ∷ ys)) ≡ entry.Stop (record { position = x; colour = channelsAt ys 0 })
 unfolding exactly
 five-numbers x ys h = rw (eq-eqb (suc (length ys)) 5 (omega arith))

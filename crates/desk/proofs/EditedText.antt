@@ -14,7 +14,6 @@ use Rattle.blend.specs.declared.Stop.{Stop}
 use Rattle.blend.proofs.FiniteLists.{finite-each}
 use Rattle.stops.specs.Stops.{posAt, colourAt, finiteRgba, eachStop, stopsCheck}
 use Rattle.stops.specs.declared.Kind.{Kind}
-use Rattle.stops.specs.declared.Kind.the-variants.{Linear, Smoothstep, Sharp, Basis, CatmullRom, Gimp}
 use Rattle.stops.specs.declared.Checked.{Checked}
 use Rattle.stops.specs.declared.Checked.the-variants as checked
 use Rattle.gradient.specs.Ramp.{isGimp, checkOf, minOf, maxOf, colourOf}
@@ -25,7 +24,7 @@ use Rattle.linearize.specs.Desk.{andThen, farOf, shapeCheck, sampleCheck, thinC
 use Rattle.linearize.proofs.Checks.{record-lengths, ready-counts}
 use Rattle.linearize.proofs.Filling.{sampled-ready}
 use Rattle.refresh.specs.Edit.{changed}
-use Rattle.refresh.specs.RefreshDesk.{refreshable, editCheck, newEvaluations, refreshAnswer}
+use Rattle.refresh.specs.RefreshDesk.{editCheck, newEvaluations, refreshAnswer}
 use Rattle.refresh.proofs.Edits.{colour-other, colour-new, changed-length}
 use Rattle.refresh.proofs.EditChecks.{edit-fine}
 use Rattle.refresh.proofs.Theorem.{refresh-passes, refreshed-rows-fresh, refreshed-counts-fresh}
@@ -135,14 +134,6 @@ module _ (kind : Kind) (ps cs : List Float) (ks : List ℕ) (asked : Float) (e :
     go checked.Fine h = subst (λ (t : List ℕ). SameStops t (freshText kind ps (changed cs (e .index) (e .colour)) ks asked rows counts)) (sym (edit-thins h)) (thinned-fresh kind ps (changed cs (e .index) (e .colour)) ks asked rows counts (same ∙ h) _)
 
 -- ---- the tool
-no-gimp : (kind : Kind) → refreshable kind ≡ true → isGimp kind ≡ false
-no-gimp Linear h = refl
-no-gimp Smoothstep h = refl
-no-gimp Sharp h = refl
-no-gimp Basis h = refl
-no-gimp CatmullRom h = refl
-no-gimp Gimp h = sym h
-
 -- s has an edit of a stop that is there; s′ has the same stops with that one changed, and no edit
 pub edited-text : (s s′ : List ℕ) {kind : Kind} {asked : Float} {stops : List Stop} {e : Edit} → inputOf s ≡ input kind asked stops (edit.By e) → e .index < length stops → inputOf s′ ≡ input kind asked (recoloured stops (e .index) (e .colour)) edit.Not → SameStops (deskOf s) (deskOf s′)
 unfolding deskOf inputText
@@ -158,5 +149,5 @@ edited-text s s′ {kind} {asked} {stops} {e} i h j =
     let short : k < length ps = omega (arith, length-positions stops) in
     rw (i, j, same-positions stops k (e .colour), changed-channels stops k (e .colour) h)
     (edit-fresh kind ps cs [] asked e (replicate recordLength f0) (replicate cells 0)
-    (sampling-same cs k (e .colour) there old (f .colour-fine) kind ps [] recordLength cells (no-gimp kind (f .kind-fine)))
+    (sampling-same cs k (e .colour) there old (f .colour-fine) kind ps [] recordLength cells (f .kind-stops))
     (sym (edit-fine kind (length ps) k (e .colour) (f .kind-fine) short (f .colour-fine))))

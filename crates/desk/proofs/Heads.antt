@@ -18,7 +18,7 @@ use Rattle.desk.specs.Recoloured.{firstLine, afterFirst, SameStops}
 use Rattle.desk.specs.Tool.{listedText}
 
 -- ---- bytes that all pass a test
-every-both : (p : ℕ → Bool) (xs ys : List ℕ) → every p xs ≡ true → every p ys ≡ true → every p (xs ++ ys) ≡ true
+pub every-both : (p : ℕ → Bool) (xs ys : List ℕ) → every p xs ≡ true → every p ys ≡ true → every p (xs ++ ys) ≡ true
 unfolding every
 every-both p [] ys h k = k
 every-both p (x ∷ xs) ys h k = rw (both-l (p x) (every p xs) h, every-both p xs ys (both-r (p x) (every p xs) h) k)

@@ -12,4 +12,5 @@ pub mod Allowed
 mod Parted
 mod ChangedLines
 pub mod EditedLines
+pub mod Written
 pub mod EditExample

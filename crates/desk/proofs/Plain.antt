@@ -2,19 +2,20 @@
 use Prim.Native.Nat.{ℕ, _+_, _-_}
 use native.Mathlib.Omega.{arith}
 use mathlib.Core.Path.{_≡_, refl, sym, ap, _∙_}
-use mathlib.Core.Bool.{Bool, true, false, cond, _&&_}
+use mathlib.Core.Bool.{Bool, true, false, not, cond, _&&_}
 use mathlib.Core.List.{List, [], _∷_}
 use lib.ListN.{length, drop}
 use lib.Dec.{leb, eqb}
 use lib.Ieee.{Float}
 use lib.Ieee.Scale.{finite}
 use borrow.Author.Tests.{eqb-true}
-use Rattle.float.proofs.Flags.{both-l, both-r, parts4}
+use Rattle.float.proofs.Flags.{both-l, both-r, parts4, failed}
 use Rattle.blend.specs.Finite.{allFinite}
 use Rattle.blend.specs.declared.Stop.{Stop}
 use Rattle.blend.proofs.FiniteLists.{finite-each}
 use Rattle.stops.specs.Stops.{finiteRgba}
 use Rattle.stops.specs.declared.Kind.{Kind}
+use Rattle.gradient.specs.Ramp.{isGimp}
 use Rattle.ggr.specs.Text.{same, starts}
 use Rattle.ggr.specs.Segment.{Numbers, all, none, numbers}
 use Rattle.ggr.specs.declared.text.Count.{Count}
@@ -33,9 +34,12 @@ use Rattle.desk.proofs.Finite.{numbersFinite, numbers-finite}
 
 -- ---- entries
 
--- a kind that can be refreshed; channels that are finite
+-- a kind of stops that can be refreshed; channels that are finite
+abbrev plainKind : Kind → Bool
+plainKind k = refreshable k && not (isGimp k)
+
 abbrev plainEntry : Entry → Bool
-plainEntry (entry.Ramp k) = refreshable k
+plainEntry (entry.Ramp k) = plainKind k
 plainEntry (entry.Threshold x) = true
 plainEntry (entry.Stop s) = finiteRgba (s .colour)
 plainEntry (entry.Change e) = finiteRgba (e .colour)
@@ -101,9 +105,9 @@ plainEdit (edit.By e) = finiteRgba (e .colour)
 
 abbrev plainInput : Input → Bool
 plainInput (unread line) = true
-plainInput (input k x stops e) = refreshable k && (allFinite (channelsIn stops) && plainEdit e)
+plainInput (input k x stops e) = plainKind k && (allFinite (channelsIn stops) && plainEdit e)
 
-module _ (k : Kind) (x : Float) (ok : refreshable k ≡ true) where
+module _ (k : Kind) (x : Float) (ok : plainKind k ≡ true) where
   end-plain : (stops : List Stop) (e : Edit) (line : ℕ) (ls : List (List ℕ)) → allFinite (channelsIn stops) ≡ true → finiteRgba (e .colour) ≡ true → plainInput (fromEnd k x stops e line ls) ≡ true
   unfolding fromEnd
   end-plain stops e line [] h f = rw (ok, h, f)
@@ -124,7 +128,7 @@ module _ (k : Kind) (x : Float) (ok : refreshable k ≡ true) where
   unfolding fromStops
   block-plain line ls = ending-plain (stopsOf ls) (line + length (stopsOf ls)) (afterStops ls) (stops-plain ls)
 
-start-plain : (k : Kind) (ls : List (List ℕ)) → refreshable k ≡ true → plainInput (fromThreshold k ls) ≡ true
+start-plain : (k : Kind) (ls : List (List ℕ)) → plainKind k ≡ true → plainInput (fromThreshold k ls) ≡ true
 unfolding fromThreshold
 start-plain k [] ok = block-plain k defaultThreshold ok 2 []
 start-plain k (l ∷ ls) ok = go (entryOf l) where
@@ -156,15 +160,18 @@ input-plain s = go (leb (length s) mostBytes) where
 -- what is read of a ramp with an edit
 pub record ReadFinite (kind : Kind) (stops : List Stop) (e : Edit) : Type 0 where
   pub kind-fine : refreshable kind ≡ true
+  pub kind-stops : isGimp kind ≡ false
   pub channels-fine : allFinite (channelsIn stops) ≡ true
   pub colour-fine : finiteRgba (e .colour) ≡ true
 
 pub read-finite : (s : List ℕ) {kind : Kind} {asked : Float} {stops : List Stop} {e : Edit} → inputOf s ≡ input kind asked stops (edit.By e) → ReadFinite kind stops e
 read-finite s {kind} {asked} {stops} {e} i =
-    let h : (refreshable kind && (allFinite (channelsIn stops) && finiteRgba (e .colour))) ≡ true = sym (ap plainInput i) ∙ input-plain s in
-    let r = both-r (refreshable kind) (allFinite (channelsIn stops) && finiteRgba (e .colour)) h in
+    let h : (plainKind kind && (allFinite (channelsIn stops) && finiteRgba (e .colour))) ≡ true = sym (ap plainInput i) ∙ input-plain s in
+    let k = both-l (plainKind kind) (allFinite (channelsIn stops) && finiteRgba (e .colour)) h in
+    let r = both-r (plainKind kind) (allFinite (channelsIn stops) && finiteRgba (e .colour)) h in
     record {
-      kind-fine = both-l (refreshable kind) (allFinite (channelsIn stops) && finiteRgba (e .colour)) h;
+      kind-fine = both-l (refreshable kind) (not (isGimp kind)) k;
+      kind-stops = failed (both-r (refreshable kind) (not (isGimp kind)) k) refl;
       channels-fine = both-l (allFinite (channelsIn stops)) (finiteRgba (e .colour)) r;
       colour-fine = both-r (allFinite (channelsIn stops)) (finiteRgba (e .colour)) r;
     }

@@ -1,13 +1,13 @@
 -- A text with an `edit` beside one with the changed stop and no `edit`: what is the same of what is printed for them.
 use Prim.Native.Nat.{ℕ, zero, suc, _≤_}
 use mathlib.Core.Path.{_≡_}
-use mathlib.Core.Bool.{cond}
+use mathlib.Core.Bool.{Bool, true, not, cond, _&&_}
 use mathlib.Core.List.{List, [], _∷_, _++_}
 use lib.ListN.{length, take, drop}
 use lib.Dec.{eqb}
 use Rattle.blend.specs.declared.Rgba.{Rgba}
 use Rattle.blend.specs.declared.Stop.{Stop}
-use Rattle.ggr.specs.Text.{lines}
+use Rattle.ggr.specs.Text.{every, lines}
 use Rattle.desk.specs.Entries.{fields, stopTag, entryOf}
 use Rattle.desk.specs.Input.{mostBytes, ifStop}
 use Rattle.desk.specs.Printed.{refusedText}
@@ -65,3 +65,15 @@ pub record EditMade (s s′ : List ℕ) (e : Edit) : Type 0 where
   pub before : lines s ≡ body ++ last ∷ []
   pub after : lines s′ ≡ changedLines (e .index) last body
   pub fits : length s′ ≤ mostBytes
+
+-- lines written one after the other, each ended by LF; and that no byte of them is LF or CR
+unfoldable pub textOf : List (List ℕ) → List ℕ
+textOf [] = []
+textOf (l ∷ ls) = l ++ 10 ∷ textOf ls
+
+abbrev pub inLine : ℕ → Bool
+inLine b = not (eqb b 10) && not (eqb b 13)
+
+unfoldable pub unbroken : List (List ℕ) → Bool
+unbroken [] = true
+unbroken (l ∷ ls) = every inLine l && unbroken ls
