@@ -196,7 +196,7 @@ static void check_printed(const char *text, size_t n)
 static void fuzz_desk(Bytes in)
 {
     size_t room = 256 * (size_t)byte(&in);
-    Lent whole = lend(50100), some;
+    Lent whole = lend(COLORGRAD_MOST_PRINTED), some;
     size_t n, again;
     uint8_t *input;
     char *text;

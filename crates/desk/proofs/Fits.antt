@@ -14,7 +14,7 @@ use Rattle.stops.specs.Stops.{stopAt}
 use Rattle.stops.specs.declared.Kind.{Kind}
 use Rattle.stops.specs.declared.Checked.{Checked}
 use Rattle.stops.specs.declared.Checked.the-variants as checked
-use Rattle.gradient.specs.Answers.{onFine}
+use Rattle.stops.specs.Answers.{onFine}
 use Rattle.gradient.specs.Ramp.{minOf, maxOf, colourOf}
 use Rattle.linearize.specs.Constants.{cells, recordLength}
 use Rattle.linearize.specs.Cells.{rowsOf, countsOf, samplingEvaluations}
