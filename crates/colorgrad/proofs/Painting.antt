@@ -6,6 +6,7 @@ use Prim.Native.Nat.{ℕ, _*_, _≤_, _<_}
 use lib.ListN.{length, replicate}
 use lib.Ieee.{Float}
 use borrow.Author.Tests.{lt-ltb, le-ltb}
+use Rattle.refusals.specs.Refusals.{noRoom}
 use Rattle.float.specs.F32.{f0}
 use Rattle.blend.specs.declared.Rgba.{Rgba}
 use Rattle.stops.specs.Place.{Rising}
@@ -51,7 +52,7 @@ module _ (kind : Kind) (ps cs : List Float) (ks : List ℕ) where
         }
 
     module _ (ts out : List Float) {out′ : List Float} where
-      pub no-room : roomOf out < length ts → out′ ≡ replicate (length out) f0 → PaintIs kind ps cs ks ts out out′ (painted.Refused 7)
+      pub no-room : roomOf out < length ts → out′ ≡ replicate (length out) f0 → PaintIs kind ps cs ks ts out out′ (painted.Refused noRoom)
       unfolding paintCheck paintAnswer canvas
       no-room l e = let b = lt-ltb (roomOf out) (length ts) l in record { number = simp (yes, b); answer = simp (yes, b); contents = e ∙ simp (yes, b) }
 

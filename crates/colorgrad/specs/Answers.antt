@@ -4,6 +4,7 @@ use mathlib.Core.List.{List, [], _∷_}
 use Prim.Native.Nat.{ℕ}
 use lib.Dec.{ltb}
 use lib.Ieee.{Float}
+use Rattle.refusals.specs.Refusals.{noRoom}
 use Rattle.blend.specs.declared.Rgba.{Rgba}
 use Rattle.stops.specs.declared.Kind.{Kind}
 use Rattle.stops.specs.declared.Checked.{Checked}
@@ -35,7 +36,7 @@ module _ (kind : Kind) (ps cs : List Float) (ks : List ℕ) where
 
   -- painting n colours where there is room for so many: 1 to 3, then 7
   unfoldable pub paintCheck : ℕ → ℕ → Checked
-  paintCheck n room = onFine (checkOf kind ps cs ks) (cond (ltb room n) (checked.Refused 7) checked.Fine) checked.Refused
+  paintCheck n room = onFine (checkOf kind ps cs ks) (cond (ltb room n) (checked.Refused noRoom) checked.Fine) checked.Refused
 
   unfoldable pub paintAnswer : ℕ → ℕ → Painted
   paintAnswer n room = onFine (paintCheck n room) painted.Done painted.Refused

@@ -1,5 +1,6 @@
 // The public face: a ramp lent as slices, checked and then used. Every call answers for any slices at all.
 use blend::Rgba;
+use refusals::NO_ROOM;
 use stops::Checked;
 use stops::Kind;
 use stops::near;
@@ -20,8 +21,6 @@ pub mod edits;
 pub mod lists;
 mod pairs;
 mod segments;
-
-const NO_ROOM: u8 = 7;
 
 // The colour at t, or the number of the refusal.
 pub enum Answer {

@@ -5,6 +5,7 @@ use Prim.Native.Nat.{ℕ}
 use borrow.Author.Tests.{ne-eqb}
 use lib.ListN.{length}
 use lib.Ieee.{Float}
+use Rattle.refusals.specs.Refusals.{misshapen}
 use Rattle.float.specs.F32.{f0}
 use Rattle.stops.specs.declared.Checked.{Checked}
 use Rattle.stops.specs.declared.Checked.the-variants as checked
@@ -57,7 +58,7 @@ module _ (ps cs : List Float) (ks : List ℕ) where
   unfolding codedCheck
   check-of h e = e ∙ sym (ap (λ (z : Coded). codedCheck z ps cs ks) h)
 
-  pub check-none : {x : Coded} → x ≡ Unknown → checked.Refused 1 ≡ codedCheck x ps cs ks
+  pub check-none : {x : Coded} → x ≡ Unknown → checked.Refused misshapen ≡ codedCheck x ps cs ks
   unfolding codedCheck
   check-none h = sym (ap (λ (z : Coded). codedCheck z ps cs ks) h)
 
@@ -69,7 +70,7 @@ module _ (ps cs : List Float) (ks : List ℕ) where
       ∙ ap (λ (z : Float). domainBy (checkOf kind ps cs ks) (minOf kind ps) z) hh
       ∙ sym (ap (λ (z : Coded). codedDomain z ps cs ks) h)
 
-  pub domain-none : {x : Coded} {r : Domain} → x ≡ Unknown → r ≡ domainBy (checked.Refused 1) f0 f0 → r ≡ codedDomain x ps cs ks
+  pub domain-none : {x : Coded} {r : Domain} → x ≡ Unknown → r ≡ domainBy (checked.Refused misshapen) f0 f0 → r ≡ codedDomain x ps cs ks
   unfolding codedDomain
   domain-none h e = e ∙ sym (ap (λ (z : Coded). codedDomain z ps cs ks) h)
 
@@ -77,7 +78,7 @@ module _ (ps cs : List Float) (ks : List ℕ) where
   unfolding codedAnswer
   answer-of t h e = e ∙ sym (ap (λ (z : Coded). codedAnswer z ps cs ks t) h)
 
-  pub answer-none : {x : Coded} (t : Float) → x ≡ Unknown → answer.Refused 1 ≡ codedAnswer x ps cs ks t
+  pub answer-none : {x : Coded} (t : Float) → x ≡ Unknown → answer.Refused misshapen ≡ codedAnswer x ps cs ks t
   unfolding codedAnswer
   answer-none t h = sym (ap (λ (z : Coded). codedAnswer z ps cs ks t) h)
 
@@ -85,7 +86,7 @@ module _ (ps cs : List Float) (ks : List ℕ) where
   unfolding codedPainted
   painted-of ts out h e = e ∙ sym (ap (λ (z : Coded). codedPainted z ps cs ks ts out) h)
 
-  pub painted-none : {x : Coded} (ts out : List Float) → x ≡ Unknown → painted.Refused 1 ≡ codedPainted x ps cs ks ts out
+  pub painted-none : {x : Coded} (ts out : List Float) → x ≡ Unknown → painted.Refused misshapen ≡ codedPainted x ps cs ks ts out
   unfolding codedPainted
   painted-none ts out h = sym (ap (λ (z : Coded). codedPainted z ps cs ks ts out) h)
 

@@ -3,6 +3,7 @@ use Prim.Native.Nat.{ℕ}
 use mathlib.Core.Path.{_≡_}
 use mathlib.Core.List.{List}
 use lib.Ieee.{Float}
+use Rattle.refusals.specs.Refusals.{misshapen}
 use Rattle.blend.specs.declared.Rgba.{Rgba}
 use Rattle.stops.specs.declared.Kind.{Kind}
 use Rattle.refresh.specs.RefreshDesk.{Refreshes, RefreshLists}
@@ -22,9 +23,9 @@ refreshedShown (refreshed.Refused n) = record { refusal = n; evaluations = 0 }
 pub record CodedRefreshes (code : Coded) (ps cs : List Float) (ks : List ℕ) (k : ℕ) (colour : Rgba) (asked : Float) (rows : List Float) (counts : List ℕ) (rows′ : List Float) (counts′ : List ℕ) (r : Refreshed) : Type 0 where
   pub is :
       onCode code (λ (kind : Kind). Refreshes kind ps cs ks k colour asked rows counts rows′ counts′ r)
-      ((r ≡ refreshed.Refused 1) × ((rows′ ≡ rows) × (counts′ ≡ counts)))
+      ((r ≡ refreshed.Refused misshapen) × ((rows′ ≡ rows) × (counts′ ≡ counts)))
 
 pub record CodedRefreshLists (code : Coded) (ps cs : List Float) (ks : List ℕ) (k : ℕ) (colour : Rgba) (asked : Float) (rows : List Float) (counts : List ℕ) (rows′ : List Float) (counts′ : List ℕ) (ops ops′ ocs ocs′ : List Float) (r : Listed) : Type 0 where
   pub is :
       onCode code (λ (kind : Kind). RefreshLists kind ps cs ks k colour asked rows counts rows′ counts′ ops ops′ ocs ocs′ r)
-      ((r ≡ listed.Refused 1) × ((rows′ ≡ rows) × ((counts′ ≡ counts) × ((ops′ ≡ ops) × (ocs′ ≡ ocs)))))
+      ((r ≡ listed.Refused misshapen) × ((rows′ ≡ rows) × ((counts′ ≡ counts) × ((ops′ ≡ ops) × (ocs′ ≡ ocs)))))

@@ -3,6 +3,7 @@ use Prim.Native.Nat.{ℕ}
 use mathlib.Core.Path.{_≡_}
 use mathlib.Core.List.{List}
 use lib.Ieee.{Float}
+use Rattle.refusals.specs.Refusals.{misshapen}
 use Rattle.stops.specs.declared.Kind.{Kind}
 use Rattle.linearize.specs.Promises.{Samples, Thins, Flattens}
 use Rattle.linearize.specs.declared.Sampled.{Sampled}
@@ -32,14 +33,14 @@ pub record Shows {A B : Type 0} (P : A → Type 0) (show : A → B) (b : B) : Ty
 pub record CodedSamples (code : Coded) (ps cs : List Float) (ks : List ℕ) (asked : Float) (rows rows′ : List Float) (counts counts′ : List ℕ) (r : Sampled) : Type 0 where
   pub is :
       onCode code (λ (kind : Kind). Samples kind ps cs ks asked rows rows′ counts counts′ r)
-      ((r ≡ sampled.Refused 1) × ((rows′ ≡ rows) × (counts′ ≡ counts)))
+      ((r ≡ sampled.Refused misshapen) × ((rows′ ≡ rows) × (counts′ ≡ counts)))
 
 pub record CodedThins (code : Coded) (ps cs : List Float) (ks : List ℕ) (asked : Float) (rows : List Float) (counts : List ℕ) (ops ops′ ocs ocs′ : List Float) (r : Listed) : Type 0 where
   pub is :
       onCode code (λ (kind : Kind). Thins kind ps cs ks asked rows counts ops ops′ ocs ocs′ r)
-      ((r ≡ listed.Refused 1) × ((ops′ ≡ ops) × (ocs′ ≡ ocs)))
+      ((r ≡ listed.Refused misshapen) × ((ops′ ≡ ops) × (ocs′ ≡ ocs)))
 
 pub record CodedFlattens (code : Coded) (ps cs : List Float) (ks : List ℕ) (asked : Float) (rows rows′ : List Float) (counts counts′ : List ℕ) (ops ops′ ocs ocs′ : List Float) (r : Listed) : Type 0 where
   pub is :
       onCode code (λ (kind : Kind). Flattens kind ps cs ks asked rows rows′ counts counts′ ops ops′ ocs ocs′ r)
-      ((r ≡ listed.Refused 1) × ((rows′ ≡ rows) × ((counts′ ≡ counts) × ((ops′ ≡ ops) × (ocs′ ≡ ocs)))))
+      ((r ≡ listed.Refused misshapen) × ((rows′ ≡ rows) × ((counts′ ≡ counts) × ((ops′ ≡ ops) × (ocs′ ≡ ocs)))))

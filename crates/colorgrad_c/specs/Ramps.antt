@@ -3,6 +3,7 @@ use Prim.Native.Nat.{ℕ}
 use mathlib.Core.List.{List}
 use lib.ListN.{length}
 use lib.Ieee.{Float}
+use Rattle.refusals.specs.Refusals.{misshapen}
 use Rattle.float.specs.F32.{f0}
 use Rattle.stops.specs.declared.Kind.{Kind}
 use Rattle.stops.specs.declared.Checked.{Checked}
@@ -36,19 +37,19 @@ builtShown r = record { refusal = numberOfBuilt r; stops = stopsOfBuilt r }
 
 -- the calls on a ramp; a code that names no kind is 1 and changes nothing
 unfoldable pub codedCheck : Coded → List Float → List Float → List ℕ → Checked
-codedCheck coded ps cs ks = onKind coded (λ (kind : Kind). checkOf kind ps cs ks) (checked.Refused 1)
+codedCheck coded ps cs ks = onKind coded (λ (kind : Kind). checkOf kind ps cs ks) (checked.Refused misshapen)
 
 unfoldable pub codedDomain : Coded → List Float → List Float → List ℕ → Domain
 codedDomain coded ps cs ks =
     onKind coded
     (λ (kind : Kind). domainBy (checkOf kind ps cs ks) (minOf kind ps) (maxOf kind ps))
-    (domainBy (checked.Refused 1) f0 f0)
+    (domainBy (checked.Refused misshapen) f0 f0)
 
 unfoldable pub codedAnswer : Coded → List Float → List Float → List ℕ → Float → Answer
-codedAnswer coded ps cs ks t = onKind coded (λ (kind : Kind). atAnswer kind ps cs ks t) (answer.Refused 1)
+codedAnswer coded ps cs ks t = onKind coded (λ (kind : Kind). atAnswer kind ps cs ks t) (answer.Refused misshapen)
 
 unfoldable pub codedPainted : Coded → List Float → List Float → List ℕ → List Float → List Float → Painted
-codedPainted coded ps cs ks ts out = onKind coded (λ (kind : Kind). paintAnswer kind ps cs ks (length ts) (roomOf out)) (painted.Refused 1)
+codedPainted coded ps cs ks ts out = onKind coded (λ (kind : Kind). paintAnswer kind ps cs ks (length ts) (roomOf out)) (painted.Refused misshapen)
 
 unfoldable pub codedCanvas : Coded → List Float → List Float → List ℕ → List Float → List Float → List Float
 codedCanvas coded ps cs ks ts out = onKind coded (λ (kind : Kind). canvas kind ps cs ks ts out) out

@@ -7,12 +7,11 @@ use crate::lists::SampleMade;
 use blend::Rgba;
 use linearize::Listed;
 use refresh::Refreshed;
+use refusals::MISSHAPEN;
 ghost use mathlib.Core.Path.{_≡_};
 ghost use Rattle.colorgrad_c.specs.Kinds.{kindOf};
 ghost use Rattle.colorgrad_c.specs.Lists.{Shows, listedShown};
 ghost use Rattle.colorgrad_c.specs.Edits.{refreshedShown, CodedRefreshes, CodedRefreshLists};
-
-const WRONG_SHAPE: u8 = 1;
 
 fn refreshed_shown(refreshed: Refreshed) -> SampleMade
     ensures { λ r. ⌜ r ≡ refreshedShown refreshed ⌝ }
@@ -56,7 +55,7 @@ fn coded_refresh(
                 counts,
             )
         }
-        Coded::Unknown => Refreshed::Refused(WRONG_SHAPE),
+        Coded::Unknown => Refreshed::Refused(MISSHAPEN),
     }
 }
 
@@ -118,7 +117,7 @@ fn coded_refresh_list(
                 colours,
             )
         }
-        Coded::Unknown => Listed::Refused(WRONG_SHAPE),
+        Coded::Unknown => Listed::Refused(MISSHAPEN),
     }
 }
 

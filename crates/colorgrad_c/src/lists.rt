@@ -3,11 +3,10 @@ use crate::kinds;
 use crate::kinds::Coded;
 use linearize::Listed;
 use linearize::Sampled;
+use refusals::MISSHAPEN;
 ghost use mathlib.Core.Path.{_≡_};
 ghost use Rattle.colorgrad_c.specs.Kinds.{kindOf};
 ghost use Rattle.colorgrad_c.specs.Lists.{Shows, sampledShown, listedShown, CodedSamples, CodedThins, CodedFlattens};
-
-const WRONG_SHAPE: u8 = 1;
 
 // The refusal, or 0 and the evaluations.
 #[repr(C)]
@@ -77,7 +76,7 @@ fn coded_sample(
             rows,
             counts,
         ),
-        Coded::Unknown => Sampled::Refused(WRONG_SHAPE),
+        Coded::Unknown => Sampled::Refused(MISSHAPEN),
     }
 }
 
@@ -131,7 +130,7 @@ fn coded_thin(
                 colours,
             )
         }
-        Coded::Unknown => Listed::Refused(WRONG_SHAPE),
+        Coded::Unknown => Listed::Refused(MISSHAPEN),
     }
 }
 
@@ -189,7 +188,7 @@ fn coded_flatten(
                 colours,
             )
         }
-        Coded::Unknown => Listed::Refused(WRONG_SHAPE),
+        Coded::Unknown => Listed::Refused(MISSHAPEN),
     }
 }
 

@@ -5,6 +5,7 @@ use blend::Rgba;
 use colorgrad::Answer;
 use colorgrad::Painted;
 use gradient::sharp::Built;
+use refusals::MISSHAPEN;
 use stops::Checked;
 ghost use mathlib.Core.Path.{_≡_};
 ghost use lib.ListN.{length};
@@ -13,8 +14,6 @@ ghost use Rattle.gradient.specs.Sharp.{buildOf, after, bands, sharpPositions, s
 ghost use Rattle.colorgrad_c.specs.Kinds.{kindOf};
 ghost use Rattle.colorgrad.specs.Answers.{numberOfPainted};
 ghost use Rattle.colorgrad_c.specs.Ramps.{codedCheck, domainBy, codedDomain, codedAnswer, answerShown, codedPainted, codedCanvas, builtShown};
-
-const WRONG_SHAPE: u8 = 1;
 
 // The refusal, or 0 and the ends of the domain.
 #[repr(C)]
@@ -52,7 +51,7 @@ fn coded_check(coded: Coded, positions: &[f32], channels: &[f32], codes: &[u8]) 
 {
     match coded {
         Coded::Of(kind) => gradient::check(kind, positions, channels, codes),
-        Coded::Unknown => Checked::Refused(WRONG_SHAPE),
+        Coded::Unknown => Checked::Refused(MISSHAPEN),
     }
 }
 
@@ -97,7 +96,7 @@ fn coded_domain(coded: Coded, positions: &[f32], channels: &[f32], codes: &[u8])
                 gradient::max_of(kind, positions),
             )
         }
-        Coded::Unknown => domain_by(Checked::Refused(WRONG_SHAPE), 0.0, 0.0),
+        Coded::Unknown => domain_by(Checked::Refused(MISSHAPEN), 0.0, 0.0),
     }
 }
 
@@ -135,7 +134,7 @@ fn coded_answer(coded: Coded, positions: &[f32], channels: &[f32], codes: &[u8],
 {
     match coded {
         Coded::Of(kind) => colorgrad::at(kind, positions, channels, codes, t),
-        Coded::Unknown => Answer::Refused(WRONG_SHAPE),
+        Coded::Unknown => Answer::Refused(MISSHAPEN),
     }
 }
 
@@ -174,7 +173,7 @@ fn coded_paint(
 {
     match coded {
         Coded::Of(kind) => colorgrad::paint(kind, positions, channels, codes, ts, out),
-        Coded::Unknown => Painted::Refused(WRONG_SHAPE),
+        Coded::Unknown => Painted::Refused(MISSHAPEN),
     }
 }
 

@@ -6,6 +6,7 @@ use mathlib.Core.Bool.{true, false}
 use mathlib.Core.List.{List, [], _∷_}
 use lib.ListN.{length, take, drop, replicate, drop-of-length-le}
 use lib.Ieee.{Float}
+use Rattle.refusals.specs.Limits.{mostSegments}
 use Rattle.float.specs.F32.{f0}
 use Rattle.blend.specs.declared.Rgba.{Rgba}
 use Rattle.ggr.specs.declared.segment.Segment.{Segment}
@@ -15,7 +16,6 @@ use Rattle.ggr.specs.declared.header.Lead.{Lead}
 use Rattle.ggr.specs.declared.header.Lead.the-variants.{Counted, Refuse}
 use Rattle.ggr.specs.Text.{unmark, lines, firstOf, restOf, orEmpty, textLines, trimStart, trimEnd, trim}
 use Rattle.stops.specs.Stops.{finiteRgba}
-use Rattle.gradient.specs.Gimp.{mostSegments}
 use Rattle.ggr.specs.File.{Outcome, found, refused, segments, fromLines, fitText, fileOf, answerOf, numberOfAnswer, lineOfAnswer, segmentsOfAnswer, numberIn, lineIn, segmentsIn, positionsOf, channelsOf, codesOf, written, roomOf, Done, black, whenRead, nameOf}
 use Rattle.ggr.specs.Steps.{leads, leadFits, LeadsTo, LineAt, Filled}
 

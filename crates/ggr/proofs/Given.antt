@@ -8,10 +8,11 @@ use lib.ListN.{length, getD}
 use lib.Dec.{leb, eqb}
 use lib.Ieee.{Float, nan}
 use borrow.Author.Tests.{leb-true}
+use Rattle.refusals.specs.Limits.{mostSegments}
 use Rattle.float.proofs.Flags.{both-l, both-r}
 use Rattle.blend.specs.declared.Rgba.{Rgba}
 use Rattle.stops.specs.Stops.{finiteRgba}
-use Rattle.gradient.specs.Gimp.{mostSegments, carried}
+use Rattle.gradient.specs.Gimp.{carried}
 use Rattle.ggr.specs.declared.text.Count.{Count}
 use Rattle.ggr.specs.declared.text.Count.the-variants.{Bad, Is}
 use Rattle.ggr.specs.declared.segment.Segment.{Segment}

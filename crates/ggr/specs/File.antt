@@ -6,10 +6,11 @@ use mathlib.Core.List.{List, [], _∷_, _++_}
 use lib.ListN.{length, drop, replicate}
 use lib.Dec.{leb}
 use lib.Ieee.{Float}
+use Rattle.refusals.specs.Refusals.{notFinite, notAText, badHeader, badSegment, fewLines, noSegment, tooManySegments, notCarried}
+use Rattle.refusals.specs.Limits.{mostSegments, mostText}
 use Rattle.float.specs.F32.{f0}
 use Rattle.blend.specs.declared.Rgba.{Rgba}
 use Rattle.stops.specs.Stops.{finiteRgba}
-use Rattle.gradient.specs.Gimp.{mostSegments}
 use Rattle.ggr.specs.declared.text.Count.{Count}
 use Rattle.ggr.specs.declared.text.Count.the-variants.{Bad, Is}
 use Rattle.ggr.specs.declared.segment.Segment.{Segment}
@@ -18,12 +19,7 @@ use Rattle.ggr.specs.declared.segment.SegmentRead.the-variants.{Valid, I
 use Rattle.ggr.specs.declared.Answer.{Answer}
 use Rattle.ggr.specs.declared.Answer.the-variants.{Read, Refused}
 use Rattle.ggr.specs.Text.{every, ascii, unmark, textLines, firstOf, restOf, same, starts, trim, countOf}
-use Rattle.ggr.specs.Refusals.{notFinite, notText, badHeader, badSegment, fewLines, noSegment, tooMany, notCarried}
 use Rattle.ggr.specs.Segment.{segmentOf}
-
--- at most this many bytes, marks counted
-abbrev pub mostBytes : ℕ
-mostBytes = 65536
 
 -- what a file holds, or the number of a refusal and its line, 0 if none
 pub data Outcome : Type 0 where
@@ -53,7 +49,7 @@ fromCount fg bg (suc n) ls = segments fg bg (suc n) 4 ls
 
 unfoldable pub counted : ℕ → Rgba → Rgba → Count → List (List ℕ) → Outcome
 counted room fg bg Bad ls = refused badHeader 3
-counted room fg bg (Is n) ls = cond (leb n mostSegments && leb n room) (fromCount fg bg n ls) (refused tooMany 3)
+counted room fg bg (Is n) ls = cond (leb n mostSegments && leb n room) (fromCount fg bg n ls) (refused tooManySegments 3)
 
 -- line 3 is the segment count
 unfoldable pub fromThird : ℕ → Rgba → Rgba → List (List ℕ) → Outcome
@@ -82,12 +78,12 @@ fromLines room fg bg (l ∷ ls) = cond (same title l) (fromSecond room fg bg ls)
 
 -- ASCII text of at most 65,536 bytes, marks counted
 unfoldable pub fitText : List ℕ → Bool
-fitText s = leb (length s) mostBytes && every ascii (unmark s)
+fitText s = leb (length s) mostText && every ascii (unmark s)
 
 unfoldable pub fileOf : ℕ → Rgba → Rgba → List ℕ → Outcome
 fileOf room fg bg s =
     cond (finiteRgba fg && finiteRgba bg)
-    (cond (fitText s) (fromLines room fg bg (textLines s)) (refused notText 0))
+    (cond (fitText s) (fromLines room fg bg (textLines s)) (refused notAText 0))
     (refused notFinite 0)
 
 -- ---- what is answered and written

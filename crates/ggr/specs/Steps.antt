@@ -6,9 +6,9 @@ use mathlib.Core.List.{List, [], _∷_}
 use lib.ListN.{length, take, drop, getD}
 use lib.Dec.{eqb, ltb}
 use lib.Ieee.{Float}
+use Rattle.refusals.specs.Limits.{mostSegments}
 use Rattle.float.specs.F32.{f0}
 use Rattle.blend.specs.declared.Rgba.{Rgba}
-use Rattle.gradient.specs.Gimp.{mostSegments}
 use Rattle.ggr.specs.declared.text.Class.{Class}
 use Rattle.ggr.specs.declared.text.Class.the-variants.{NotLf, White, Blank, NotWhite}
 use Rattle.ggr.specs.declared.header.Lead.{Lead}

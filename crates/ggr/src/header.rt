@@ -1,14 +1,14 @@
 // The three header lines: how many segments, or a refusal.
-use super::refusal::BAD_HEADER;
-use super::refusal::NO_SEGMENT;
-use super::refusal::TOO_MANY;
 use super::text::Count;
 use super::text::count_of;
 use super::text::is_same;
 use super::text::line_at;
 use super::text::marks;
 use super::text::starts_with;
-use gradient::gimp::MOST_SEGMENTS;
+use refusals::BAD_HEADER;
+use refusals::MOST_SEGMENTS;
+use refusals::NO_SEGMENT;
+use refusals::TOO_MANY_SEGMENTS;
 ghost use lib.ListN.{drop};
 ghost use Rattle.ggr.specs.Text.{lines, textLines};
 ghost use Rattle.ggr.specs.File.{fromThird, fromSecond, fromLines};
@@ -35,10 +35,10 @@ fn count_line(s: &[u8], at: usize, room: usize) -> Lead
     };
     let m = n as usize;
     if MOST_SEGMENTS < m {
-        return Lead::Refuse(TOO_MANY, 3);
+        return Lead::Refuse(TOO_MANY_SEGMENTS, 3);
     }
     if room < m {
-        return Lead::Refuse(TOO_MANY, 3);
+        return Lead::Refuse(TOO_MANY_SEGMENTS, 3);
     }
     if m == 0 {
         return Lead::Refuse(NO_SEGMENT, 4);

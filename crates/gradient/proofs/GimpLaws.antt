@@ -9,13 +9,15 @@ use lib.Dec.{leb, eqb}
 use lib.ListN.{length, getD, List·getD-eq-default}
 use lib.Ieee.{Float, le}
 use borrow.Author.Tests.{leb-true, eqb-true, eq-eqb, ne-eqb}
+use Rattle.refusals.specs.Refusals.{misshapen, notFinite}
+use Rattle.refusals.specs.Limits.{mostSegments}
 use Rattle.float.proofs.Flags.{both-l, both-r}
 use Rattle.blend.specs.Blend.{linear, black}
 use Rattle.blend.specs.Finite.{allFinite}
 use Rattle.blend.specs.declared.Rgba.{Rgba}
 use Rattle.stops.specs.Stops.{colourAt}
 use Rattle.stops.specs.declared.Checked.the-variants.{Fine, Refused}
-use Rattle.gradient.specs.Gimp.{mostSegments, segments, leftAt, middleAt, rightAt, blendingAt, colouringAt, stepCode, increasingCode, decreasingCode, carried, allCarried, gimpShaped, gimpCheck, segmentFor, along, linearFactor, increasing, decreasing, bent, blended, segmentColour, offDomain, gimpColour}
+use Rattle.gradient.specs.Gimp.{segments, leftAt, middleAt, rightAt, blendingAt, colouringAt, stepCode, increasingCode, decreasingCode, carried, allCarried, gimpShaped, gimpCheck, segmentFor, along, linearFactor, increasing, decreasing, bent, blended, segmentColour, offDomain, gimpColour}
 
 -- ---- a code past the end
 pub no-code : (ks : List ℕ) (i : ℕ) → length ks ≤ i → 0 ≡ getD ks i 0
@@ -69,19 +71,19 @@ module _ (ps cs : List Float) (ks : List ℕ) where
   abbrev kinds : Bool
   kinds = allCarried (segments ps) 0 ks
 
-  pub check-shape : fits ≡ false → Refused 1 ≡ gimpCheck ps cs ks
+  pub check-shape : fits ≡ false → Refused misshapen ≡ gimpCheck ps cs ks
   unfolding gimpCheck
   check-shape a = simp a
 
-  pub check-kinds : kinds ≡ false → fits ≡ true → Refused 1 ≡ gimpCheck ps cs ks
+  pub check-kinds : kinds ≡ false → fits ≡ true → Refused misshapen ≡ gimpCheck ps cs ks
   unfolding gimpCheck
   check-kinds b a = simp (a, b)
 
-  pub check-positions : allFinite ps ≡ false → kinds ≡ true → fits ≡ true → Refused 2 ≡ gimpCheck ps cs ks
+  pub check-positions : allFinite ps ≡ false → kinds ≡ true → fits ≡ true → Refused notFinite ≡ gimpCheck ps cs ks
   unfolding gimpCheck
   check-positions d b a = simp (a, b, d)
 
-  pub check-channels : allFinite cs ≡ false → allFinite ps ≡ true → kinds ≡ true → fits ≡ true → Refused 2 ≡ gimpCheck ps cs ks
+  pub check-channels : allFinite cs ≡ false → allFinite ps ≡ true → kinds ≡ true → fits ≡ true → Refused notFinite ≡ gimpCheck ps cs ks
   unfolding gimpCheck
   check-channels e d b a = simp (a, b, d, e)
 
@@ -94,7 +96,7 @@ module _ (ps cs : List Float) (ks : List ℕ) where
   unfolding gimpCheck
   fine-shape h = shape (segments ps) (length ps) (length cs) (length ks) (go fits h)
     where
-      go : (b : Bool) → cond (b && kinds) (cond (allFinite ps && allFinite cs) Fine (Refused 2)) (Refused 1) ≡ Fine → b ≡ true
+      go : (b : Bool) → cond (b && kinds) (cond (allFinite ps && allFinite cs) Fine (Refused notFinite)) (Refused misshapen) ≡ Fine → b ≡ true
       go true e = refl
       go false e = let z : _≡_ {A = ℕ} 0 1 = cc in absurd (omega arith)
 

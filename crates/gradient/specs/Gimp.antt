@@ -7,6 +7,8 @@ use mathlib.Core.List.{List}
 use lib.Dec.{leb, ltb, eqb}
 use lib.ListN.{length, getD}
 use lib.Ieee.{Float, le, lt, isNan}
+use Rattle.refusals.specs.Refusals.{misshapen, notFinite}
+use Rattle.refusals.specs.Limits.{mostSegments}
 use Rattle.float.specs.F32.{_⊕_, _⊖_, _⊗_, _⊘_, f0, f1, half, epsilon}
 use Rattle.sqrt.specs.Root.{rootOf}
 use Rattle.blend.specs.Blend.{linear, black}
@@ -15,10 +17,6 @@ use Rattle.blend.specs.declared.Rgba.{Rgba}
 use Rattle.stops.specs.Stops.{posAt, colourAt}
 use Rattle.stops.specs.declared.Checked.{Checked}
 use Rattle.stops.specs.declared.Checked.the-variants.{Fine, Refused}
-
--- ---- what is lent
-abbrev pub mostSegments : ℕ
-mostSegments = 256
 
 -- how many segments: three positions each
 abbrev pub segments : List Float → ℕ
@@ -72,8 +70,8 @@ gimpShaped n p c k = leb 1 n && leb n mostSegments && eqb p (3 * n) && eqb c (8 
 unfoldable pub gimpCheck : List Float → List Float → List ℕ → Checked
 gimpCheck ps cs ks =
     cond (gimpShaped (segments ps) (length ps) (length cs) (length ks) && allCarried (segments ps) 0 ks)
-    (cond (allFinite ps && allFinite cs) Fine (Refused 2))
-    (Refused 1)
+    (cond (allFinite ps && allFinite cs) Fine (Refused notFinite))
+    (Refused misshapen)
 
 -- ---- the search
 -- The segment tried last, of those from low to before high; `tried` is the one tried before, and at most `left` are tried.

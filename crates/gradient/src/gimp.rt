@@ -2,14 +2,16 @@
 // channels 8i.. (left r g b a, right r g b a) and codes 2i.. (blending, colouring).
 use blend::Rgba;
 use blend::utils;
+use refusals::MISSHAPEN;
+use refusals::MOST_SEGMENTS;
+use refusals::NOT_FINITE;
 use stops::Checked;
 ghost use mathlib.Core.Path.{_≡_};
 ghost use Prim.Native.Nat.{_*_, _≤_};
 ghost use lib.ListN.{length, getD};
+ghost use Rattle.refusals.specs.Limits.{mostSegments};
 ghost use Rattle.stops.specs.Answers.{Checks};
-ghost use Rattle.gradient.specs.Gimp.{mostSegments, segments, carried, allCarried, gimpShaped, gimpCheck, segmentFor, along, linearFactor, increasing, decreasing, bent, blended, segmentColour, offDomain, gimpColour};
-
-pub const MOST_SEGMENTS: usize = 256;
+ghost use Rattle.gradient.specs.Gimp.{segments, carried, allCarried, gimpShaped, gimpCheck, segmentFor, along, linearFactor, increasing, decreasing, bent, blended, segmentColour, offDomain, gimpColour};
 
 // The codes carried: of blending, and of colouring.
 pub const LINEAR: u8 = 0;
@@ -82,16 +84,16 @@ pub fn check(positions: &[f32], channels: &[f32], codes: &[u8]) -> Checked
 {
     let n = positions.len() / 3;
     if !is_shaped(n, positions.len(), channels.len(), codes.len()) {
-        return Checked::Refused(1);
+        return Checked::Refused(MISSHAPEN);
     }
     if !are_carried(codes, n) {
-        return Checked::Refused(1);
+        return Checked::Refused(MISSHAPEN);
     }
     if !utils::all_finite(positions) {
-        return Checked::Refused(2);
+        return Checked::Refused(NOT_FINITE);
     }
     if !utils::all_finite(channels) {
-        return Checked::Refused(2);
+        return Checked::Refused(NOT_FINITE);
     }
     Checked::Fine
 }
