@@ -76,6 +76,16 @@ still-number nan h = h
 still-number (inf s) h = tt
 still-number (fin s m e) h = tt
 
+-- where the sign is clear, and where it is set
+pub magnitude-plus : (x : Float) → T (fits binary32 x) → toBits binary32 x < 2147483648 → x ≡ magnitudeOf x
+magnitude-plus x f h = sym (ofBits-toBits binary32 x f) ∙ ap (ofBits binary32) (keep (toBits binary32 x) h) ∙ magnitude-back x f
+
+pub set : (x : Float) → T (fits binary32 x) → 2147483648 ≤ toBits binary32 x → toBits binary32 x - 2147483648 ≡ toBits binary32 x % 2147483648
+set x f h = let l = toBits-lt binary32 x f in omega arith
+
+pub magnitude-minus : (x : Float) → T (fits binary32 x) → 2147483648 ≤ toBits binary32 x → ofBits binary32 (toBits binary32 x - 2147483648) ≡ magnitudeOf x
+magnitude-minus x f h = ap (ofBits binary32) (set x f h) ∙ magnitude-back x f
+
 pub magnitude-pattern : (x : Float) → T (fits binary32 x) → T (not (isNan x)) → T (not (nanBits binary32 (toBits binary32 x % 2147483648)))
 magnitude-pattern x f h =
     subst (λ (b : Bool). T (not b)) (sym (nanBits-is binary32 (toBits binary32 x % 2147483648) ∙ ap isNan (magnitude-back x f))) (still-number x h)

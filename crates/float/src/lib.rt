@@ -6,9 +6,10 @@ ghost use lib.Ieee.Nearest.{closest};
 ghost use lib.Ieee.Scale.{finite};
 ghost use Rattle.float.specs.Number.{magnitudeOf, clampOf, wholeOf, countOf};
 
-// The weight of the exponent's field in a pattern, and that of the sign.
+// The weight of the exponent's field in a pattern.
 const FIELD: u32 = 0x0080_0000;
 
+// The weight of the sign: the pattern of -0.
 const SIGN: u32 = 0x8000_0000;
 
 // Neither a NaN nor an infinity: zero times it is zero.
@@ -18,14 +19,19 @@ pub fn is_finite(x: f32) -> bool
     x * 0.0 == 0.0
 }
 
-// x with its sign cleared.
+// x with the sign's bit cleared. For a NaN, which has no one pattern, the division is there to keep its test a branch: the
+// compiler would join two answers that cost nothing, and all other numbers would pay for it.
 pub fn magnitude(x: f32) -> f32
     ensures { λ r. ⌜ r ≡ magnitudeOf x ⌝ }
 {
     if x != x {
+        return x / x;
+    }
+    let bits = f32::to_bits(x);
+    if bits < SIGN {
         return x;
     }
-    f32::from_bits(f32::to_bits(x) % SIGN)
+    f32::from_bits(bits - SIGN)
 }
 
 // Below 0 to 0, above 1 to 1; -0 and NaN stay as they are.
@@ -91,12 +97,13 @@ fn leading(num: u64) -> u32
     m as u32 + 1
 }
 
-// The f32 nearest to n, a tie to the even one.
-pub fn of_whole(n: u64) -> f32
+// The f32 nearest to n, a tie to the even one. Below 2 ^ 23 the digits of n are the last ones of 2 ^ 23 + n, where a
+// pattern has them as they are.
+pub fn from_whole(n: u64) -> f32
     ensures { λ r. ⌜ r ≡ countOf n ⌝ }
 {
-    if n == 0 {
-        return 0.0;
+    if n < 8388608 {
+        return f32::from_bits(0x4b00_0000 + n as u32) - 8388608.0;
     }
     let zeros = u64::leading_zeros(n);
     let digits = leading(n << zeros);
