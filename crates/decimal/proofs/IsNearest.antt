@@ -15,7 +15,7 @@ use lib.Ieee.Fits.{kept-lt, round-is, round-fits}
 use lib.Ieee.Exact.{HasValue, units-val}
 use lib.Ieee.Nearest.{closest}
 use Rattle.decimal.specs.Nearest.{Sized, far, IsNearest}
-use Rattle.decimal.proofs.Compare.{stays, moves}
+use Rattle.float.proofs.Nearest.{stays, moves}
 use Rattle.decimal.proofs.Units.{Full, shape, same-units, last-digit}
 use Rattle.decimal.proofs.Neighbours.{Between, full-next, few-next, nearer, tie}
 

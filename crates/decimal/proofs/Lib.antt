@@ -1,5 +1,4 @@
 -- Laws and examples that belong to no one function.
-pub mod Compare
 pub mod Division
 pub mod Examples
 pub mod Grammar
@@ -8,7 +7,6 @@ pub mod Neighbours
 pub mod OneForm
 pub mod Parts
 pub mod Place
-pub mod Rounding
 pub mod Scale
 pub mod Quick
 pub mod Theorems

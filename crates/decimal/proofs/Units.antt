@@ -16,7 +16,7 @@ use lib.Ieee.Fits.{and-l, and-r, down-pos}
 use lib.Ieee.Bits.{ofBits-toBits}
 use lib.Ieee.Exact.{HasValue}
 use Rattle.decimal.specs.Nearest.{Sized}
-use Rattle.decimal.proofs.Rounding.{fields, bits-of, fields-put, fields-of}
+use Rattle.float.proofs.Fraction.{fields, bits-of, fields-put, fields-of}
 
 pub record Shape (c : ℕ) : Type 0 where
   pub m : ℕ

@@ -2,14 +2,13 @@
 use mathlib.Core.Path.{_≡_, refl, sym, _∙_, ap}
 use mathlib.Core.Bool.{Bool, true, false, not, cond, _&&_}
 use mathlib.Core.List.{List, [], _∷_, _++_}
-use Prim.Native.Nat.{ℕ, zero, suc, _+_, _-_, _*_, _/_, _%_, _^_, _≤_, _<_}
+use Prim.Native.Nat.{ℕ, zero, suc, _+_, _*_, _/_, _%_, _≤_, _<_}
 use native.Mathlib.Numerals.{add-one}
 use native.Mathlib.Omega.{arith}
-use lib.Dec.{T, leb, eqb, le→leb}
-use lib.IntN.{pos}
+use lib.Dec.{leb, eqb}
 use lib.ListN.{length, getD, take, drop, drop-of-length-le, length-take}
 use lib.Seq.{drop-cons, take-at}
-use lib.Ieee.{Float, nan, inf, lt, eq, inFloat, binary32}
+use lib.Ieee.{Float, nan, inf, lt, eq}
 use lib.Ieee.Scale.{finite}
 use borrow.Author.Tests.{eq-eqb, ne-eqb, lt-ltb, le-ltb, leb-true, eqb-true, not-true}
 use Rattle.refusals.specs.Refusals.{misshapen, notFinite, notBuilt}
@@ -24,11 +23,6 @@ use Rattle.gradient.specs.declared.sharp.Built.{Built}
 use Rattle.gradient.specs.declared.sharp.Built.the-variants.{Stops, Refused}
 use Rattle.gradient.proofs.Filling.{length-listed}
 
--- ---- a number of bands is an f32
-pub in-float : (i : ℕ) → i ≤ 65536 → T (inFloat binary32 (pos i))
-unfolding inFloat
-in-float i h = le→leb i (2 ^ 24) (omega arith)
-
 -- ---- the softness
 module _ (s : Float) {t : Bool} (e : t ≡ finite s) where
   pub soft-finite : {z : Float} → t ≡ true → z ≡ clampOf s → z ≡ softnessOf s
@@ -39,9 +33,9 @@ module _ (s : Float) {t : Bool} (e : t ≡ finite s) where
   unfolding softnessOf
   soft-other h = simp (sym e ∙ h)
 
-pub inset-is : (min max s : Float) (n : ℕ) {x : Float} → x ≡ softnessOf s → x ⊗ (max ⊖ min) ⊘ countOf n ⊘ f4 ≡ insetOf min max s n
+pub inset-is : (min max s : Float) (n : ℕ) {x y : Float} → x ≡ softnessOf s → y ≡ countOf n → x ⊗ (max ⊖ min) ⊘ y ⊘ f4 ≡ insetOf min max s n
 unfolding insetOf
-inset-is min max s n e = simp e
+inset-is min max s n e f = simp (e, f)
 
 -- ---- one stop
 module _ (min max inset : Float) (n j : ℕ) {p : Float} where

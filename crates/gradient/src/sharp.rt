@@ -30,10 +30,9 @@ fn soften(s: f32) -> f32
 
 // How far a stop lies inside its band's end.
 fn inset_of(min: f32, max: f32, s: f32, n: usize) -> f32
-    requires { ⌜ n ≤ mostColours ⌝ }
     ensures { λ r. ⌜ r ≡ insetOf min max s n ⌝ }
 {
-    soften(s) * (max - min) / n as f32 / 4.0
+    soften(s) * (max - min) / float::from_whole(n as u64) / 4.0
 }
 
 // The position of stop j of 2n.
