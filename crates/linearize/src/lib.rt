@@ -6,6 +6,7 @@ ghost use mathlib.Core.Path.{_≡_};
 ghost use Prim.Native.Nat.{_≤_};
 ghost use Rattle.linearize.specs.Constants.{thresholdOf};
 ghost use Rattle.linearize.specs.Desk.{evaluationsOfListed, beyondOf, shapeCheck, countsCheck, sampleCheck, thinCheck, withSampling};
+ghost use Rattle.linearize.specs.Lent.{old, lentRamp, lentHeld, lentOutput};
 ghost use Rattle.linearize.specs.Promises.{Samples, Thins, Flattens};
 
 pub mod cells;
@@ -133,7 +134,7 @@ fn check_sample(
     rows: usize,
     counts: usize,
 ) -> Checked
-    ensures { λ r. ⌜ r ≡ sampleCheck kind (now (positions .entry)) (now (channels .entry)) (now (codes .entry)) rows counts ⌝ }
+    ensures { λ r. ⌜ r ≡ sampleCheck (lentRamp kind positions channels codes) rows counts ⌝ }
 {
     match gradient::check(kind, positions, channels, codes) {
         Checked::Refused(n) => Checked::Refused(n),
@@ -156,7 +157,7 @@ pub fn sample(
     rows: &mut [f32],
     counts: &mut [u8],
 ) -> Sampled
-    ensures { λ r. ⌜ Samples kind (now (positions .entry)) (now (channels .entry)) (now (codes .entry)) threshold (now (rows .entry)) (now (rows .exit)) (now (counts .entry)) (now (counts .exit)) r ⌝ }
+    ensures { λ r. ⌜ Samples (lentRamp kind positions channels codes) threshold (lentHeld rows counts) r ⌝ }
 {
     match check_sample(kind, positions, channels, codes, rows.len(), counts.len()) {
         Checked::Refused(n) => Sampled::Refused(n),
@@ -183,7 +184,7 @@ pub fn sample(
 
 // Refusal 5 of a count that is 0 or above 128.
 fn check_counts(counts: &[u8]) -> Checked
-    ensures { λ r. ⌜ r ≡ countsCheck (now (counts .entry)) ⌝ }
+    ensures { λ r. ⌜ r ≡ countsCheck (old counts) ⌝ }
 {
     let mut i = 0;
     while i < counts.len() {
@@ -208,7 +209,7 @@ pub fn check_thin(
     rows: &[f32],
     counts: &[u8],
 ) -> Checked
-    ensures { λ r. ⌜ r ≡ thinCheck kind (now (positions .entry)) (now (channels .entry)) (now (codes .entry)) (now (rows .entry)) (now (counts .entry)) ⌝ }
+    ensures { λ r. ⌜ r ≡ thinCheck (lentRamp kind positions channels codes) (lentHeld rows counts .entry) ⌝ }
 {
     match check_sample(kind, positions, channels, codes, rows.len(), counts.len()) {
         Checked::Refused(n) => Checked::Refused(n),
@@ -228,7 +229,7 @@ pub fn thin(
     out_positions: &mut [f32],
     out_channels: &mut [f32],
 ) -> Listed
-    ensures { λ r. ⌜ Thins kind (now (positions .entry)) (now (channels .entry)) (now (codes .entry)) threshold (now (rows .entry)) (now (counts .entry)) (now («out_positions» .entry)) (now («out_positions» .exit)) (now («out_channels» .entry)) (now («out_channels» .exit)) r ⌝ }
+    ensures { λ r. ⌜ Thins (lentRamp kind positions channels codes) threshold (lentHeld rows counts .entry) (lentOutput «out_positions» «out_channels») r ⌝ }
 {
     match check_thin(kind, positions, channels, codes, rows, counts) {
         Checked::Refused(n) => Listed::Refused(n),
@@ -281,7 +282,7 @@ pub fn flatten(
     out_positions: &mut [f32],
     out_channels: &mut [f32],
 ) -> Listed
-    ensures { λ r. ⌜ Flattens kind (now (positions .entry)) (now (channels .entry)) (now (codes .entry)) threshold (now (rows .entry)) (now (rows .exit)) (now (counts .entry)) (now (counts .exit)) (now («out_positions» .entry)) (now («out_positions» .exit)) (now («out_channels» .entry)) (now («out_channels» .exit)) r ⌝ }
+    ensures { λ r. ⌜ Flattens (lentRamp kind positions channels codes) threshold (lentHeld rows counts) (lentOutput «out_positions» «out_channels») r ⌝ }
 {
     match sample(kind, positions, channels, codes, threshold, rows, counts) {
         Sampled::Refused(n) => Listed::Refused(n),
