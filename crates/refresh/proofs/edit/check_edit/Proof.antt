@@ -9,10 +9,10 @@ is-refreshable-requires : tie.Need-is-refreshable-requires
 is-refreshable-requires c κs = search needs
 
 returns : tie.Need-returns
-returns c = other-kind _ _ _ _ (failed (c .if1 .taken) (c .before .is-refreshable .ensures))
+returns c = other-kind _ _ _ (failed (c .if1 .taken) (c .before .is-refreshable .ensures))
 
 returns-2 : tie.Need-returns-2
-returns-2 c = no-stop _ _ _ _ (passed (c .before .if1 .left) (c .before .before .is-refreshable .ensures)) (c .if2 .taken)
+returns-2 c = no-stop _ _ _ (passed (c .before .before .if1 .left) (c .before .before .before .is-refreshable .ensures)) (c .if2 .taken)
 
 is-finite-colour-requires : tie.Need-is-finite-colour-requires
 is-finite-colour-requires c κs = search needs
