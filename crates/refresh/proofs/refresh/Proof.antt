@@ -90,7 +90,7 @@ returns-2 c =
     let s = c .before .before .before .before .before .before .before .before .before .before .before .before .before .before .before .before .before .before .before .before .before .before .before .before in
     let h = sym (c .before .before .before .before .before .before .before .before .before .before .before .before .before .before .before .before .check-refresh .ensures) ∙ c .before .before .before .before .before .before .before .before .before .before .before .before .before .before .enum-told .given .1 in
     let w = c .before .before .before .before .refresh-cells in
-    refresh-done _ _ _ _ h (rampOf _ _ (take (length (s .args .channels .now)) (c .before .before .before .before .before .before .before .before .before .change .last .1 .1 .1 .0)) _) _ _ _ _ (ap (λ (l : List Float). rampOf _ _ l _) (c .before .before .before .before .before .before .before .before .before .change .ensures))
+    refresh-done _ _ _ _ h (rampOf (s .args .kind) (s .args .positions .now) (take (length (s .args .channels .now)) (c .before .before .before .before .before .before .before .before .before .change .last .1 .1 .1 .0)) (s .args .codes .now)) _ _ _ _ (ap (λ (l : List Float). rampOf (s .args .kind) (s .args .positions .now) l (s .args .codes .now)) (c .before .before .before .before .before .before .before .before .before .change .ensures))
     (far-by-cutoff _ _ (c .before .before .before .before .before .before .before .before .before .before .before .before .before .cutoff-of .ensures)) (c .before .before .before .before .before .before .before .before .before .before .before .before .min-of .ensures) (c .before .before .before .before .before .before .before .before .before .before .before .max-of .ensures) (w .ensures)
 
 pub refresh-spec : {M : Type 1} → statement M

@@ -61,7 +61,7 @@ with-refresh-requires c κs =
     let h = c .before .before .before .before .thin in
     let copy = c .before .before .before .before .before .before .before .before .before .before .before .change .last .1 .1 .1 .0 in (
       omega (arith, ap evaluationsOfRefreshed (n .1), refresh-most _ _ _ _ _ (f .ensures)),
-      thin-most _ _ _ _ _ (h .ensures),
+      thin-most _ _ _ _ _ _ (h .ensures),
     )
 
 same-length : tie.Need-same-length
@@ -95,7 +95,7 @@ returns-2 c =
     let n = c .before .before .before .before .before .before .before .before .before .before .before .before .before .before .before .n2 .given in
     let h = c .before .before .before .before .before .thin in
     let copy = c .before .before .before .before .before .before .before .before .before .before .before .before .change .last .1 .1 .1 .0 in
-    refresh-list-done _ _ _ _ _ (f .ensures) _ (n .1) (rampOf _ _ (take (length (a .channels .now)) copy) _) _ _ _ (ap (λ (l : List Float). rampOf _ _ l _) (c .before .before .before .before .before .before .before .before .before .before .before .before .change .ensures)) (h .ensures) (c .with-refresh .ensures)
+    refresh-list-done _ _ _ _ _ (f .ensures) _ (n .1) (rampOf (a .kind) (a .positions .now) (take (length (a .channels .now)) copy) (a .codes .now)) _ _ _ (ap (λ (l : List Float). rampOf (a .kind) (a .positions .now) l (a .codes .now)) (c .before .before .before .before .before .before .before .before .before .before .before .before .change .ensures)) (h .ensures) (c .with-refresh .ensures)
 
 pub refresh-list-spec : {M : Type 1} → statement M
 refresh-list-spec =

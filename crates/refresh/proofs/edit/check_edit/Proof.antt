@@ -18,10 +18,10 @@ is-finite-colour-requires : tie.Need-is-finite-colour-requires
 is-finite-colour-requires c κs = search needs
 
 returns-3 : tie.Need-returns-3
-returns-3 c = no-colour _ _ _ _ (passed (c .before .before .before .if1 .left) (c .before .before .before .before .is-refreshable .ensures)) (c .before .before .if2 .left) (failed (c .if3 .taken) (c .before .is-finite-colour .ensures))
+returns-3 c = no-colour _ _ _ (passed (c .before .before .before .before .before .if1 .left) (c .before .before .before .before .before .before .is-refreshable .ensures)) (c .before .before .before .if2 .left) (failed (c .if3 .taken) (c .before .is-finite-colour .ensures))
 
 returns-4 : tie.Need-returns-4
-returns-4 c = edit-fine _ _ _ _ (passed (c .before .before .before .if1 .left) (c .before .before .before .before .is-refreshable .ensures)) (c .before .before .if2 .left) (passed (c .if3 .left) (c .before .is-finite-colour .ensures))
+returns-4 c = edit-fine _ _ _ (passed (c .before .before .before .before .before .if1 .left) (c .before .before .before .before .before .before .is-refreshable .ensures)) (c .before .before .before .if2 .left) (passed (c .if3 .left) (c .before .is-finite-colour .ensures))
 
 pub check-edit-spec : {M : Type 1} → statement M
 check-edit-spec =
