@@ -2,6 +2,9 @@
  * looked at afterwards; each input is a block of its own size. An answer that is not a promised one ends the program. */
 #define _GNU_SOURCE
 #include "colorgrad.h"
+#ifdef FAULT
+#include "faults.h"
+#endif
 #include <sanitizer/asan_interface.h>
 #include <stdio.h>
 #include <stdlib.h>
@@ -193,7 +196,7 @@ static void check_printed(const char *text, size_t n)
 static void fuzz_desk(Bytes in)
 {
     size_t room = 256 * (size_t)byte(&in);
-    Lent whole = lend(50100), some;
+    Lent whole = lend(COLORGRAD_MOST_PRINTED), some;
     size_t n, again;
     uint8_t *input;
     char *text;

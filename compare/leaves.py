@@ -159,6 +159,12 @@ def main():
         jobs.append((f"f {bits:08x}", "finite" if bits & 0x7FFFFFFF < INFINITY else "not finite"))
     for text in tokens(rng):
         jobs.append((f"t {text}", token(text)))
+    # Whole numbers: up to 2 ^ 23 and 2 ^ 24, at ties, where rounding adds a digit; and with the same digits twice, up to 2 ^ 64.
+    counts = [0, 1, 2, 3, 36, 255, 0x7FFFFF, 0x800000, 0x800001, 0xFFFFFF, 0x1000000, 0x1000001, 0x1000002, 0x1000003, 0x1000005,
+              0x2000002, 0x2000006, 0x1FFFFFE, 0x1FFFFFF, 0x7FFFFFFF, 0x80000000, 0x80000080, 0x80000180, 0xFFFFFF7F, 0xFFFFFF80, 0xFFFFFFFF]
+    for count in counts + [rng.randrange(1 << rng.randrange(1, 33)) for _ in range(100)]:
+        jobs.append((f"n {count:08x}", f"{nearest(Fraction(count)):08x}"))
+        jobs.append((f"h {count:08x}", f"{nearest(Fraction(count * (2 ** 32 + 1))):08x}"))
     with open("crates/leaves/stdin", "w", encoding="latin-1", newline="") as file:
         file.write("".join(line + "\n" for line, _ in jobs))
     with open("crates/leaves/stdout", "w", encoding="latin-1", newline="") as file:

@@ -47,6 +47,7 @@ extern "C" {
 #define COLORGRAD_MOST_EVALUATIONS 32146u /* of colorgrad_flatten */
 #define COLORGRAD_MOST_TEXT 65536u     /* bytes of a GIMP text */
 #define COLORGRAD_MOST_INPUT 16384u    /* bytes of an input of the tool */
+#define COLORGRAD_MOST_PRINTED 50029u  /* bytes that the tool prints */
 #define COLORGRAD_MOST_DIGITS 18u      /* of a token */
 
 /* ---- thresholds: not finite becomes the default, any other is taken into the range */
@@ -225,7 +226,7 @@ ColorgradListed colorgrad_refresh_list(uint32_t kind, const float *positions, si
 /* ---- the tool, and the leaves below it */
 
 /* What the tool `flatten` prints for an input: how many bytes. They are written to the start of output where output holds
- * them all, what lies past them stays; else all of output is set to zero. */
+ * them all, what lies past them stays; else all of output is set to zero. COLORGRAD_MOST_PRINTED bytes always suffice. */
 size_t colorgrad_desk(const uint8_t *input, size_t input_length, uint8_t *output, size_t output_length);
 
 /* The threshold that the calls on records and lists take where this one is asked for. */

@@ -5,7 +5,7 @@ use crate::options::Options;
 use crate::ramps::{random_or_spoilt, random_points, Kind, Ramp, KINDS};
 use crate::random::Random;
 use crate::report::{all_same, Tally};
-use crate::{oracle, ours};
+use crate::{oracle, ours, refused};
 
 /// How many points a ramp is asked for.
 const POINTS: usize = 48;
@@ -58,6 +58,10 @@ fn compare(tally: &mut Tally, case: u64, ramp: &Ramp, points: &[f32], cramped: b
         _ => Vec::new(),
     };
     tally.inputs(points.len() as u64);
+    match refusal {
+        0 => tally.answered(points.len() as u64),
+        _ => refused::tell(tally, ramp, refusal, points.len(), |g, i| drop(oracle::at(g, points[i]))),
+    }
     for (i, t) in points.iter().enumerate() {
         let got = ours::at(ramp, *t);
         let right = match got {

@@ -65,6 +65,7 @@ fn compare([tally, colours, flat]: [&mut Tally; 3], case: u64, text: &[u8]) {
     let mut got = vec![0.0; 4 * POINTS];
     let refusal = ours::paint(&ramp, &points, &mut got);
     colours.inputs(POINTS as u64);
+    colours.answered(POINTS as u64);
     if refusal != 0 || !all_same(&got, &want) {
         colours.differs(case, || format!("painted with {refusal}"));
     }

@@ -6,7 +6,7 @@ use crate::oracle::{List, Record, CELLS, ROW};
 use crate::ramps::{random_or_spoilt, Kind, Ramp, KINDS};
 use crate::random::Random;
 use crate::report::{all_same, Tally};
-use crate::{oracle, ours};
+use crate::{oracle, ours, refused};
 
 pub const MOST_POINTS: usize = CELLS * ROW + 1;
 pub const RUBBISH: f32 = 7.5;
@@ -114,12 +114,10 @@ pub fn flattened(tally: &mut Tally, case: u64, ramp: &Ramp, threshold: f32, room
     let got = ours::flatten(ramp, threshold, &mut record, &mut positions, &mut channels);
     let refusal = early(ramp);
     if refusal != 0 {
+        refused::tell(tally, ramp, refusal, 1, |g, _| drop(oracle::linearize_only(g, threshold)));
         let kept = positions.iter().chain(&channels).all(|x| *x == RUBBISH) && record == before;
         if got != Err(refusal) || !kept {
             tally.differs(case, || format!("{got:?}, not {refusal}, of {ramp:?}"));
-        }
-        if refusal == 4 {
-            tally.listed("4: domain beyond 1e38");
         }
         return;
     }
@@ -128,6 +126,7 @@ pub fn flattened(tally: &mut Tally, case: u64, ramp: &Ramp, threshold: f32, room
     let (want, tries) = oracle::record(&g, domain, threshold);
     let mut list = oracle::thinned(&g, domain.1, threshold, &want);
     list.evaluations += tries;
+    tally.answered((emitted(&list, room).0 == 0) as u64);
     check_linearize(tally, case, &g, threshold, &list);
     let sampled = all_same(&record.rows, &want.rows) && record.counts == want.counts;
     if !sampled || !agrees(got, &list, room, (&positions, &channels)) {
@@ -192,6 +191,7 @@ pub fn thinned(tally: &mut Tally, case: u64, ramp: &Ramp, threshold: f32, room: 
         got == Err(refusal) && positions.iter().chain(&channels).all(|x| *x == RUBBISH)
     } else {
         let list = oracle::thinned(&oracle::gradient(ramp), ramp.domain().1, threshold, record);
+        tally.answered((emitted(&list, room).0 == 0) as u64);
         agrees(got, &list, room, (&positions, &channels))
     };
     if !right {

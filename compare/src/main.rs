@@ -16,10 +16,12 @@ mod ours;
 mod ramps;
 mod random;
 mod refresh;
+mod refused;
 mod report;
 mod roots;
 mod sample;
 mod sharp;
+mod smallest;
 mod texts;
 mod tokens;
 
@@ -31,6 +33,7 @@ use std::process::ExitCode;
 const USAGE: &str = "compare COMMAND [N] [--seed S] [--case I]
   roots tokens colours sharp texts lists refresh   one comparison, of N inputs
   all [PERCENT]      every comparison, at its full size or at that part of it
+  differences        the smallest inputs of docs/DIFFERENCES.md, with the Rust's answers and ours
   files FOLDER       the .ggr files in it, as compare/fetch gets them
   bench [TABLE]      times beside the Rust's: root token paint files read flatten refresh
   count [TABLE]      instructions in place of times, by valgrind's callgrind
@@ -81,6 +84,10 @@ fn run(words: &[String]) -> Result<bool, String> {
             Ok(true)
         }
         "count" => count::run(rest),
+        "differences" => {
+            smallest::run();
+            Ok(true)
+        }
         "sample" => {
             let folder = options.name.as_ref().ok_or("a folder is missing")?;
             sample::run(&options, Path::new(folder)).map_err(|e| e.to_string())?;

@@ -1,7 +1,7 @@
 //! The published crate, as assembled: what it keeps private is reached through its door.
 
 use crate::ramps::{Kind, Ramp};
-use colorgrad::{door, Color, Gradient, LinearGradient};
+use colorgrad::{door, Color, Gradient, GradientBuilder, LinearGradient};
 use std::cell::Cell;
 use std::panic::{catch_unwind, AssertUnwindSafe};
 use std::rc::Rc;
@@ -19,6 +19,48 @@ pub fn gradient(ramp: &Ramp) -> Boxed {
         Kind::Basis => Box::new(door::basis(&ramp.stops())),
         Kind::CatmullRom => Box::new(door::catmull_rom(&ramp.stops())),
         Kind::Gimp => Box::new(read(segments_text(ramp).as_bytes(), [0.0; 4], [0.0; 4]).expect("its own segments").0),
+    }
+}
+
+/// A linear gradient by the Rust's builder, or what it says.
+pub fn built(positions: &[f32], reds: &[f32]) -> Result<Boxed, String> {
+    let colours: Vec<Color> = reds.iter().map(|r| Color::new(*r, 0.0, 0.0, 1.0)).collect();
+    let made = GradientBuilder::new().colors(&colours).domain(positions).build::<LinearGradient>();
+    made.map(|g| Box::new(g) as Boxed).map_err(|e| e.to_string())
+}
+
+/// What the Rust makes of a ramp that is refused here.
+pub enum Unchecked {
+    /// Lengths that disagree, and lent sharp stops that do not pass the check; colouring by hue is not run.
+    NoSuchInput,
+    Refused,
+    Panics,
+    Made(Boxed),
+}
+
+pub fn unchecked(ramp: &Ramp) -> Unchecked {
+    let (positions, channels, codes) = (ramp.positions.len(), ramp.channels.len(), ramp.codes.len());
+    let is_whole = match ramp.kind {
+        Kind::Gimp => {
+            (3 * codes, 8 * codes) == (2 * positions, 2 * channels) && ramp.codes.chunks(2).all(|c| c[1..] == [0])
+        }
+        Kind::Sharp => ramp.refusal() == 0,
+        _ => channels == 4 * positions && codes == 0,
+    };
+    if !is_whole {
+        return Unchecked::NoSuchInput;
+    }
+    let made = || -> Option<Boxed> {
+        match ramp.kind {
+            Kind::Linear => Some(Box::new(LinearGradient::from_rgba_data(ramp.stops())?)),
+            Kind::Gimp => Some(Box::new(read(segments_text(ramp).as_bytes(), [0.0; 4], [0.0; 4]).ok()?.0)),
+            _ => Some(gradient(ramp)),
+        }
+    };
+    match catch_unwind(AssertUnwindSafe(made)) {
+        Ok(Some(g)) => Unchecked::Made(g),
+        Ok(None) => Unchecked::Refused,
+        Err(_) => Unchecked::Panics,
     }
 }
 

@@ -1,7 +1,7 @@
 //! Refreshed records: redone cells are the Rust's rows for the changed ramp, clear cells keep even rubbish,
 //! and the list made of a refreshed record is `linearize`'s of the changed ramp.
 
-use crate::lists::{agrees, early, random_record, random_threshold, MOST_POINTS, RUBBISH};
+use crate::lists::{agrees, early, emitted, random_record, random_threshold, MOST_POINTS, RUBBISH};
 use crate::options::Options;
 use crate::oracle::{self, Record, CELLS, ROW};
 use crate::ours::{self, Edit};
@@ -115,6 +115,7 @@ fn kept(tally: &mut Tally, case: u64, ramp: &Ramp, edit: &Edit, threshold: f32, 
     let mut got = record.clone();
     let answer = ours::refresh(ramp, edit, threshold, &mut got);
     let number = refusal(ramp, edit, &record.counts);
+    tally.answered((number == 0) as u64);
     let (mut want, mut evaluations) = (record, 0);
     if number == 0 {
         for (cell, row, count) in redone(ramp, edit, threshold) {
@@ -146,6 +147,7 @@ fn refreshed(tally: &mut Tally, case: u64, ramp: &Ramp, edit: &Edit, threshold: 
     let g = oracle::gradient(&after);
     let (want, _) = oracle::record(&g, after.domain(), threshold);
     let mut list = oracle::thinned(&g, after.domain().1, threshold, &want);
+    tally.answered((emitted(&list, (MOST_POINTS, 4 * MOST_POINTS)).0 == 0) as u64);
     let mut record = Record::empty();
     let sampled = ours::sample(ramp, threshold, &mut record);
     let mut again = record.clone();

@@ -11,6 +11,7 @@ pub struct Tally {
     name: String,
     seed: u64,
     inputs: u64,
+    answered: u64,
     differences: u64,
     listed: BTreeMap<&'static str, u64>,
     started: Instant,
@@ -22,7 +23,8 @@ impl Tally {
     pub fn new(name: impl Into<String>, seed: u64) -> Self {
         let now = Instant::now();
         let listed = BTreeMap::new();
-        Tally { name: name.into(), seed, inputs: 0, differences: 0, listed, started: now, seconds: 0.0, told: now }
+        let (name, started) = (name.into(), now);
+        Tally { name, seed, inputs: 0, answered: 0, differences: 0, listed, started, seconds: 0.0, told: now }
     }
 
     pub fn count(&self) -> u64 {
@@ -31,6 +33,11 @@ impl Tally {
 
     pub fn inputs(&mut self, n: u64) {
         self.inputs += n;
+    }
+
+    /// So many of the inputs are not to be refused.
+    pub fn answered(&mut self, n: u64) {
+        self.answered += n;
     }
 
     /// An answer that differs and should not.
@@ -69,9 +76,10 @@ impl Tally {
     fn row(&self) -> String {
         let listed: Vec<String> = self.listed.iter().map(|(class, n)| format!("{class}: {n}")).collect();
         format!(
-            "| {} | {} | {} | {} | {:.1} |",
+            "| {} | {} | {} | {} | {} | {:.1} |",
             self.name,
             self.inputs,
+            self.answered,
             self.differences,
             listed.join("; "),
             self.seconds
@@ -81,8 +89,8 @@ impl Tally {
 
 /// Prints the table; whether no answer differed.
 pub fn summary(tallies: &[Tally]) -> bool {
-    println!("| comparison | inputs | differences | listed differences | seconds |");
-    println!("|---|---|---|---|---|");
+    println!("| comparison | inputs | not refused | differences | listed differences | seconds |");
+    println!("|---|---|---|---|---|---|");
     for tally in tallies {
         println!("{}", tally.row());
     }

@@ -28,6 +28,7 @@ pub fn run(options: &Options) -> Vec<Tally> {
 
 fn compare(tally: &mut Tally, x: f32, got: f32, want: f32) {
     tally.inputs(1);
+    tally.answered(1);
     if !same(got, want) {
         tally.differs(x.to_bits() as u64, || {
             format!("{:08x}: {:08x}, not {:08x}", x.to_bits(), got.to_bits(), want.to_bits())

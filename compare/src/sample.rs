@@ -11,6 +11,7 @@ use crate::random::Random;
 use crate::refresh::{self, changed};
 use crate::sharp;
 use crate::texts;
+use std::collections::BTreeSet;
 use std::fmt::Write;
 use std::path::Path;
 
@@ -20,16 +21,16 @@ const POINTS: usize = 14;
 /// Points of each ramp at a limit.
 const MOST_TURNS: usize = 24;
 /// Lists of each kind, lists of records, and refreshed ones.
-const LISTS: u64 = 12;
-const THINNED: u64 = 14;
-const REFRESHED: u64 = 24;
-const TEXTS: u64 = 46;
-const BUILT: u64 = 60;
+const LISTS: u64 = 24;
+const THINNED: u64 = 100;
+const REFRESHED: u64 = 600;
+const TEXTS: u64 = 60;
+const BUILT: u64 = 100;
 
 /// Refusals that the first cases must have, so that all that a call can give are stored: of the first two
 /// lists of each kind, and of the other sorts from their start. The ramps at the limits have those of a ramp.
 const OF_LISTS: [[u32; 2]; 6] = [[1, 4], [2, 8], [3, 5], [4, 7], [7, 8], [5, 1]];
-const OF_THINNED: [u32; 5] = [5, 8, 9, 9, 4];
+const OF_THINNED: [u32; 8] = [5, 8, 9, 9, 4, 1, 2, 3];
 const OF_REFRESHED: [u32; 18] = [1, 2, 3, 4, 5, 6, 6, 8, 0, 0, 0, 0, 0, 0, 0, 0, 0, 0];
 const OF_TEXTS: [u32; 8] = [2, 10, 11, 12, 13, 14, 15, 16];
 const OF_BUILT: [u32; 3] = [17, 1, 2];
@@ -57,8 +58,12 @@ impl Room {
 #[derive(Default)]
 struct Words {
     text: String,
-    /// Answers of the sort at hand, and the lines that the program prints.
+    /// Records of the sort at hand, those of them that are not refused, and what of all is compared.
+    records: u64,
+    answered: u64,
+    refusals: BTreeSet<u32>,
     answers: u64,
+    /// The lines that the program prints.
     printed: String,
 }
 
@@ -107,7 +112,7 @@ impl Words {
                 self.floats(&oracle::at(&g, *t));
             }
         }
-        self.answers += 1 + points.len() as u64;
+        self.record_done(refusal, 1 + points.len() as u64);
     }
 
     /// A refusal, or a list that may itself be refused; and the start of the outputs, with what comes after the list.
@@ -124,7 +129,7 @@ impl Words {
         self.floats(&positions[..shown]);
         self.size(4 * shown);
         self.floats(&channels[..4 * shown]);
-        self.answers += 3;
+        self.record_done(refusal, 3);
     }
 
     /// The points that a record's counts name, each after its place, then the counts.
@@ -139,9 +144,20 @@ impl Words {
         self.bytes(&record.counts);
     }
 
+    /// One record more, of so many answers.
+    fn record_done(&mut self, refusal: u32, answers: u64) {
+        self.records += 1;
+        self.answered += (refusal == 0) as u64;
+        self.refusals.insert(refusal);
+        self.answers += answers;
+    }
+
     /// One sort is at its end.
     fn printed(&mut self, name: &str) {
         let n = std::mem::take(&mut self.answers);
+        let (records, answered) = (std::mem::take(&mut self.records), std::mem::take(&mut self.answered));
+        let refusals: Vec<u32> = std::mem::take(&mut self.refusals).into_iter().filter(|n| *n != 0).collect();
+        println!("{name}: {records} records, {answered} of them not refused, the others with {refusals:?}");
         writeln!(self.printed, "{name} {n} equal {n}").expect("a string takes it");
     }
 }
@@ -351,7 +367,7 @@ fn built(options: &Options, words: &mut Words) {
         stops.iter().for_each(|s| words.float(s.0));
         words.size(4 * stops.len());
         stops.iter().for_each(|s| words.floats(&s.1));
-        words.answers += 3;
+        words.record_done(refusal, 3);
     }
     words.printed("sharp");
 }
@@ -392,5 +408,5 @@ fn text(words: &mut Words, input: &texts::Input) {
     segments.iter().for_each(|s| words.bytes(&s.2));
     words.size(name.len());
     words.bytes(name.as_bytes());
-    words.answers += 6;
+    words.record_done(refusal, 6);
 }

@@ -5,6 +5,7 @@ use crate::ramps::{random_points, Kind, Ramp};
 use crate::random::Random;
 use crate::report::{all_same, same, Tally};
 use crate::{oracle, ours};
+use std::panic::catch_unwind;
 
 type Stop = (f32, [f32; 4]);
 
@@ -39,10 +40,15 @@ fn compare(tally: &mut Tally, case: u64, input: &Input, random: &mut Random) {
     let mut channels = vec![RUBBISH; input.room.1];
     let got = ours::build_sharp(&input.channels, (input.min, input.max), input.softness, &mut positions, &mut channels);
     let (number, stops, class) = expected(input);
+    tally.answered((number == 0) as u64);
+    let n = 2 * (input.channels.len() / 4);
     if let Some(class) = class {
         tally.listed(class);
+        // the Rust panics at no colour, and has a ramp of all else
+        if is_built_there(input) != (n > 0) {
+            tally.differs(case, || format!("not as listed, '{class}': {}..{} of {n} stops", input.min, input.max));
+        }
     }
-    let n = 2 * (input.channels.len() / 4);
     let mut want = (vec![RUBBISH; input.room.0], vec![RUBBISH; input.room.1]);
     if number == 0 {
         for (i, (p, c)) in stops.iter().enumerate() {
@@ -63,6 +69,10 @@ fn compare(tally: &mut Tally, case: u64, input: &Input, random: &mut Random) {
     }
 }
 
+fn is_built_there(input: &Input) -> bool {
+    catch_unwind(|| oracle::sharp(&input.channels, (input.min, input.max), input.softness)).is_ok()
+}
+
 /// The ramp as built here, beside the gradient as the Rust builds it.
 fn colours(tally: &mut Tally, case: u64, input: &Input, positions: Vec<f32>, channels: Vec<f32>, random: &mut Random) {
     let ramp = Ramp { kind: Kind::Sharp, positions, channels, codes: Vec::new() };
@@ -79,12 +89,18 @@ fn colours(tally: &mut Tally, case: u64, input: &Input, positions: Vec<f32>, cha
 pub fn expected(input: &Input) -> (u32, Vec<Stop>, Option<&'static str>) {
     let n = input.channels.len() / 4;
     let domain = (input.min, input.max);
-    if !(1..=MOST_COLOURS).contains(&n) || !domain.0.is_finite() || !domain.1.is_finite() || domain.0 > domain.1 {
-        return (17, Vec::new(), None);
+    if n == 0 {
+        return (17, Vec::new(), Some("17: no colour"));
     }
     let stops = oracle::sharp_stops(&input.channels, domain, input.softness);
     let last = stops[stops.len() - 1].0;
-    let wrong = if stops.iter().any(|s| !s.0.is_finite()) {
+    let wrong = if n > MOST_COLOURS {
+        Some("17: more than 256 colours")
+    } else if !domain.0.is_finite() || !domain.1.is_finite() {
+        Some("17: domain not finite")
+    } else if domain.0 > domain.1 {
+        Some("17: min above max")
+    } else if stops.iter().any(|s| !s.0.is_finite()) {
         Some("17: positions not finite")
     } else if stops.windows(2).any(|w| w[1].0 < w[0].0) {
         Some("17: positions fall")
@@ -100,7 +116,7 @@ pub fn expected(input: &Input) -> (u32, Vec<Stop>, Option<&'static str>) {
         return (1, Vec::new(), None);
     }
     if input.channels.iter().any(|x| !x.is_finite()) {
-        return (2, Vec::new(), None);
+        return (2, Vec::new(), Some("2: a channel not finite"));
     }
     (0, stops, if same(last, domain.1) { None } else { Some("built to +0 where max is -0") })
 }
@@ -123,7 +139,10 @@ pub fn random_input(random: &mut Random) -> Input {
         3 => (random.unit(), random.unit()),
         4 => (random.below(100) as f32 / 10.0 - 5.0, random.below(100) as f32 / 10.0),
         5 => (random.finite(), random.finite()),
-        6 => (random.pick(&[-0.0, 0.0, -1.0, f32::NAN]), random.pick(&[-0.0, 0.0, 3.0e38, f32::INFINITY])),
+        6 => (
+            random.pick(&[-0.0, 0.0, -1.0, f32::NAN, f32::NEG_INFINITY]),
+            random.pick(&[-0.0, 0.0, 3.0e38, f32::INFINITY, f32::NAN]),
+        ),
         _ => (0.0, 1.0),
     };
     let (min, max) = if a > b && !random.one_in(16) { (b, a) } else { (a, b) };

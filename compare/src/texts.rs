@@ -51,6 +51,7 @@ pub fn random_input(random: &mut Random) -> Input {
 pub fn read(tally: &mut Tally, case: u64, input: &Input) {
     tally.inputs(1);
     let (want, class) = expected(input);
+    tally.answered(want.is_ok() as u64);
     let room = input.room;
     let mut positions = vec![RUBBISH; 3 * room + 2];
     let mut channels = vec![RUBBISH; 8 * room];
@@ -170,13 +171,19 @@ fn not_carried(line: &[u8]) -> bool {
 
 /// The name is the Rust's wherever reading with room 256 and finite colours succeeds, and empty elsewhere.
 pub fn name_of(text: &[u8]) -> String {
+    name_read(text).unwrap_or_default()
+}
+
+fn name_read(text: &[u8]) -> Option<String> {
     let input = Input { text: text.to_vec(), foreground: [0.0; 4], background: [0.0; 4], room: MOST_SEGMENTS };
-    expected(&input).0.map(|read| read.1).unwrap_or_default()
+    expected(&input).0.map(|read| read.1).ok()
 }
 
 fn name(tally: &mut Tally, case: u64, text: Vec<u8>) {
     tally.inputs(1);
-    let want = name_of(&text);
+    let read = name_read(&text);
+    tally.answered(read.is_some() as u64);
+    let want = read.unwrap_or_default();
     let got = ours::name(&text);
     if got != want.as_bytes() {
         tally.differs(case, || format!("{:?}, not {want:?}", String::from_utf8_lossy(&got)));

@@ -24,6 +24,7 @@ pub fn run(options: &Options) -> Vec<Tally> {
 
 fn compare(tally: &mut Tally, case: u64, text: &[u8]) {
     tally.inputs(1);
+    tally.answered(grammar(text) as u64);
     let got = ours::token(text);
     let rust = std::str::from_utf8(text).ok().and_then(|s| s.parse::<f32>().ok());
     let right = match (got, rust) {

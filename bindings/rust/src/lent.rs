@@ -30,6 +30,8 @@ pub const CELLS: usize = 36;
 pub const ROWS: usize = 4608;
 /// The most stops that a list can have: with this room, [`Refusal::NoRoom`] is never given.
 pub const MOST_POINTS: usize = ROWS + 1;
+/// The most bytes that the tool prints.
+pub const MOST_PRINTED: usize = 50_029;
 
 /// The kinds of ramp, with the codes that the library knows them by.
 #[derive(Clone, Copy, PartialEq, Eq, Hash, Debug)]
@@ -321,7 +323,7 @@ pub fn name(text: &[u8], out: &mut [u8]) -> usize {
 }
 
 /// How many bytes the tool `flatten` prints for an input. They are written where `output` holds them all, else it is set to
-/// zero.
+/// zero. [`MOST_PRINTED`] bytes always suffice.
 pub fn desk(input: &[u8], output: &mut [u8]) -> usize {
     // SAFETY: as for a ramp's calls.
     unsafe { calls::colorgrad_desk(input.as_ptr(), input.len(), output.as_mut_ptr(), output.len()) }

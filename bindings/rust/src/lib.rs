@@ -52,12 +52,8 @@ pub use refusal::{ParseGgrError, Refusal};
 /// assert_eq!(guineaplume::desk(b"kind\tround\n"), b"unread\t1\n");
 /// ```
 pub fn desk(input: &[u8]) -> Vec<u8> {
-    let mut output = vec![0; 1024];
+    let mut output = vec![0; lent::MOST_PRINTED];
     let printed = lent::desk(input, &mut output);
-    if printed > output.len() {
-        output.resize(printed, 0);
-        lent::desk(input, &mut output);
-    }
     output.truncate(printed);
     output
 }

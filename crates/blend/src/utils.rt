@@ -37,7 +37,8 @@ pub fn interpolate_smoothstep(p: Rgba, q: Rgba, t: f32) -> Rgba
     }
 }
 
-// The i-th of n points from min to max. Any u16 is an f32, so that nothing is asked of n and i.
+// The i-th of n points from min to max. Any u16 is an f32, so that nothing is asked of n and i; the conversion is the
+// machine's, since `float::from_whole` makes a sharp ramp's building slower by 2%.
 pub fn linspace(min: f32, max: f32, n: u16, i: u16) -> f32
     ensures { λ r. ⌜ r ≡ linspaceAt min max n i ⌝ }
 {

@@ -1,7 +1,7 @@
 -- The answers of `at` and `paint`, from what the check gave. Assumes nothing.
 use mathlib.Core.Path.{_≡_, sym, _∙_, ap, fun-ext}
 use mathlib.Core.Bool.{false}
-use mathlib.Core.List.{List}
+use mathlib.Core.List.{List, _∷_, []}
 use Prim.Native.Nat.{ℕ, _*_, _≤_, _<_}
 use lib.ListN.{length, replicate}
 use lib.Ieee.{Float}
@@ -19,7 +19,7 @@ use Rattle.stops.specs.declared.Checked.the-variants as checked
 use Rattle.stops.proofs.Nearby.{near-same, segment-colour}
 use Rattle.gradient.specs.Gimp.{gimpColour}
 use Rattle.gradient.specs.Ramp.{isGimp, checkOf, colourOf, anyColour}
-use Rattle.gradient.specs.Answers.{onFine, numberOfChecked}
+use Rattle.stops.specs.Answers.{onFine, numberOfChecked}
 use Rattle.gradient.proofs.Same.{same-colour}
 use Rattle.gradient.proofs.Valid.{valid}
 use Rattle.gradient.proofs.GimpLaws.{fine-shape}
@@ -34,7 +34,7 @@ module _ (kind : Kind) (ps cs : List Float) (ks : List ℕ) where
   module _ {n : ℕ} (no : checkOf kind ps cs ks ≡ checked.Refused n) where
     pub at-refused : (t : Float) → AtIs kind ps cs ks t (answer.Refused n)
     unfolding atAnswer
-    at-refused t = record { number = ap numberOfChecked (sym no); answer = ap (λ (k : Checked). onFine k (answer.Colour (colourOf kind ps cs ks t)) answer.Refused) (sym no) }
+    at-refused t = record { number = ap numberOfChecked (sym no); colours = simp no; answer = ap (λ (k : Checked). onFine k (answer.Colour (colourOf kind ps cs ks t)) answer.Refused) (sym no) }
 
     pub paint-refused : (ts out : List Float) → PaintIs kind ps cs ks ts out out (painted.Refused n)
     unfolding paintCheck paintAnswer canvas
@@ -46,6 +46,7 @@ module _ (kind : Kind) (ps cs : List Float) (ks : List ℕ) where
     at-coloured t e =
         record {
           number = ap numberOfChecked (sym yes);
+          colours = ap (λ (x : Rgba). x ∷ []) (e ∙ same-colour kind ps cs ks yes t) ∙ simp yes;
           answer = ap answer.Colour (e ∙ same-colour kind ps cs ks yes t) ∙ ap (λ (k : Checked). onFine k (answer.Colour (colourOf kind ps cs ks t)) answer.Refused) (sym yes);
         }
 

@@ -1,14 +1,15 @@
 -- What the calls answer, and document 01's number of each answer, 0 for no refusal.
 use mathlib.Core.Bool.{cond}
-use mathlib.Core.List.{List}
+use mathlib.Core.List.{List, [], _∷_}
 use Prim.Native.Nat.{ℕ}
 use lib.Dec.{ltb}
 use lib.Ieee.{Float}
+use Rattle.blend.specs.declared.Rgba.{Rgba}
 use Rattle.stops.specs.declared.Kind.{Kind}
 use Rattle.stops.specs.declared.Checked.{Checked}
 use Rattle.stops.specs.declared.Checked.the-variants as checked
 use Rattle.gradient.specs.Ramp.{checkOf, colourOf}
-use Rattle.gradient.specs.Answers.{onFine}
+use Rattle.stops.specs.Answers.{onFine}
 use Rattle.colorgrad.specs.declared.Answer.{Answer}
 use Rattle.colorgrad.specs.declared.Answer.the-variants as answer
 use Rattle.colorgrad.specs.declared.Painted.{Painted}
@@ -17,6 +18,11 @@ use Rattle.colorgrad.specs.declared.Painted.the-variants as painted
 abbrev pub numberOfAnswer : Answer → ℕ
 numberOfAnswer (answer.Colour c) = 0
 numberOfAnswer (answer.Refused n) = n
+
+-- the value beside it: a colour, or none; no answer has a line
+abbrev pub coloursOfAnswer : Answer → List Rgba
+coloursOfAnswer (answer.Colour c) = c ∷ []
+coloursOfAnswer (answer.Refused n) = []
 
 abbrev pub numberOfPainted : Painted → ℕ
 numberOfPainted painted.Done = 0

@@ -11,7 +11,7 @@ use Rattle.stops.specs.Place.{placeOf}
 use Rattle.stops.specs.Pair.{colourIn}
 use Rattle.stops.specs.declared.Kind.{Kind}
 use Rattle.gradient.specs.Ramp.{checkOf, colourOf}
-use Rattle.gradient.specs.Answers.{onFine}
+use Rattle.stops.specs.Answers.{onFine}
 
 abbrev pub channelsOf : Rgba → List Float
 channelsOf c = c .r ∷ c .g ∷ c .b ∷ c .a ∷ []

@@ -1,14 +1,14 @@
 -- What the calls promise, part by part: the number, the answer, and what the lent output holds at the end.
 use mathlib.Core.Path.{_≡_}
-use mathlib.Core.List.{List}
+use mathlib.Core.List.{List, [], _∷_}
 use Prim.Native.Nat.{ℕ, _*_, _≤_}
 use lib.ListN.{length}
 use lib.Ieee.{Float}
 use Rattle.stops.specs.Place.{Rising}
 use Rattle.stops.specs.declared.Kind.{Kind}
-use Rattle.gradient.specs.Ramp.{checkOf}
-use Rattle.gradient.specs.Answers.{numberOfChecked}
-use Rattle.colorgrad.specs.Answers.{numberOfAnswer, numberOfPainted, atAnswer, paintCheck, paintAnswer}
+use Rattle.gradient.specs.Ramp.{checkOf, colourOf}
+use Rattle.stops.specs.Answers.{numberOfChecked, onFine}
+use Rattle.colorgrad.specs.Answers.{numberOfAnswer, coloursOfAnswer, numberOfPainted, atAnswer, paintCheck, paintAnswer}
 use Rattle.colorgrad.specs.Canvas.{roomOf, canvas}
 use Rattle.colorgrad.specs.declared.Answer.{Answer}
 use Rattle.colorgrad.specs.declared.Painted.{Painted}
@@ -23,6 +23,7 @@ pub record Ready (ps cs ts out : List Float) : Type 0 where
 module _ (kind : Kind) (ps cs : List Float) (ks : List ℕ) where
   pub record AtIs (t : Float) (r : Answer) : Type 0 where
     pub number : numberOfAnswer r ≡ numberOfChecked (checkOf kind ps cs ks)
+    pub colours : coloursOfAnswer r ≡ onFine (checkOf kind ps cs ks) (colourOf kind ps cs ks t ∷ []) (λ n. [])
     pub answer : r ≡ atAnswer kind ps cs ks t
 
   pub record PaintIs (ts out out′ : List Float) (r : Painted) : Type 0 where

@@ -11,8 +11,6 @@ use Rattle.stops.specs.declared.Checked.the-variants as checked
 use Rattle.stops.specs.declared.Kind.{Kind}
 use Rattle.stops.specs.declared.Kind.the-variants.{Linear, Smoothstep, Sharp, Basis, CatmullRom, Gimp}
 use Rattle.gradient.specs.Ramp.{checkOf, minOf, maxOf}
-use Rattle.gradient.specs.Sharp.{after}
-use Rattle.gradient.specs.declared.sharp.Built.{Built}
 use Rattle.colorgrad.specs.Answers.{atAnswer, paintAnswer}
 use Rattle.colorgrad.specs.Canvas.{roomOf, canvas}
 use Rattle.colorgrad.specs.declared.Answer.{Answer}
@@ -98,7 +96,3 @@ module _ (ps cs : List Float) (ks : List ℕ) where
   pub canvas-none : {x : Coded} (ts out : List Float) → x ≡ Unknown → out ≡ codedCanvas x ps cs ks ts out
   unfolding codedCanvas
   canvas-none ts out h = sym (ap (λ (z : Coded). codedCanvas z ps cs ks ts out) h)
-
--- what an equal answer leaves
-pub after-is : {r r′ : Built} {new : List Float} (written old : List Float) → r ≡ r′ → new ≡ after r written old → new ≡ after r′ written old
-after-is written old h e = e ∙ ap (λ (x : Built). after x written old) h

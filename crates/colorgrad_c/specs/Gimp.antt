@@ -6,14 +6,12 @@ use mathlib.Core.List.{List, _++_}
 use lib.Dec.{ltb}
 use lib.ListN.{length, drop}
 use lib.Ieee.{Float}
-use Rattle.ggr.specs.File.{Outcome, Done, answerOf}
+use Rattle.ggr.specs.File.{Outcome, Done, answerOf, numberOfAnswer, lineOfAnswer, segmentsOfAnswer}
 use Rattle.ggr.specs.declared.Answer.{Answer}
-use Rattle.ggr.specs.declared.Answer.the-variants.{Read, Refused}
 use Rattle.colorgrad_c.specs.declared.gimp.GimpRead.{GimpRead}
 
 abbrev pub readShown : Answer → GimpRead
-readShown (Read n) = record { refusal = 0; line = 0; segments = n }
-readShown (Refused n line) = record { refusal = n; line = line; segments = 0 }
+readShown r = record { refusal = numberOfAnswer r; line = lineOfAnswer r; segments = segmentsOfAnswer r }
 
 -- the promise of `ggr`'s reading, and its answer shown
 pub record Reads (o : Outcome) (r : GimpRead) (p c : List Float) (k : List ℕ) (p′ c′ : List Float) (k′ : List ℕ) : Type 0 where

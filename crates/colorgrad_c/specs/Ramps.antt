@@ -9,7 +9,7 @@ use Rattle.stops.specs.declared.Checked.{Checked}
 use Rattle.stops.specs.declared.Checked.the-variants as checked
 use Rattle.gradient.specs.Ramp.{checkOf, minOf, maxOf}
 use Rattle.gradient.specs.declared.sharp.Built.{Built}
-use Rattle.gradient.specs.declared.sharp.Built.the-variants as built
+use Rattle.gradient.specs.Sharp.{numberOfBuilt, stopsOfBuilt}
 use Rattle.colorgrad.specs.Answers.{atAnswer, paintAnswer}
 use Rattle.colorgrad.specs.Canvas.{roomOf, canvas}
 use Rattle.colorgrad.specs.declared.Answer.{Answer}
@@ -22,10 +22,6 @@ use Rattle.colorgrad_c.specs.declared.ramps.Domain.{Domain}
 use Rattle.colorgrad_c.specs.declared.ramps.Shown.{Shown}
 use Rattle.colorgrad_c.specs.declared.ramps.SharpBuilt.{SharpBuilt}
 
-abbrev pub checkedNumber : Checked → ℕ
-checkedNumber checked.Fine = 0
-checkedNumber (checked.Refused n) = n
-
 -- the ends of a domain, where the ramp passes its check
 abbrev pub domainBy : Checked → Float → Float → Domain
 domainBy checked.Fine lo hi = record { refusal = 0; min = lo; max = hi }
@@ -35,13 +31,8 @@ abbrev pub answerShown : Answer → Shown
 answerShown (answer.Colour c) = record { refusal = 0; colour = c }
 answerShown (answer.Refused n) = record { refusal = n; colour = record { r = f0; g = f0; b = f0; a = f0 } }
 
-abbrev pub paintedNumber : Painted → ℕ
-paintedNumber painted.Done = 0
-paintedNumber (painted.Refused n) = n
-
 abbrev pub builtShown : Built → SharpBuilt
-builtShown (built.Stops n) = record { refusal = 0; stops = n }
-builtShown (built.Refused n) = record { refusal = n; stops = 0 }
+builtShown r = record { refusal = numberOfBuilt r; stops = stopsOfBuilt r }
 
 -- the calls on a ramp; a code that names no kind is 1 and changes nothing
 unfoldable pub codedCheck : Coded → List Float → List Float → List ℕ → Checked

@@ -8,9 +8,11 @@ use gradient::sharp::Built;
 use stops::Checked;
 ghost use mathlib.Core.Path.{_≡_};
 ghost use lib.ListN.{length};
+ghost use Rattle.stops.specs.Answers.{numberOfChecked};
 ghost use Rattle.gradient.specs.Sharp.{buildOf, after, bands, sharpPositions, sharpChannels};
 ghost use Rattle.colorgrad_c.specs.Kinds.{kindOf};
-ghost use Rattle.colorgrad_c.specs.Ramps.{checkedNumber, codedCheck, domainBy, codedDomain, codedAnswer, answerShown, codedPainted, paintedNumber, codedCanvas, builtShown};
+ghost use Rattle.colorgrad.specs.Answers.{numberOfPainted};
+ghost use Rattle.colorgrad_c.specs.Ramps.{codedCheck, domainBy, codedDomain, codedAnswer, answerShown, codedPainted, codedCanvas, builtShown};
 
 const WRONG_SHAPE: u8 = 1;
 
@@ -37,7 +39,7 @@ pub struct SharpBuilt {
 }
 
 fn checked_number(checked: Checked) -> u32
-    ensures { λ r. ⌜ r ≡ checkedNumber checked ⌝ }
+    ensures { λ r. ⌜ r ≡ numberOfChecked checked ⌝ }
 {
     match checked {
         Checked::Fine => 0,
@@ -62,7 +64,7 @@ pub extern "C" fn colorgrad_check(
     channels: &[f32],
     codes: &[u8],
 ) -> u32
-    ensures { λ r. ⌜ r ≡ checkedNumber (codedCheck (kindOf kind) (now (positions .entry)) (now (channels .entry)) (now (codes .entry))) ⌝ }
+    ensures { λ r. ⌜ r ≡ numberOfChecked (codedCheck (kindOf kind) (now (positions .entry)) (now (channels .entry)) (now (codes .entry))) ⌝ }
 {
     checked_number(coded_check(kinds::kind_of(kind), positions, channels, codes))
 }
@@ -151,7 +153,7 @@ pub extern "C" fn colorgrad_at(
 }
 
 fn painted_number(painted: Painted) -> u32
-    ensures { λ r. ⌜ r ≡ paintedNumber painted ⌝ }
+    ensures { λ r. ⌜ r ≡ numberOfPainted painted ⌝ }
 {
     match painted {
         Painted::Done => 0,
@@ -186,7 +188,7 @@ pub extern "C" fn colorgrad_paint(
     ts: &[f32],
     out: &mut [f32],
 ) -> u32
-    ensures { λ r. ⌜ r ≡ paintedNumber (codedPainted (kindOf kind) (now (positions .entry)) (now (channels .entry)) (now (codes .entry)) (now (ts .entry)) (now (out .entry))) ⌝ }
+    ensures { λ r. ⌜ r ≡ numberOfPainted (codedPainted (kindOf kind) (now (positions .entry)) (now (channels .entry)) (now (codes .entry)) (now (ts .entry)) (now (out .entry))) ⌝ }
     ensures { λ r. ⌜ now (out .exit) ≡ codedCanvas (kindOf kind) (now (positions .entry)) (now (channels .entry)) (now (codes .entry)) (now (ts .entry)) (now (out .entry)) ⌝ }
 {
     painted_number(coded_paint(kinds::kind_of(kind), positions, channels, codes, ts, out))

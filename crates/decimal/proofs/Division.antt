@@ -1,25 +1,11 @@
--- One turn of the division, how few turns there are, and the shift that it starts from. Assumes nothing.
+-- One turn of the division, and how few turns there are. Assumes nothing.
 use mathlib.Core.Path.{_≡_, sym, ap, _∙_}
-use Prim.Native.Nat.{ℕ, suc, _+_, _-_, _*_, _%_, _^_, _≤_, _<_}
-use native.Mathlib.Nat.{le-trans, le-of-eq, lt-of-lt-of-le, lt-of-not-le, not-le-of-lt, one-mul, mul-assoc, mul-right-comm, add-mul, mul-le-mul-left, mul-le-mul-right, mul-pos}
+use Prim.Native.Nat.{ℕ, _+_, _-_, _*_, _^_, _≤_, _<_}
+use native.Mathlib.Nat.{le-trans, le-of-eq, lt-of-lt-of-le, lt-of-not-le, not-le-of-lt, one-mul, mul-assoc, mul-right-comm, add-mul, mul-le-mul-left, mul-le-mul-right}
 use native.Mathlib.Omega.{arith}
 use lib.Arith.{digits-lt}
-use lib.Count.{leadingZeros, leading-top}
 use lib.Dec.{lit≤}
-use lib.Pow.{pow-add, pow-mono, pow-pos, shl-exact}
-
--- ---- a number moved up by its leading zeros
-pub record Shifted (d num zeros : ℕ) : Type 0 where
-  pub is : num ≡ d * 2 ^ zeros
-  pub some : 0 < num
-  pub few : zeros < 64
-
-pub shifted : (d : ℕ) → 0 < d → d < 2 ^ 64 → Shifted d (d * 2 ^ leadingZeros 64 d % 2 ^ 64) (leadingZeros 64 d)
-shifted d p h =
-    let t = leading-top 64 d p h in
-    let e : leadingZeros 64 d + suc (t .0) ≡ 64 = t .1 in
-    let x : d * 2 ^ leadingZeros 64 d % 2 ^ 64 ≡ d * 2 ^ leadingZeros 64 d = shl-exact (suc (t .0)) (leadingZeros 64 d) 64 (t .3) (omega arith) in
-    record { is = x; some = le-trans (mul-pos p (pow-pos (leadingZeros 64 d))) (le-of-eq (sym x)); few = omega arith }
+use lib.Pow.{pow-add, pow-mono}
 
 -- ---- how often a number is doubled
 few : (p x k n : ℕ) → 0 < p → p * 2 ^ x ≡ n → n < 2 ^ k → x < k

@@ -1,10 +1,13 @@
 -- Laws and examples that belong to no one function.
-pub mod Compare
 pub mod Division
 pub mod Examples
 pub mod Grammar
+pub mod IsNearest
+pub mod Neighbours
+pub mod OneForm
 pub mod Parts
 pub mod Place
-pub mod Rounding
 pub mod Scale
 pub mod Quick
+pub mod Theorems
+pub mod Units

@@ -4,10 +4,11 @@ use mathlib.Core.Bool.{Bool, true, false, cond, _&&_, and-assoc, and-false}
 use mathlib.Core.List.{List, [], _∷_, _++_, append-assoc, append-nil}
 use Prim.Native.Nat.{ℕ, suc, _+_, _-_, _*_, _^_, _≤_, _<_}
 use native.Mathlib.Omega.{arith}
-use lib.Dec.{eqb}
+use lib.Dec.{eqb, leb}
 use lib.ListN.{length}
 use lib.Ieee.{binary32, round}
-use borrow.Author.Tests.{le-leb, lt-leb, ne-eqb}
+use lib.Pow.{pow-add}
+use borrow.Author.Tests.{leb-true, le-leb, lt-leb, ne-eqb}
 use Rattle.decimal.specs.declared.Token.{Token}
 use Rattle.decimal.specs.declared.Token.the-variants.{Number, NoNumber}
 use Rattle.decimal.specs.Decimal.{mostDigits, isDigit, areDigits, valueAfter, beforePoint, afterPoint, numberOf, unsignedOf}
@@ -34,17 +35,17 @@ pub first-of : (a b : Bool) → (a && b) ≡ true → a ≡ true
 first-of true b h = refl
 first-of false b h = h
 
-second-of : (a b : Bool) → (a && b) ≡ true → b ≡ true
+pub second-of : (a b : Bool) → (a && b) ≡ true → b ≡ true
 second-of true b h = h
 second-of false b h = cc
 
 -- ---- digits and more digits
-split : (xs ys : List ℕ) → areDigits (xs ++ ys) ≡ (areDigits xs && areDigits ys)
+pub split : (xs ys : List ℕ) → areDigits (xs ++ ys) ≡ (areDigits xs && areDigits ys)
 unfolding areDigits
 split [] ys = refl
 split (x ∷ xs) ys = ap (λ (t : Bool). isDigit x && t) (split xs ys) ∙ sym (and-assoc (isDigit x) (areDigits xs) (areDigits ys))
 
-both-digits : (xs ys : List ℕ) → areDigits xs ≡ true → areDigits ys ≡ true → areDigits (xs ++ ys) ≡ true
+pub both-digits : (xs ys : List ℕ) → areDigits xs ≡ true → areDigits ys ≡ true → areDigits (xs ++ ys) ≡ true
 both-digits xs ys h k = simp (split, h, k)
 
 not-digits : (xs : List ℕ) (b : ℕ) (ys : List ℕ) → isDigit b ≡ false → areDigits (xs ++ (b ∷ ys)) ≡ false
@@ -55,6 +56,21 @@ pub value-split : (v : ℕ) (xs ys : List ℕ) → valueAfter v (xs ++ ys) ≡ v
 unfolding valueAfter
 value-split v [] ys = refl
 value-split v (x ∷ xs) ys = value-split (v * 10 + (x - 48)) xs ys
+
+-- n digits make a number below 10 ^ n
+pub value-lt : (v i : ℕ) (xs : List ℕ) → areDigits xs ≡ true → v < 10 ^ i → valueAfter v xs < 10 ^ (i + length xs)
+unfolding areDigits valueAfter
+value-lt v i [] h l = subst (λ (x : ℕ). v < 10 ^ x) (none i) l
+  where
+    none : (x : ℕ) → x ≡ x + 0
+    none x = omega arith
+value-lt v i (b ∷ bs) h l =
+    let t : b ≤ 57 = leb-true b 57 (second-of (leb 48 b) (leb b 57) (first-of (isDigit b) (areDigits bs) h)) in
+    let e : 10 ^ (i + 1) ≡ 10 ^ i * 10 = pow-add 10 i 1 in
+    subst (λ (x : ℕ). valueAfter (v * 10 + (b - 48)) bs < 10 ^ x) (further i (length bs)) (value-lt (v * 10 + (b - 48)) (i + 1) bs (second-of (isDigit b) (areDigits bs) h) (omega arith))
+  where
+    further : (x y : ℕ) → x + 1 + y ≡ x + suc y
+    further x y = omega arith
 
 pub digits-none : (v : ℕ) (s : List ℕ) → Digits v s v s
 unfolding areDigits valueAfter
@@ -71,14 +87,14 @@ digits-more before s v b rest d h =
     }
 
 -- ---- before and after the point
-before-run : (xs ys : List ℕ) → areDigits xs ≡ true → beforePoint (xs ++ ys) ≡ xs ++ beforePoint ys
+pub before-run : (xs ys : List ℕ) → areDigits xs ≡ true → beforePoint (xs ++ ys) ≡ xs ++ beforePoint ys
 unfolding areDigits beforePoint
 before-run [] ys h = refl
 before-run (x ∷ xs) ys h =
     ap (λ (t : Bool). cond t [] (x ∷ beforePoint (xs ++ ys))) (no-digit x 46 (first-of (isDigit x) (areDigits xs) h) refl)
     ∙ ap (λ (r : List ℕ). x ∷ r) (before-run xs ys (second-of (isDigit x) (areDigits xs) h))
 
-after-run : (xs ys : List ℕ) → areDigits xs ≡ true → afterPoint (xs ++ ys) ≡ afterPoint ys
+pub after-run : (xs ys : List ℕ) → areDigits xs ≡ true → afterPoint (xs ++ ys) ≡ afterPoint ys
 unfolding areDigits afterPoint
 after-run [] ys h = refl
 after-run (x ∷ xs) ys h =

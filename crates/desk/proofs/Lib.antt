@@ -3,3 +3,14 @@ mod Texts
 mod Rows
 mod Inputs
 pub mod Making
+pub mod Fits
+mod Finite
+mod Plain
+mod Heads
+pub mod EditedText
+pub mod Allowed
+mod Parted
+mod ChangedLines
+pub mod EditedLines
+pub mod Written
+pub mod EditExample

@@ -8,7 +8,7 @@ use lib.ListN.{length, take, drop, set, replicate, length-replicate}
 use lib.Seq.{sets, sets-eq, take-at}
 use lib.Dec.{leb, ltb, eqb}
 use lib.Ieee.{Float}
-use borrow.Author.Tests.{ne-eqb, le-leb, lt-leb, lt-ltb, le-ltb, ltb-false}
+use borrow.Author.Tests.{ne-eqb, le-leb, lt-leb, lt-ltb, le-ltb}
 use Rattle.float.specs.F32.{f0}
 use Rattle.blend.specs.declared.Rgba.{Rgba}
 use Rattle.stops.specs.Stops.{mostStops, shaped, stopsCheck, stopAt}
@@ -21,7 +21,7 @@ use Rattle.linearize.specs.Constants.{cells, recordLength}
 use Rattle.linearize.specs.Midpoints.{Gradient, Far}
 use Rattle.linearize.specs.Places.{listOf}
 use Rattle.linearize.specs.Kept.{channelsOf, keptOf, refusalOf, roomOf, coloursOf, writtenOf, positionsWritten, channelsWritten, listEvaluations}
-use Rattle.gradient.specs.Answers.{onFine}
+use Rattle.stops.specs.Answers.{onFine}
 use Rattle.linearize.specs.Desk.{farOf, answerBy, withSampling, stopsOfListed, evaluationsOfSampled, sampleCheck, thinCheck, sampleAnswer, thinPositions, thinChannels, freshList, flattenEvaluations, flattenPositions, flattenChannels}
 use Rattle.linearize.specs.Promises.{Samples, Thins, Flattens}
 use Rattle.refresh.specs.Edit.{changed}
@@ -45,13 +45,12 @@ use Rattle.desk.specs.declared.reading.Edited.{Edited}
 use Rattle.desk.specs.declared.reading.Edited.the-variants as edit
 use Rattle.desk.specs.declared.reading.Asked.{Asked}
 use Rattle.desk.specs.declared.reading.Asked.the-variants as asked
-use Rattle.desk.specs.declared.Desked.{Desked}
 use Rattle.desk.specs.declared.Desked.the-variants as desked
 use Rattle.desk.proofs.Texts.{puts-size}
 use Rattle.desk.proofs.Inputs.{length-positions, length-channels}
 
 -- ---- stores from the start
-sets-front : {A : Type 0} (vs l : List A) → length vs ≤ length l → sets l 0 vs ≡ vs ++ drop (length vs) l
+pub sets-front : {A : Type 0} (vs l : List A) → length vs ≤ length l → sets l 0 vs ≡ vs ++ drop (length vs) l
 sets-front vs l h =
     let m : 0 + length vs ≡ length vs = omega arith in
     sets-eq vs l 0 (omega arith) ∙ ap (λ (n : ℕ). vs ++ drop n l) m
@@ -270,17 +269,6 @@ zeros-done l i a b =
     sets-all l (replicate i 0) (length-replicate i 0 ∙ e) ∙ ap (λ (n : ℕ). replicate n 0) e
 
 -- ---- the output
-pub printed-fits : {s out out′ : List ℕ} {r : Desked} {n : ℕ} → Desks s out out′ r → r ≡ desked.Printed n → n ≤ length out
-unfolding deskAnswer
-printed-fits {s} {out} {out′} {r} {n} w i = go (ltb (length out) (length (deskOf s))) refl where
-  size-of : Desked → ℕ
-  size-of (desked.Printed m) = m
-  size-of (desked.Short m) = 0
-
-  go : (t : Bool) → ltb (length out) (length (deskOf s)) ≡ t → n ≤ length out
-  go true e = absurd (let z : desked.Printed n ≡ desked.Short (length (deskOf s)) = sym i ∙ w .answer ∙ rw e in let y : _≡_ {A = ℕ} 0 1 = cc in omega arith)
-  go false e = let z : desked.Printed n ≡ desked.Printed (length (deskOf s)) = sym i ∙ w .answer ∙ rw e in omega (arith, ap size-of z, ltb-false (length out) (length (deskOf s)) e)
-
 module _ (s : List ℕ) {out mid : List ℕ} {n : ℕ} (p : Puts out mid 0 (deskOf s) n) where
   size-is : length (deskOf s) ≡ n
   size-is = omega (arith, p .next)

@@ -2,5 +2,6 @@
 pub mod Entries
 pub mod Input
 pub mod Printed
+pub mod Recoloured
 pub mod Steps
 pub mod Tool

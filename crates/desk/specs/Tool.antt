@@ -1,5 +1,5 @@
 -- The tool as a whole: the calls that it makes, and what it prints of them. Document 01, 'Tools read standard input ..'.
-use Prim.Native.Nat.{ℕ, _+_}
+use Prim.Native.Nat.{ℕ, _+_, _≤_}
 use mathlib.Core.Path.{_≡_}
 use mathlib.Core.Bool.{cond}
 use mathlib.Core.List.{List, [], _++_}
@@ -114,3 +114,13 @@ deskOutput text out = cond (ltb (length out) (length text)) (replicate (length o
 pub record Desks (s out out′ : List ℕ) (r : Desked) : Type 0 where
   pub answer : r ≡ deskAnswer (length (deskOf s)) (length out)
   pub contents : out′ ≡ deskOutput (deskOf s) out
+
+-- ---- no answer is longer: 1,000 lines of 50 bytes after a first line of at most 29
+abbrev pub mostPrinted : ℕ
+mostPrinted = 50029
+
+-- an output of that length holds every answer; what lies past the bytes printed stays
+pub record Prints (s out out′ : List ℕ) (n : ℕ) : Type 0 where
+  pub count : n ≡ length (deskOf s)
+  pub fits : n ≤ mostPrinted
+  pub contents : out′ ≡ deskOf s ++ drop (length (deskOf s)) out

@@ -8,12 +8,15 @@ use writing::put_unread;
 ghost use mathlib.Core.Path.{_≡_};
 ghost use lib.ListN.{length, replicate};
 ghost use Rattle.desk.specs.Printed.{Puts};
-ghost use Rattle.desk.specs.Tool.{deskOf, Desks};
+ghost use Rattle.desk.specs.Tool.{deskOf, Desks, Prints};
 
 mod calls;
 mod fields;
 mod reading;
 mod writing;
+
+// No answer is longer: 1,000 lines of 50 bytes after a first line of at most 29.
+pub const MOST_PRINTED: usize = 50029;
 
 // How many bytes are printed, and whether the output holds them.
 pub enum Desked {
@@ -73,4 +76,11 @@ pub fn desk(input: &[u8], output: &mut [u8]) -> Desked
         return Desked::Short(n);
     }
     Desked::Printed(n)
+}
+
+// The same in an output that holds every answer: how many bytes are printed.
+pub fn print(input: &[u8], output: &mut [u8; MOST_PRINTED]) -> usize
+    ensures { λ r. ⌜ Prints (now (input .entry)) (now (output .entry)) (now (output .exit)) r ⌝ }
+{
+    answer(input, output)
 }

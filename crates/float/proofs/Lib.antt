@@ -2,6 +2,10 @@ pub mod Flags
 pub mod Order
 pub mod Finite
 pub mod Patterns
+pub mod Fields
+pub mod Fraction
+pub mod Nearest
+pub mod Counted
 pub mod Signs
 pub mod WholePart
 pub mod Rounding

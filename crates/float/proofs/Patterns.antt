@@ -2,6 +2,9 @@
 use mathlib.Core.Path.{_≡_, refl, sym, _∙_, subst}
 use mathlib.Core.Bool.{Bool, true, false, not}
 use Prim.Native.Nat.{ℕ, _%_, _≤_, _<_}
+use native.Mathlib.Nat.{lt-of-not-le}
+use native.Mathlib.Decide.{decLe}
+use native.Mathlib.Omega.{arith}
 use lib.Dec.{T, ltb}
 use lib.Ieee.{Float, nan, inf, fin, binary32, ne, isNan, ofBits, toBits, nanBits}
 use lib.Ieee.Bits.{nanBits-is, nanBits-above}
@@ -36,3 +39,11 @@ nan-pattern b h = only-nan (ofBits binary32 b) (sym (nanBits-is binary32 b) ∙ 
 pub pattern-of-nan : toBits binary32 nan ≡ 2143289344
 unfolding toBits
 pattern-of-nan = refl
+
+-- and a number's, the sign clear, is no more than the infinity's
+pub number-below : (b : ℕ) → b < 2147483648 → T (not (nanBits binary32 b)) → b ≤ 2139095040
+number-below b l h = go (decLe b 2139095040)
+  where
+    go : Dec (b ≤ 2139095040) → b ≤ 2139095040
+    go (yes m) = m
+    go (no f) = let m = lt-of-not-le f in absurd (subst (λ (x : Bool). T (not x)) (nanBits-above binary32 b ∙ lt-ltb 2139095040 (b % 2147483648) (omega arith)) h)

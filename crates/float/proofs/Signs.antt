@@ -1,58 +1,94 @@
--- The sign cleared, by comparing with zero. Assumes nothing.
-use mathlib.Core.Path.{_≡_, refl, sym, _∙_, ap}
-use mathlib.Core.Bool.{true, false, true≢false}
-use Prim.Native.Nat.{zero, suc, _*_, _+_, _^_, _<_, _≤_}
-use native.Mathlib.Nat.{zero-mul, mul-pos, pow-suc}
+-- The sign's bit of a pattern: what is left without it is the magnitude's pattern. Assumes nothing.
+use mathlib.Core.Path.{_≡_, refl, sym, ap, _∙_, subst}
+use mathlib.Core.Bool.{Bool, true, false, not}
+use Prim.Native.Nat.{ℕ, zero, suc, _+_, _-_, _*_, _/_, _%_, _^_, _<_, _≤_}
 use native.Mathlib.Omega.{arith}
-use lib.Dec.{T, eqb→eq}
-use lib.Pow.{pow-pos}
-use lib.IntN.{ℤ, pos, negsuc}
-use lib.Ieee.{Float, nan, inf, fin, binary32, up, down, lt, eq, neg, fits}
-use lib.Ieee.Fits.{up-pos}
-use borrow.Author.Tests.{ltb-true, ltb-false, eqb-true, eq-eqb}
+use lib.Dec.{T}
+use lib.IntN.{ℤ}
+use lib.Ieee.{Float, nan, inf, fin, binary32, up, down, size, isNan, fits, toBits, ofBits, nanBits}
+use lib.Ieee.Bits.{ofBits-toBits, toBits-lt, nanBits-is}
+use lib.Ieee.Fits.{inf-fits}
 use Rattle.float.specs.Number.{magnitudeOf}
-use Rattle.float.proofs.Flags.{both-l}
+use Rattle.float.proofs.Patterns.{number-below}
 
-abbrev o : Float
-o = fin false 0 (pos 0)
+-- ---- whether a number fits does not turn on its sign
+fits-signed : (s t : Bool) (m : ℕ) (e : ℤ) → T (fits binary32 (fin s m e)) → T (fits binary32 (fin t m e))
+unfolding fits
+fits-signed s t zero e h = h
+fits-signed s t (suc m) e h = h
 
-never : {X : Type 0} → true ≡ false → X
-never e = absurd (true≢false e)
+fits-magnitude : (x : Float) → T (fits binary32 x) → T (fits binary32 (magnitudeOf x))
+unfolding magnitudeOf
+fits-magnitude nan h = h
+fits-magnitude (inf s) h = inf-fits binary32 false
+fits-magnitude (fin s m e) h = fits-signed s false m e h
 
-pub abs-neg : (x : Float) → lt x o ≡ true → neg x ≡ magnitudeOf x
-unfolding lt neg magnitudeOf
-abs-neg nan h = refl
-abs-neg (inf true) h = refl
-abs-neg (inf false) h = never (sym h)
-abs-neg (fin true m e) h = refl
-abs-neg (fin false m e) h = let k = ltb-true (m * up e * 1) (0 * down e) h in let z : 0 * down e ≡ 0 = zero-mul (down e) in absurd (omega arith)
+-- ---- the sign's bit is on top of the others
+below : (u v : ℕ) → 2147483648 + u + v < 4294967296 → 0 + u + v < 2147483648
+below u v h = omega arith
 
-pub abs-pos : (x : Float) → lt x o ≡ false → eq x o ≡ false → x ≡ magnitudeOf x
-unfolding lt eq magnitudeOf
-abs-pos nan h k = refl
-abs-pos (inf true) h k = never h
-abs-pos (inf false) h k = refl
-abs-pos (fin true m e) h k =
-    let z : 0 * down e ≡ 0 = zero-mul (down e) in
-    let a : m * up e * 1 + 0 * down e ≤ 0 = ltb-false 0 (m * up e * 1 + 0 * down e) h in
-    let b : m * up e * 1 ≡ 0 * down e = omega arith in
-    let d : m * up e * 1 ≡ 0 = omega arith in
-    never (sym (simp (eq-eqb (m * up e * 1) (0 * down e) b, eq-eqb (m * up e * 1) 0 d)) ∙ k)
-abs-pos (fin false m e) h k = refl
+clear : (u v : ℕ) → 2147483648 + u + v < 4294967296 → 0 + u + v ≡ (2147483648 + u + v) % 2147483648
+clear u v h = omega arith
 
--- a zero is written in one way
-zero-exponent : (e : ℤ) → up e * down e ≡ 1 → e ≡ pos 0
-zero-exponent (pos zero) h = refl
-zero-exponent (pos (suc k)) h = let p = pow-pos k in let q : 2 ^ suc k ≡ 2 ^ k * 2 = pow-suc 2 k in let r : 2 ^ suc k * 1 ≡ 1 = h in absurd (omega arith)
-zero-exponent (negsuc k) h = let p = pow-pos k in let q : 2 ^ suc k ≡ 2 ^ k * 2 = pow-suc 2 k in let r : 1 * 2 ^ suc k ≡ 1 = h in absurd (omega arith)
+above : (u v : ℕ) → 2147483648 ≤ 2147483648 + u + v
+above u v = omega arith
 
-pub abs-zero : (x : Float) → T (fits binary32 x) → eq x o ≡ true → o ≡ magnitudeOf x
-unfolding eq magnitudeOf fits
-abs-zero nan f h = never (sym h)
-abs-zero (inf s) f h = never (sym h)
-abs-zero (fin s zero e) f h = ap (λ (k : ℤ). fin false 0 k) (sym (zero-exponent e (eqb→eq (up e * down e) 1 f)))
-abs-zero (fin s (suc m) e) f h =
-    let k = eqb-true (suc m * up e * 1) (0 * down e) (both-l _ _ h) in
-    let z : 0 * down e ≡ 0 = zero-mul (down e) in
-    let p : 0 < suc m * up e = mul-pos (omega arith) (up-pos e) in
-    absurd (omega arith)
+keep : (a : ℕ) → a < 2147483648 → a ≡ a % 2147483648
+keep a h = omega arith
+
+module _ (m : ℕ) (e : ℤ) where
+  abbrev n : ℕ
+  n = m * up e * 2 ^ 149 / down e
+
+  abbrev field : ℕ
+  field = (size n - 24) * 8388608
+
+  abbrev digits : ℕ
+  digits = n / 2 ^ (size n - 24)
+
+  pub plus-bits : T (fits binary32 (fin false m e)) → toBits binary32 (fin false m e) < 2147483648
+  unfolding toBits
+  plus-bits f = below field digits (toBits-lt binary32 (fin true m e) (fits-signed false true m e f))
+
+  pub minus-bits : 2147483648 ≤ toBits binary32 (fin true m e)
+  unfolding toBits
+  minus-bits = above field digits
+
+  cleared : T (fits binary32 (fin true m e)) → toBits binary32 (fin false m e) ≡ toBits binary32 (fin true m e) % 2147483648
+  unfolding toBits
+  cleared f = clear field digits (toBits-lt binary32 (fin true m e) f)
+
+pub pattern-magnitude : (x : Float) → T (fits binary32 x) → toBits binary32 (magnitudeOf x) ≡ toBits binary32 x % 2147483648
+unfolding magnitudeOf toBits
+pattern-magnitude nan f = refl
+pattern-magnitude (inf true) f = refl
+pattern-magnitude (inf false) f = refl
+pattern-magnitude (fin true m e) f = cleared m e f
+pattern-magnitude (fin false m e) f = keep _ (plus-bits m e f)
+
+-- ---- what `magnitude` asks
+pub magnitude-back : (x : Float) → T (fits binary32 x) → ofBits binary32 (toBits binary32 x % 2147483648) ≡ magnitudeOf x
+magnitude-back x f = ap (ofBits binary32) (sym (pattern-magnitude x f)) ∙ ofBits-toBits binary32 (magnitudeOf x) (fits-magnitude x f)
+
+still-number : (x : Float) → T (not (isNan x)) → T (not (isNan (magnitudeOf x)))
+unfolding isNan magnitudeOf
+still-number nan h = h
+still-number (inf s) h = tt
+still-number (fin s m e) h = tt
+
+-- where the sign is clear, and where it is set
+pub magnitude-plus : (x : Float) → T (fits binary32 x) → toBits binary32 x < 2147483648 → x ≡ magnitudeOf x
+magnitude-plus x f h = sym (ofBits-toBits binary32 x f) ∙ ap (ofBits binary32) (keep (toBits binary32 x) h) ∙ magnitude-back x f
+
+pub set : (x : Float) → T (fits binary32 x) → 2147483648 ≤ toBits binary32 x → toBits binary32 x - 2147483648 ≡ toBits binary32 x % 2147483648
+set x f h = let l = toBits-lt binary32 x f in omega arith
+
+pub magnitude-minus : (x : Float) → T (fits binary32 x) → 2147483648 ≤ toBits binary32 x → ofBits binary32 (toBits binary32 x - 2147483648) ≡ magnitudeOf x
+magnitude-minus x f h = ap (ofBits binary32) (set x f h) ∙ magnitude-back x f
+
+pub magnitude-pattern : (x : Float) → T (fits binary32 x) → T (not (isNan x)) → T (not (nanBits binary32 (toBits binary32 x % 2147483648)))
+magnitude-pattern x f h =
+    subst (λ (b : Bool). T (not b)) (sym (nanBits-is binary32 (toBits binary32 x % 2147483648) ∙ ap isNan (magnitude-back x f))) (still-number x h)
+
+pub magnitude-below : (x : Float) → T (fits binary32 x) → T (not (isNan x)) → toBits binary32 x % 2147483648 ≤ 2139095040
+magnitude-below x f h = number-below (toBits binary32 x % 2147483648) (omega arith) (magnitude-pattern x f h)

@@ -16,7 +16,7 @@ use Rattle.ggr.specs.declared.header.Lead.the-variants.{Counted, Refuse}
 use Rattle.ggr.specs.Text.{unmark, lines, firstOf, restOf, orEmpty, textLines, trimStart, trimEnd, trim}
 use Rattle.stops.specs.Stops.{finiteRgba}
 use Rattle.gradient.specs.Gimp.{mostSegments}
-use Rattle.ggr.specs.File.{Outcome, found, refused, segments, fromLines, fitText, fileOf, answerOf, positionsOf, channelsOf, codesOf, written, roomOf, Done, black, whenRead, nameOf}
+use Rattle.ggr.specs.File.{Outcome, found, refused, segments, fromLines, fitText, fileOf, answerOf, numberOfAnswer, lineOfAnswer, segmentsOfAnswer, numberIn, lineIn, segmentsIn, positionsOf, channelsOf, codesOf, written, roomOf, Done, black, whenRead, nameOf}
 use Rattle.ggr.specs.Steps.{leads, leadFits, LeadsTo, LineAt, Filled}
 
 -- ---- the order of the refusals
@@ -60,6 +60,11 @@ unfolding roomOf
 room-fits n p c k h = omega arith
 
 -- ---- the end
+-- an answer's number, line and segments are those of what the file holds
+told : (o : Outcome) → (numberOfAnswer (answerOf o) ≡ numberIn o) × (lineOfAnswer (answerOf o) ≡ lineIn o) × (segmentsOfAnswer (answerOf o) ≡ segmentsIn o)
+told (found gs) = (refl, refl, refl)
+told (refused a b) = (refl, refl, refl)
+
 module _ (o : Outcome) (r : Answer) (p c : List Float) (k : List ℕ) (p' c' : List Float) (k' : List ℕ) (w : Filled o r p c k p' c' k') where
   found-by : (o : Outcome) (n : ℕ) → r ≡ Read n → r ≡ answerOf o → (gs : List Segment) × (o ≡ found gs)
   found-by (found gs) n e f = (gs, refl)
@@ -72,7 +77,15 @@ module _ (o : Outcome) (r : Answer) (p c : List Float) (k : List ℕ) (p' c' : L
   pub done-read : (n : ℕ) → r ≡ Read n → Done o r p c k p' c' k'
   done-read n e =
       let g = found-by o n e (w .answer) in
-      record { answer = w .answer; positions = w .positions (g .0) (g .1); channels = w .channels (g .0) (g .1); codes = w .codes (g .0) (g .1) }
+      record {
+        answer = w .answer;
+        number = rw (w .answer) (told o .0);
+        line = rw (w .answer) (told o .1);
+        segments-read = rw (w .answer) (told o .2);
+        positions = w .positions (g .0) (g .1);
+        channels = w .channels (g .0) (g .1);
+        codes = w .codes (g .0) (g .1);
+      }
 
   pub done-refused : (a b : ℕ) → r ≡ Refused a b → length p' ≡ length p → length c' ≡ length c → length k' ≡ length k
       → (p″ c″ : List Float) (k″ : List ℕ) → p″ ≡ replicate (length p') f0 → c″ ≡ replicate (length c') f0 → k″ ≡ replicate (length k') 0 → Done o r p c k p″ c″ k″
@@ -81,6 +94,9 @@ module _ (o : Outcome) (r : Answer) (p c : List Float) (k : List ℕ) (p' c' : L
       let g = refused-by o a b e (w .answer) in
       record {
         answer = w .answer;
+        number = rw (w .answer) (told o .0);
+        line = rw (w .answer) (told o .1);
+        segments-read = rw (w .answer) (told o .2);
         positions = ep ∙ ap (λ (n : ℕ). replicate n f0) lp ∙ ap (λ (x : Outcome). written f0 positionsOf x p) (sym g);
         channels = ec ∙ ap (λ (n : ℕ). replicate n f0) lc ∙ ap (λ (x : Outcome). written f0 channelsOf x c) (sym g);
         codes = ek ∙ ap (λ (n : ℕ). replicate n 0) lk ∙ ap (λ (x : Outcome). written 0 codesOf x k) (sym g);

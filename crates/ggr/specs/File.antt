@@ -97,6 +97,32 @@ abbrev pub answerOf : Outcome → Answer
 answerOf (found gs) = Read (length gs)
 answerOf (refused number line) = Refused number line
 
+-- document 01's number and line of each answer, 0 for none, and its value, the number of segments
+abbrev pub numberOfAnswer : Answer → ℕ
+numberOfAnswer (Read n) = 0
+numberOfAnswer (Refused number line) = number
+
+abbrev pub lineOfAnswer : Answer → ℕ
+lineOfAnswer (Read n) = 0
+lineOfAnswer (Refused number line) = line
+
+abbrev pub segmentsOfAnswer : Answer → ℕ
+segmentsOfAnswer (Read n) = n
+segmentsOfAnswer (Refused number line) = 0
+
+-- and the same of what a file holds
+abbrev pub numberIn : Outcome → ℕ
+numberIn (found gs) = 0
+numberIn (refused number line) = number
+
+abbrev pub lineIn : Outcome → ℕ
+lineIn (found gs) = 0
+lineIn (refused number line) = line
+
+abbrev pub segmentsIn : Outcome → ℕ
+segmentsIn (found gs) = length gs
+segmentsIn (refused number line) = 0
+
 -- 3 positions, 8 channels and 2 codes of a segment
 unfoldable pub positionsOf : Segment → List Float
 positionsOf g = g .left ∷ g .middle ∷ g .right ∷ []
@@ -126,6 +152,9 @@ roomOf p c k = min (p / 3) (min (c / 8) (k / 2))
 -- the promise of reading: the answer, and the final contents of every lent output
 pub record Done (o : Outcome) (r : Answer) (p c : List Float) (k : List ℕ) (p' c' : List Float) (k' : List ℕ) : Type 0 where
   pub answer : r ≡ answerOf o
+  pub number : numberOfAnswer r ≡ numberIn o
+  pub line : lineOfAnswer r ≡ lineIn o
+  pub segments-read : segmentsOfAnswer r ≡ segmentsIn o
   pub positions : p' ≡ written f0 positionsOf o p
   pub channels : c' ≡ written f0 channelsOf o c
   pub codes : k' ≡ written 0 codesOf o k

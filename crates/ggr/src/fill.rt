@@ -133,7 +133,14 @@ fn fill(
 }
 
 // Reads a file: the answer is right, and so are the outputs where it is no refusal.
-pub fn read_into(s: &[u8], fg: Rgba, bg: Rgba, p: &mut [f32], c: &mut [f32], k: &mut [u8]) -> Answer
+pub(crate) fn read_into(
+    s: &[u8],
+    fg: Rgba,
+    bg: Rgba,
+    p: &mut [f32],
+    c: &mut [f32],
+    k: &mut [u8],
+) -> Answer
     ensures { λ r. ⌜ Filled (fileOf (roomOf (length (now (p .entry))) (length (now (c .entry))) (length (now (k .entry)))) fg bg (now (s .entry))) r (now (p .entry)) (now (c .entry)) (now (k .entry)) (now (p .exit)) (now (c .exit)) (now (k .exit)) ⌝ }
 {
     if !stops::is_finite_colour(fg) {

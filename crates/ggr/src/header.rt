@@ -61,7 +61,7 @@ fn name_line(s: &[u8], at: usize, room: usize) -> Lead
     count_line(s, next, room)
 }
 
-pub fn header(s: &[u8], room: usize) -> Lead
+pub(crate) fn header(s: &[u8], room: usize) -> Lead
     ensures { λ r. ⌜ LeadsTo room (λ fg bg. fromLines room fg bg (textLines (now (s .entry)))) r (now (s .entry)) ⌝ }
 {
     if s.len() == 0 {

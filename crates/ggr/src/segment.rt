@@ -209,7 +209,7 @@ pub struct SegmentLine {
 }
 
 // The segment of the line at `at`: 13 or 15 numbers, of which the last two are 0 where they are left out.
-pub fn segment_at(s: &[u8], at: usize, fg: Rgba, bg: Rgba) -> SegmentLine
+pub(crate) fn segment_at(s: &[u8], at: usize, fg: Rgba, bg: Rgba) -> SegmentLine
     ensures { λ r. ⌜ SegmentAt fg bg (now (s .entry)) at (r .read) (r .next) ⌝ }
 {
     let row = row_at(s, at);

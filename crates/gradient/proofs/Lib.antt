@@ -6,4 +6,3 @@ pub mod SharpExamples
 pub mod SharpValid
 pub mod GimpSearch
 pub mod GimpLaws
-pub mod GimpExamples

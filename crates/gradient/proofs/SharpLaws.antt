@@ -2,14 +2,13 @@
 use mathlib.Core.Path.{_≡_, refl, sym, _∙_, ap}
 use mathlib.Core.Bool.{Bool, true, false, not, cond, _&&_}
 use mathlib.Core.List.{List, [], _∷_, _++_}
-use Prim.Native.Nat.{ℕ, zero, suc, _+_, _-_, _*_, _/_, _%_, _^_, _≤_, _<_}
+use Prim.Native.Nat.{ℕ, zero, suc, _+_, _*_, _/_, _%_, _≤_, _<_}
 use native.Mathlib.Numerals.{add-one}
 use native.Mathlib.Omega.{arith}
-use lib.Dec.{T, leb, eqb, le→leb}
-use lib.IntN.{pos}
+use lib.Dec.{leb, eqb}
 use lib.ListN.{length, getD, take, drop, drop-of-length-le, length-take}
 use lib.Seq.{drop-cons, take-at}
-use lib.Ieee.{Float, nan, inf, lt, eq, inFloat, binary32}
+use lib.Ieee.{Float, nan, inf, lt, eq}
 use lib.Ieee.Scale.{finite}
 use borrow.Author.Tests.{eq-eqb, ne-eqb, lt-ltb, le-ltb, leb-true, eqb-true, not-true}
 use Rattle.float.proofs.Flags.{both-l, both-r}
@@ -17,14 +16,10 @@ use Rattle.float.specs.F32.{_⊕_, _⊖_, _⊗_, _⊘_, f4, tenth}
 use Rattle.float.specs.Number.{clampOf, countOf}
 use Rattle.blend.specs.Points.{linspaceAt}
 use Rattle.blend.specs.Finite.{allFinite}
-use Rattle.gradient.specs.Sharp.{mostBands, softnessOf, insetOf, bandAt, listed, sharpPositions, channelAt, sharpChannels, domainFits, steady, roomy, bands, buildOf, after}
+use Rattle.gradient.specs.Sharp.{mostBands, softnessOf, insetOf, bandAt, listed, sharpPositions, channelAt, sharpChannels, domainFits, steady, roomy, bands, buildOf, numberOfBuilt, stopsOfBuilt, after, Builds}
+use Rattle.gradient.specs.declared.sharp.Built.{Built}
 use Rattle.gradient.specs.declared.sharp.Built.the-variants.{Stops, Refused}
 use Rattle.gradient.proofs.Filling.{length-listed}
-
--- ---- a number of bands is an f32
-pub in-float : (i : ℕ) → i ≤ 65536 → T (inFloat binary32 (pos i))
-unfolding inFloat
-in-float i h = le→leb i (2 ^ 24) (omega arith)
 
 -- ---- the softness
 module _ (s : Float) {t : Bool} (e : t ≡ finite s) where
@@ -36,9 +31,9 @@ module _ (s : Float) {t : Bool} (e : t ≡ finite s) where
   unfolding softnessOf
   soft-other h = simp (sym e ∙ h)
 
-pub inset-is : (min max s : Float) (n : ℕ) {x : Float} → x ≡ softnessOf s → x ⊗ (max ⊖ min) ⊘ countOf n ⊘ f4 ≡ insetOf min max s n
+pub inset-is : (min max s : Float) (n : ℕ) {x y : Float} → x ≡ softnessOf s → y ≡ countOf n → x ⊗ (max ⊖ min) ⊘ y ⊘ f4 ≡ insetOf min max s n
 unfolding insetOf
-inset-is min max s n e = simp e
+inset-is min max s n e f = simp (e, f)
 
 -- ---- one stop
 module _ (min max inset : Float) (n j : ℕ) {p : Float} where
@@ -199,3 +194,8 @@ after-stops m k written old h e = e ∙ ap (λ (j : ℕ). written ++ drop j old)
 pub after-copy : (m : ℕ) (written old xs : List Float) → xs ≡ written → {l : List Float} → l ≡ xs ++ drop (length xs) old → l ≡ after (Stops m) written old
 unfolding after
 after-copy m written old xs h e = e ∙ ap (λ (ys : List Float). ys ++ drop (length ys) old) h
+
+-- all that `build` promises, from its answer and what that leaves
+pub builds : {colours : List Float} {min max s : Float} {ps ps′ cs cs′ : List Float} {r : Built} → r ≡ buildOf colours min max s (length ps) (length cs)
+    → ps′ ≡ after r (sharpPositions min max s (bands colours)) ps → cs′ ≡ after r (sharpChannels colours (bands colours)) cs → Builds colours min max s ps ps′ cs cs′ r
+builds e p q = record { answer = e; number = ap numberOfBuilt e; stops = ap stopsOfBuilt e; positions = rw e at p; channels = rw e at q }

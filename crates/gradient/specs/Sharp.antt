@@ -1,5 +1,6 @@
 -- Building a sharp ramp: n colours, each a band, give 2n stops. Item 4 of document 01's 'Ramps carried', and refusals 17, 1, 2, in that order.
 use Prim.Native.Nat.{ℕ, zero, suc, _+_, _*_, _/_, _%_}
+use mathlib.Core.Path.{_≡_}
 use mathlib.Core.Bool.{Bool, true, not, cond, _&&_}
 use mathlib.Core.List.{List, [], _∷_, _++_}
 use lib.Dec.{leb, ltb, eqb}
@@ -73,8 +74,25 @@ buildOf colours min max s p c =
     (cond (roomy (length colours) n p c) (cond (allFinite colours) (Stops (2 * n)) (Refused 2)) (Refused 1))
     (Refused 17)
 
+-- document 01's number of each answer, 0 for none, and its value, the number of stops; it has no line
+abbrev pub numberOfBuilt : Built → ℕ
+numberOfBuilt (Stops m) = 0
+numberOfBuilt (Refused k) = k
+
+abbrev pub stopsOfBuilt : Built → ℕ
+stopsOfBuilt (Stops m) = m
+stopsOfBuilt (Refused k) = 0
+
 -- ---- the outputs
 -- what was written, and past it what was there; a refusal changes nothing
 unfoldable pub after : Built → List Float → List Float → List Float
 after (Stops m) written old = written ++ drop (length written) old
 after (Refused k) written old = old
+
+-- the promise of `build`: the answer, its number and value, and what both lent outputs hold at the end
+pub record Builds (colours : List Float) (min max s : Float) (ps ps′ cs cs′ : List Float) (r : Built) : Type 0 where
+  pub answer : r ≡ buildOf colours min max s (length ps) (length cs)
+  pub number : numberOfBuilt r ≡ numberOfBuilt (buildOf colours min max s (length ps) (length cs))
+  pub stops : stopsOfBuilt r ≡ stopsOfBuilt (buildOf colours min max s (length ps) (length cs))
+  pub positions : ps′ ≡ after (buildOf colours min max s (length ps) (length cs)) (sharpPositions min max s (bands colours)) ps
+  pub channels : cs′ ≡ after (buildOf colours min max s (length ps) (length cs)) (sharpChannels colours (bands colours)) cs

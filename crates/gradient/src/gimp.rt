@@ -6,6 +6,7 @@ use stops::Checked;
 ghost use mathlib.Core.Path.{_≡_};
 ghost use Prim.Native.Nat.{_*_, _≤_};
 ghost use lib.ListN.{length, getD};
+ghost use Rattle.stops.specs.Answers.{Checks};
 ghost use Rattle.gradient.specs.Gimp.{mostSegments, segments, carried, allCarried, gimpShaped, gimpCheck, segmentFor, along, linearFactor, increasing, decreasing, bent, blended, segmentColour, offDomain, gimpColour};
 
 pub const MOST_SEGMENTS: usize = 256;
@@ -77,7 +78,7 @@ fn is_shaped(n: usize, positions: usize, channels: usize, codes: usize) -> bool
 
 // All of refusal 1, then 2.
 pub fn check(positions: &[f32], channels: &[f32], codes: &[u8]) -> Checked
-    ensures { λ r. ⌜ r ≡ gimpCheck (now (positions .entry)) (now (channels .entry)) (now (codes .entry)) ⌝ }
+    ensures { λ r. ⌜ Checks (gimpCheck (now (positions .entry)) (now (channels .entry)) (now (codes .entry))) r ⌝ }
 {
     let n = positions.len() / 3;
     if !is_shaped(n, positions.len(), channels.len(), codes.len()) {

@@ -3,6 +3,7 @@ use blend::Rgba;
 use stops::Checked;
 use stops::Kind;
 ghost use mathlib.Core.Path.{_≡_};
+ghost use Rattle.stops.specs.Answers.{Checks};
 ghost use Rattle.gradient.specs.Ramp.{isGimp, checkOf, anyColour, minOf, maxOf};
 
 pub mod gimp;
@@ -23,7 +24,7 @@ pub fn is_gimp(kind: Kind) -> bool
 
 // Refusals 1, then stop by stop 2 and 3.
 pub fn check(kind: Kind, positions: &[f32], channels: &[f32], codes: &[u8]) -> Checked
-    ensures { λ r. ⌜ r ≡ checkOf kind (now (positions .entry)) (now (channels .entry)) (now (codes .entry)) ⌝ }
+    ensures { λ r. ⌜ Checks (checkOf kind (now (positions .entry)) (now (channels .entry)) (now (codes .entry))) r ⌝ }
 {
     if is_gimp(kind) {
         return gimp::check(positions, channels, codes);

@@ -6,7 +6,7 @@ ghost use mathlib.Core.List.{_++_};
 ghost use Prim.Native.Nat.{_*_, _<_, _≤_};
 ghost use lib.ListN.{length, take, drop};
 ghost use lib.Ieee.{inf};
-ghost use Rattle.gradient.specs.Sharp.{mostBands, softnessOf, insetOf, bandAt, sharpPositions, sharpChannels, domainFits, steady, roomy, bands, buildOf, after};
+ghost use Rattle.gradient.specs.Sharp.{mostBands, softnessOf, insetOf, bandAt, sharpPositions, sharpChannels, domainFits, steady, roomy, Builds};
 
 pub const MOST_BANDS: usize = 256;
 
@@ -27,10 +27,9 @@ fn soften(s: f32) -> f32
 
 // How far a stop lies inside its band's end.
 fn inset_of(min: f32, max: f32, s: f32, n: usize) -> f32
-    requires { ⌜ n ≤ mostBands ⌝ }
     ensures { λ r. ⌜ r ≡ insetOf min max s n ⌝ }
 {
-    soften(s) * (max - min) / n as f32 / 4.0
+    soften(s) * (max - min) / float::from_whole(n as u64) / 4.0
 }
 
 // The position of stop j of 2n.
@@ -161,9 +160,7 @@ pub fn build(
     positions: &mut [f32],
     channels: &mut [f32],
 ) -> Built
-    ensures { λ r. ⌜ r ≡ buildOf (now (colours .entry)) min max softness (length (now (positions .entry))) (length (now (channels .entry))) ⌝ }
-    ensures { λ r. ⌜ now (positions .exit) ≡ after r (sharpPositions min max softness (bands (now (colours .entry)))) (now (positions .entry)) ⌝ }
-    ensures { λ r. ⌜ now (channels .exit) ≡ after r (sharpChannels (now (colours .entry)) (bands (now (colours .entry)))) (now (channels .entry)) ⌝ }
+    ensures { λ r. ⌜ Builds (now (colours .entry)) min max softness (now (positions .entry)) (now (positions .exit)) (now (channels .entry)) (now (channels .exit)) r ⌝ }
 {
     let n = colours.len() / 4;
     if !domain_fits(n, min, max) {

@@ -52,7 +52,7 @@ fn front(s: &[u8], n: usize) -> &[u8] {
 }
 
 fn run(label: &[u8], text: &[u8]) {
-    let mut output = [0u8; 50100];
+    let mut output = [0u8; desk::MOST_PRINTED];
     out(b"# ");
     out(label);
     out(b"\n");

@@ -58,13 +58,17 @@ fn put_token(s: &[u8]) {
     }
 }
 
-fn answer(job: u8, x: f32) {
+// The pattern b is a whole number for `n`, and for `h` both halves of one.
+fn answer(job: u8, b: u32) {
+    let x = float::from_bits(b);
     match job {
         b'r' => put_bits(sqrt::root(x)),
         b'k' => put_bits(sqrt::half_root::cutoff(x)),
         b'm' => put_bits(float::magnitude(x)),
         b'c' => put_bits(float::clamp(x)),
         b'w' => put_whole(float::whole(x)),
+        b'n' => put_bits(float::from_whole(b as u64)),
+        b'h' => put_bits(float::from_whole(b as u64 * 0x1_0000_0001)),
         _ => {
             if float::is_finite(x) {
                 put(b"finite");
@@ -84,7 +88,7 @@ fn run(line: &[u8]) {
         if job == b't' {
             put_token(rest);
         } else {
-            answer(job, float::from_bits(pattern(rest)));
+            answer(job, pattern(rest));
         }
     }
     put(b"\n");

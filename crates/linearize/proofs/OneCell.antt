@@ -6,6 +6,8 @@ use Prim.Native.Nat.{ℕ, _≤_, _<_}
 use borrow.Author.Tests.{eq-eqb, ne-eqb, lt-ltb, le-ltb, le-leb, lt-leb}
 use lib.ListN.{length}
 use lib.Ieee.{Float}
+use Rattle.float.specs.F32.{_⊕_, _⊖_, _⊗_, _⊘_}
+use Rattle.float.specs.Number.{countOf}
 use Rattle.linearize.specs.Constants.{cells, recordLength}
 use Rattle.linearize.specs.Midpoints.{Gradient, Far}
 use Rattle.linearize.specs.Cells.{edgeOf, endOf}
@@ -20,6 +22,10 @@ module _ (lo hi : Float) (i : ℕ) where
   pub end-is : i ≤ cells → endOf lo hi i ≡ edgeOf lo hi i
   unfolding endOf
   end-is h = rw (le-leb i cells h)
+
+  pub edge-is : {x y : Float} → x ≡ countOf i → y ≡ countOf cells → lo ⊕ (hi ⊖ lo) ⊗ (x ⊘ y) ≡ edgeOf lo hi i
+  unfolding edgeOf
+  edge-is e f = simp (e, f)
 
 -- ---- a cell of a record
 module _ (i n m : ℕ) where

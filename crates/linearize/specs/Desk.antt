@@ -8,7 +8,7 @@ use lib.Ieee.{Float, neg, lt}
 use Rattle.stops.specs.declared.Kind.{Kind}
 use Rattle.stops.specs.declared.Checked.{Checked}
 use Rattle.stops.specs.declared.Checked.the-variants as checked
-use Rattle.gradient.specs.Answers.{onFine}
+use Rattle.stops.specs.Answers.{onFine}
 use Rattle.gradient.specs.Ramp.{checkOf, minOf, maxOf, colourOf}
 use Rattle.linearize.specs.Constants.{cells, rowLength, recordLength, farthest, thresholdOf}
 use Rattle.linearize.specs.Difference.{differs}

@@ -9,7 +9,7 @@ use lib.Seq.{sets}
 use lib.Ieee.{Float}
 use Rattle.stops.specs.declared.Kind.{Kind}
 use Rattle.stops.specs.declared.Checked.{Checked}
-use Rattle.gradient.specs.Answers.{numberOfChecked}
+use Rattle.stops.specs.Answers.{numberOfChecked}
 use Rattle.gradient.specs.Ramp.{maxOf, colourOf}
 use Rattle.linearize.specs.Places.{listOf}
 use Rattle.linearize.specs.Constants.{cells, depth, rowLength, recordLength}

@@ -172,7 +172,7 @@ pub fn edge(min: f32, max: f32, i: usize) -> f32
     if i > Sampler::CELLS {
         return max;
     }
-    min + (max - min) * (i as f32 / Sampler::CELLS as f32)
+    min + (max - min) * (float::from_whole(i as u64) / float::from_whole(Sampler::CELLS as u64))
 }
 
 // Samples cell i, from p to q, anew.

@@ -4,6 +4,7 @@ use stops::Checked;
 use stops::Kind;
 ghost use mathlib.Core.Path.{_≡_};
 ghost use Prim.Native.Nat.{_≤_};
+ghost use Rattle.stops.specs.Answers.{Checks};
 ghost use Rattle.linearize.specs.Constants.{thresholdOf};
 ghost use Rattle.linearize.specs.Desk.{evaluationsOfListed, beyondOf, shapeCheck, countsCheck, sampleCheck, thinCheck, withSampling};
 ghost use Rattle.linearize.specs.Promises.{Samples, Thins, Flattens};
@@ -208,7 +209,7 @@ pub fn check_thin(
     rows: &[f32],
     counts: &[u8],
 ) -> Checked
-    ensures { λ r. ⌜ r ≡ thinCheck kind (now (positions .entry)) (now (channels .entry)) (now (codes .entry)) (now (rows .entry)) (now (counts .entry)) ⌝ }
+    ensures { λ r. ⌜ Checks (thinCheck kind (now (positions .entry)) (now (channels .entry)) (now (codes .entry)) (now (rows .entry)) (now (counts .entry))) r ⌝ }
 {
     match check_sample(kind, positions, channels, codes, rows.len(), counts.len()) {
         Checked::Refused(n) => Checked::Refused(n),

@@ -5,6 +5,7 @@ use Rattle.float.proofs.is_finite.Reads as of-is-finite
 use Rattle.float.proofs.magnitude.Reads as of-magnitude
 use Rattle.float.proofs.clamp.Reads as of-clamp
 use Rattle.float.proofs.whole.Reads as of-whole
+use Rattle.float.proofs.from_whole.Reads as of-from-whole
 use Rattle.float.proofs.from_bits.Reads as of-from-bits
 use Rattle.float.proofs.to_bits.Reads as of-to-bits
 
@@ -19,6 +20,9 @@ clamp κs a = coincide (λ r e w. w)
 
 pub whole : (κs : Lfts 0) (a : _) → Coincide (of-whole.Learnt κs a) answer
 whole κs a = coincide (λ r e w. w)
+
+pub from-whole : (κs : Lfts 0) (a : _) → Coincide (of-from-whole.Learnt κs a) answer
+from-whole κs a = coincide (λ r e w. w)
 
 pub from-bits : (κs : Lfts 0) (a : _) → Coincide (of-from-bits.Learnt κs a) answer
 from-bits κs a = coincide (λ r e w. w)

@@ -1,11 +1,6 @@
 -- `gradient`: every call on a ramp of any kind or on GIMP segments, and building sharp ramps.
 use contract.Lifetimes.{Lfts}
 use denote.Ref.{now}
-use mathlib.Core.Path.{_≡_, _∙_, ap}
-use mathlib.Core.List.{List}
-use lib.Ieee.{Float}
-use Rattle.gradient.specs.Sharp.{after}
-use Rattle.gradient.specs.declared.sharp.Built.{Built}
 use Rattle.promises.specs.Law.{Coincide, coincide, answer, _with_, both}
 use Rattle.gradient.proofs.is_gimp.Reads as of-is-gimp
 use Rattle.gradient.proofs.check.Reads as of-check
@@ -23,15 +18,11 @@ use Rattle.gradient.proofs.gimp.check.Reads as of-check-segments
 use Rattle.gradient.proofs.gimp.colour_at.Reads as of-colour-at-segments
 use Rattle.gradient.proofs.sharp.build.Reads as of-build
 
--- what a building leaves in an output is told by its answer
-written : {r d : Built} (ws old : List Float) {out : List Float} → r ≡ d → out ≡ after r ws old → out ≡ after d ws old
-written ws old p q = q ∙ ap (λ (x : Built). after x ws old) p
-
 pub is-gimp : (κs : Lfts 0) (a : _) → Coincide (of-is-gimp.Learnt κs a) answer
 is-gimp κs a = coincide (λ r e w. w)
 
 pub check : (κs : Lfts 3) (a : _) → Coincide (of-check.Learnt κs a) answer
-check κs a = coincide (λ r e w. w)
+check κs a = coincide (λ r e w. w .answer)
 
 pub min-of : (κs : Lfts 1) (a : _) → Coincide (of-min-of.Learnt κs a) answer
 min-of κs a = coincide (λ r e w. w)
@@ -49,7 +40,7 @@ pub is-carried : (κs : Lfts 0) (a : _) → Coincide (of-is-carried.Learnt κs a
 is-carried κs a = coincide (λ r e w. w)
 
 pub check-segments : (κs : Lfts 3) (a : _) → Coincide (of-check-segments.Learnt κs a) answer
-check-segments κs a = coincide (λ r e w. w)
+check-segments κs a = coincide (λ r e w. w .answer)
 
 pub find-segment : (κs : Lfts 1) (a : _) → Coincide (of-find-segment.Learnt κs a) answer
 find-segment κs a = coincide (λ r e w. w)
@@ -71,4 +62,4 @@ colour-at-segments κs a = coincide (λ r e w. w)
 
 -- with both lent outputs
 pub build : (κs : Lfts 3) (a : _) → Coincide (of-build.Learnt κs a) (λ r e. r with now (e .1 .1 .1 .1 .0) with now (e .1 .1 .1 .1 .1 .0))
-build κs a = coincide (λ r e w. both (w .0) (both (written _ _ (w .0) (w .1 .0)) (written _ _ (w .0) (w .1 .1))))
+build κs a = coincide (λ r e w. both (w .answer) (both (w .positions) (w .channels)))

@@ -33,7 +33,7 @@ flatten κs a = coincide (λ r e w. both (w .told .answer) (both (w .written) (b
 -- ---- what serves a refresh, which is a crate of its own
 
 pub check-thin : (κs : Lfts 5) (a : _) → Coincide (of-check-thin.Learnt κs a) answer
-check-thin κs a = coincide (λ r e w. w)
+check-thin κs a = coincide (λ r e w. w .answer)
 
 pub edge : (κs : Lfts 0) (a : _) → Coincide (of-edge.Learnt κs a) answer
 edge κs a = coincide (λ r e w. w)

@@ -35,7 +35,7 @@ pub is-finite-colour : (κs : Lfts 0) (a : _) → Coincide (of-is-finite-colour.
 is-finite-colour κs a = coincide (λ r e w. w)
 
 pub check : (κs : Lfts 3) (a : _) → Coincide (of-check.Learnt κs a) answer
-check κs a = coincide (λ r e w. w)
+check κs a = coincide (λ r e w. w .answer)
 
 pub below : (κs : Lfts 0) (a : _) → Coincide (of-below.Learnt κs a) answer
 below κs a = coincide (λ r e w. w .0)

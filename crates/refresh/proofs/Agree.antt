@@ -66,19 +66,19 @@ unfolding joined
 joined-same f k zero h = refl
 joined-same f k (suc n) h = rw (joined-same f k n (λ i l. h i (omega arith)), h n (omega arith))
 
-joined-cell : {A : Type 0} (f : ℕ → List A) (m n i : ℕ) → ((i : ℕ) → length (f i) ≡ m) → i < n → take m (drop (i * m) (joined f n)) ≡ f i
+pub joined-cell : {A : Type 0} (f : ℕ → List A) (m n i : ℕ) → ((j : ℕ) → j < n → length (f j) ≡ m) → i < n → take m (drop (i * m) (joined f n)) ≡ f i
 unfolding joined
 joined-cell f m zero i h l = absurd (omega arith)
-joined-cell f m (suc n) i h l = go (decLe n i) (joined-cell f m n i h)
+joined-cell f m (suc n) i h l = go (decLe n i) (joined-cell f m n i (λ j l. h j (omega arith)))
   where
     last : i ≡ n → take m (drop (i * m) (joined f n ++ f n)) ≡ f i
     last e =
         rw e
-        (ap (take m) (drop-at (joined f n) (f n) (n * m) (length-joined f m n (λ j l. h j) n (omega arith))) ∙ take-all m (f n) (le-of-eq (h n)))
+        (ap (take m) (drop-at (joined f n) (f n) (n * m) (length-joined f m n (λ j l. h j (omega arith)) n (omega arith))) ∙ take-all m (f n) (le-of-eq (h n (omega arith))))
 
     earlier : (i < n → take m (drop (i * m) (joined f n)) ≡ f i) → i < n → take m (drop (i * m) (joined f n ++ f n)) ≡ f i
     earlier before l =
-        let j = length-joined f m n (λ j l. h j) n (omega arith) in
+        let j = length-joined f m n (λ j l. h j (omega arith)) n (omega arith) in
         let a : suc i * m ≤ n * m = mul-le-mul-right m l in
         let b : i * m ≤ length (joined f n) = omega (arith, suc-mul i m) in
         let c : m ≤ length (drop (i * m) (joined f n)) = omega (arith, suc-mul i m, length-drop (i * m) (joined f n)) in
@@ -90,22 +90,32 @@ joined-cell f m (suc n) i h l = go (decLe n i) (joined-cell f m n i h)
     go (yes p) before = last (omega arith)
     go (no p) before = earlier before (lt-of-not-le p)
 
+-- cell i of a gradient's record
+module _ (g : Gradient) (far : Far) (lo hi : Float) (i : ℕ) (l : i < cells) where
+  pub row-at : take rowLength (drop (i * rowLength) (rowsOf g far lo hi)) ≡ cellRow g far lo hi i
+  unfolding rowsOf
+  row-at = joined-cell (cellRow g far lo hi) rowLength cells i (λ j m. cell-length g far lo hi j) l
+
+  pub count-at : getD (countsOf g far lo hi) i 0 ≡ cellCount g far lo hi i
+  unfolding countsOf
+  count-at = single (cellCount g far lo hi) cells i l
+
 -- ---- the theorem: refreshed is fresh
 module _ (g h : Gradient) (far : Far) (out : Float → Bool) (agree : (t : Float) → out t ≡ true → g t ≡ h t) (lo hi : Float) where
   row-anew : (i : ℕ) → i < cells → anewRow h far out lo hi (rowsOf g far lo hi) i ≡ cellRow h far lo hi i
-  unfolding anewRow rowsOf
+  unfolding anewRow
   row-anew i l = go (cellClear out lo hi i) refl
     where
-      go : (b : Bool) → cellClear out lo hi i ≡ b → cond b (take rowLength (drop (i * rowLength) (joined (cellRow g far lo hi) cells))) (cellRow h far lo hi i) ≡ cellRow h far lo hi i
-      go true e = joined-cell (cellRow g far lo hi) rowLength cells i (cell-length g far lo hi) l ∙ same-row g h far out agree lo hi i e
+      go : (b : Bool) → cellClear out lo hi i ≡ b → cond b (take rowLength (drop (i * rowLength) (rowsOf g far lo hi))) (cellRow h far lo hi i) ≡ cellRow h far lo hi i
+      go true e = row-at g far lo hi i l ∙ same-row g h far out agree lo hi i e
       go false e = refl
 
   count-anew : (i : ℕ) → i < cells → anewCount h far out lo hi (countsOf g far lo hi) i ≡ cellCount h far lo hi i
-  unfolding anewCount countsOf
+  unfolding anewCount
   count-anew i l = go (cellClear out lo hi i) refl
     where
-      go : (b : Bool) → cellClear out lo hi i ≡ b → cond b (getD (joined (λ j. cellCount g far lo hi j ∷ []) cells) i 0) (cellCount h far lo hi i) ≡ cellCount h far lo hi i
-      go true e = single (cellCount g far lo hi) cells i l ∙ same-count g h far out agree lo hi i e
+      go : (b : Bool) → cellClear out lo hi i ≡ b → cond b (getD (countsOf g far lo hi) i 0) (cellCount h far lo hi i) ≡ cellCount h far lo hi i
+      go true e = count-at g far lo hi i l ∙ same-count g h far out agree lo hi i e
       go false e = refl
 
   pub refreshed-rows : anewRows h far out lo hi (rowsOf g far lo hi) ≡ rowsOf h far lo hi

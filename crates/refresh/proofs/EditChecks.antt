@@ -115,6 +115,19 @@ module _ (kind : Kind) (ps cs : List Float) (ks : List ℕ) (k : ℕ) (colour : 
   unfolding sampleCheck
   changed-sampling n m h = rw changed-ramp (rw (e .ramp) at h)
 
+-- a ramp that passes its check, and an edit that passes 6
+pub edit-allowed : (kind : Kind) (ps cs : List Float) (ks : List ℕ) (k : ℕ) (colour : Rgba) → checkOf kind ps cs ks ≡ checked.Fine → editCheck kind (length ps) k colour ≡ checked.Fine → Edited kind ps cs ks k colour
+unfolding editCheck
+edit-allowed kind ps cs ks k colour ramp edit =
+    let t = sixth-true (refreshable kind && (ltb k (length ps) && finiteRgba colour)) edit in
+    let u = both-r (refreshable kind) (ltb k (length ps) && finiteRgba colour) t in
+    record {
+      ramp = ramp;
+      stops = no-gimp kind (both-l (refreshable kind) (ltb k (length ps) && finiteRgba colour) t);
+      stop = ltb-true k (length ps) (both-l (ltb k (length ps)) (finiteRgba colour) u);
+      colour-fine = both-r (ltb k (length ps)) (finiteRgba colour) u;
+    }
+
 module _ (kind : Kind) (ps cs : List Float) (ks : List ℕ) (k : ℕ) (colour : Rgba) (rows : List Float) (counts : List ℕ) (h : refreshCheck kind ps cs ks k colour rows counts ≡ checked.Fine) where
   both : (thinCheck kind ps cs ks rows counts ≡ checked.Fine) × (editCheck kind (length ps) k colour ≡ checked.Fine)
   unfolding refreshCheck
@@ -127,16 +140,7 @@ module _ (kind : Kind) (ps cs : List Float) (ks : List ℕ) (k : ℕ) (colour : 
   sampled = sample-fine kind ps cs ks rows counts thin-fine
 
   pub edited : Edited kind ps cs ks k colour
-  unfolding editCheck
-  edited =
-      let t = sixth-true (refreshable kind && (ltb k (length ps) && finiteRgba colour)) (both .1) in
-      let u = both-r (refreshable kind) (ltb k (length ps) && finiteRgba colour) t in
-      record {
-        ramp = ramp-fine kind ps cs ks (length rows) (length counts) sampled;
-        stops = no-gimp kind (both-l (refreshable kind) (ltb k (length ps) && finiteRgba colour) t);
-        stop = ltb-true k (length ps) (both-l (ltb k (length ps)) (finiteRgba colour) u);
-        colour-fine = both-r (ltb k (length ps)) (finiteRgba colour) u;
-      }
+  edited = edit-allowed kind ps cs ks k colour (ramp-fine kind ps cs ks (length rows) (length counts) sampled) (both .1)
 
   shaped : shapeCheck (minOf kind ps) (maxOf kind ps) (length rows) (length counts) ≡ checked.Fine
   unfolding sampleCheck

@@ -8,3 +8,4 @@ pub mod EditChecks
 pub mod Theorem
 pub mod Changes
 pub mod RefreshAnswers
+pub mod Calls

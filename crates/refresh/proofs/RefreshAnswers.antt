@@ -10,7 +10,7 @@ use Rattle.blend.specs.declared.Rgba.{Rgba}
 use Rattle.stops.specs.declared.Kind.{Kind}
 use Rattle.stops.specs.declared.Checked.{Checked}
 use Rattle.stops.specs.declared.Checked.the-variants as checked
-use Rattle.gradient.specs.Answers.{numberOfChecked, onFine}
+use Rattle.stops.specs.Answers.{numberOfChecked, onFine}
 use Rattle.gradient.specs.Ramp.{minOf, maxOf, anyColour}
 use Rattle.gradient.proofs.Same.{same-function}
 use Rattle.linearize.specs.Constants.{cells}

@@ -20,6 +20,7 @@ use Rattle.linearize.specs.Desk.{beyondOf}
 use Rattle.refresh.specs.Stretch.{beforeOf, afterOf, outsideOf, clearOf, cellClear}
 use Rattle.linearize.specs.Promises.{CellAnew, Ready}
 use Rattle.refresh.specs.Anew.{Domain, anewRow, anewCount, anewTries, anewRows, anewCounts, CellRefreshed, RecordAnew}
+use Rattle.refresh.proofs.Agree.{joined-cell}
 use Rattle.refresh.proofs.Sides.{before-clear, after-clear}
 use Rattle.linearize.proofs.Edges.{edge-within}
 use Rattle.linearize.proofs.Rows.{cell-length, cell-count-some, cell-count-most, cell-tries-most}
@@ -142,6 +143,15 @@ module _ (g : Gradient) (far : Far) (out : Float → Bool) (lo hi : Float) (rows
     renewed rows counts n i s h =
         let d = done _ _ _ _ _ long many anew-length rows counts n i s h in
         record { tried = d .2; written = d .0; counted = d .1 }
+
+    -- a clear cell keeps its row and its count
+    pub kept-row : (i : ℕ) → i < 36 → cellClear out lo hi i ≡ true → take 128 (drop (i * 128) (anewRows g far out lo hi rows₀)) ≡ take 128 (drop (i * 128) rows₀)
+    unfolding anewRows
+    kept-row i h k = joined-cell (anewRow g far out lo hi rows₀) 128 36 i anew-length h ∙ row-clear i k
+
+    pub kept-count : (i : ℕ) → i < 36 → cellClear out lo hi i ≡ true → getD (anewCounts g far out lo hi counts₀) i 0 ≡ getD counts₀ i 0
+    unfolding anewCounts anewCount
+    kept-count i h k = single (anewCount g far out lo hi counts₀) 36 i h ∙ rw k
 
   -- a record that may be thinned may be thinned after the refresh
   pub renewed-ready : Ready rows₀ counts₀ → (rows : List Float) (counts : List ℕ) (n : ℕ) → RecordAnew g far out lo hi rows₀ rows counts₀ counts n → Ready rows counts

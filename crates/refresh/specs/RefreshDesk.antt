@@ -12,7 +12,7 @@ use Rattle.stops.specs.declared.Kind.{Kind}
 use Rattle.stops.specs.declared.Kind.the-variants.{Linear, Smoothstep, Sharp, Basis, CatmullRom, Gimp}
 use Rattle.stops.specs.declared.Checked.{Checked}
 use Rattle.stops.specs.declared.Checked.the-variants as checked
-use Rattle.gradient.specs.Answers.{numberOfChecked, onFine}
+use Rattle.stops.specs.Answers.{numberOfChecked, onFine}
 use Rattle.gradient.specs.Ramp.{minOf, maxOf, colourOf}
 use Rattle.linearize.specs.Midpoints.{Gradient}
 use Rattle.linearize.specs.Places.{listOf}

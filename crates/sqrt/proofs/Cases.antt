@@ -12,7 +12,7 @@ use lib.Ieee.Bits.{is-true, nanBits-is, nanBits-above}
 use lib.Ieee.Exact.{HasValue, odd-sign}
 use lib.Ieee.Fits.{down-pos}
 use Rattle.sqrt.specs.Root.{count, nearestRoot, rootOf}
-use Rattle.sqrt.proofs.Values.{ofBits-is, normal, subnormal}
+use Rattle.float.proofs.Fields.{ofBits-is, normal, subnormal}
 
 -- ---- by the value
 

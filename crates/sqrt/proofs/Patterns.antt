@@ -17,21 +17,13 @@ use Rattle.sqrt.specs.Nearest.{plain}
 use Rattle.sqrt.proofs.Nearest.{plain-of}
 use Rattle.sqrt.proofs.Order.{le→counts, count-known, plain-number}
 use Rattle.sqrt.proofs.Cases.{count-of}
-use Rattle.sqrt.proofs.Values.{ofBits-is, normal, subnormal}
+use Rattle.float.proofs.Fields.{ofBits-is, value-at, value-below}
 
 -- the f32 with the pattern b
 abbrev pub at : ℕ → Float
 at b = ofBits binary32 b
 
 -- ---- a larger pattern is a larger number
-
-value-at : (b : ℕ) → 8388608 ≤ b → b < 2139095040 → HasValue (ofBits binary32 b) false ((8388608 + b % 8388608) * 2 ^ (b / 8388608 - 1)) (2 ^ 149)
-value-at b l h =
-    subst (λ (y : Float). HasValue y false ((8388608 + b % 8388608) * 2 ^ (b / 8388608 - 1)) (2 ^ 149)) (sym (normal b (b / 8388608 - 1) (b % 8388608) (omega arith) (omega arith) (omega arith)))
-    (odd-sign 24 false (8388608 + b % 8388608) (b / 8388608 - 1) 149)
-
-value-below : (b : ℕ) → b < 8388608 → HasValue (ofBits binary32 b) false (b * 2 ^ 0) (2 ^ 149)
-value-below b h = subst (λ (y : Float). HasValue y false (b * 2 ^ 0) (2 ^ 149)) (sym (subnormal b h)) (odd-sign 24 false b 0 149)
 
 count-at : (b : ℕ) → 8388608 ≤ b → b < 2139095040 → count (ofBits binary32 b) ≡ (8388608 + b % 8388608) * 2 ^ (b / 8388608 - 1)
 count-at b l h = count-of (ofBits binary32 b) false ((8388608 + b % 8388608) * 2 ^ (b / 8388608 - 1)) (value-at b l h)

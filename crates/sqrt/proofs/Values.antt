@@ -1,55 +1,16 @@
--- The f32 patterns above zero: which number of units of 2 ^ -149 each stands for, and that q * 2 ^ k units, for a q of 24 digits, is the pattern k * 2 ^ 23 + q. Assumes nothing.
+-- q * 2 ^ k units of 2 ^ -149, for a q of 24 digits, is the f32 with the pattern k * 2 ^ 23 + q. Assumes nothing.
 use mathlib.Core.Path.{_≡_, refl, sym, ap, _∙_, subst}
 use Prim.Native.Nat.{ℕ, zero, suc, _+_, _-_, _*_, _/_, _%_, _^_, _≤_, _<_}
-use native.Mathlib.Nat.{not-le-of-lt, lt-of-lt-of-le}
+use native.Mathlib.Nat.{lt-of-lt-of-le}
 use native.Mathlib.Omega.{arith}
 use mathlib.Core.Bool.{Bool, false, not, cond}
-use lib.Dec.{T, leb, ltb, eqb, leb→le, lt→ltb, ltb→lt, eqb→eq, not-T}
+use lib.Dec.{T, ltb, lt→ltb, ltb→lt, not-T}
 use lib.Pow.{pow-mono, shl-lt}
 use lib.Count.{trailingZeros, under}
-use lib.Ieee.{Float, nan, inf, fin, binary32, odd, units, minus, ofFields, ofBits, nanBits, isNan, ne}
-use lib.Ieee.Bits.{is-true, is-false, cond-no, nanBits-above}
+use lib.Ieee.{Float, inf, fin, binary32, odd, units, minus, ofBits, nanBits, isNan, ne}
+use lib.Ieee.Bits.{is-true, nanBits-above}
 use Rattle.float.proofs.Order.{ne-self}
-
--- ---- what a pattern stands for
-
-pub ofBits-is : (b : ℕ) → ofBits binary32 b ≡ ofFields binary32 (leb 2147483648 b) (b % 2147483648 / 8388608) (b % 8388608)
-unfolding ofBits
-ofBits-is b = refl
-
-under-ones : (s : Bool) (x t : ℕ) → suc x < 255 → ofFields binary32 s (suc x) t ≡ odd 24 s (8388608 + t) x 149
-unfolding ofFields
-under-ones s x t h = cond-no (eqb (suc x) 255) (cond (eqb t 0) (inf s) nan) (odd 24 s (8388608 + t) x 149) (not-T (eqb (suc x) 255) (λ (u : T (eqb (suc x) 255)). differ (eqb→eq (suc x) 255 u)))
-  where
-    differ : suc x ≡ 255 → ⊥
-    differ e = omega arith
-
-sign-clear : (b : ℕ) → b < 2147483648 → leb 2147483648 b ≡ false
-sign-clear b h = is-false (leb 2147483648 b) (not-T (leb 2147483648 b) (λ (u : T (leb 2147483648 b)). not-le-of-lt h (leb→le 2147483648 b u)))
-
--- the exponent's field is x + 1 and the digits are t: 8388608 + t times 2 ^ x
-pub normal : (b x t : ℕ) → b ≡ suc x * 8388608 + t → t < 8388608 → suc x < 255 → ofBits binary32 b ≡ odd 24 false (8388608 + t) x 149
-normal b x t e l h =
-    let small : b < 2147483648 = omega arith in
-    let ef : b % 2147483648 / 8388608 ≡ suc x = omega arith in
-    let et : b % 8388608 ≡ t = omega arith in
-    ofBits-is b
-    ∙ ap (λ (s : Bool). ofFields binary32 s (b % 2147483648 / 8388608) (b % 8388608)) (sign-clear b small)
-    ∙ ap (λ (f : ℕ). ofFields binary32 false f (b % 8388608)) ef
-    ∙ ap (λ (d : ℕ). ofFields binary32 false (suc x) d) et
-    ∙ under-ones false x t h
-
--- the exponent's field is 0: as many units
-pub subnormal : (b : ℕ) → b < 8388608 → ofBits binary32 b ≡ odd 24 false b 0 149
-unfolding ofFields
-subnormal b h =
-    let small : b < 2147483648 = omega arith in
-    let ef : b % 2147483648 / 8388608 ≡ 0 = omega arith in
-    let et : b % 8388608 ≡ b = omega arith in
-    ofBits-is b
-    ∙ ap (λ (s : Bool). ofFields binary32 s (b % 2147483648 / 8388608) (b % 8388608)) (sign-clear b small)
-    ∙ ap (λ (f : ℕ). ofFields binary32 false f (b % 8388608)) ef
-    ∙ ap (λ (d : ℕ). ofFields binary32 false 0 d) et
+use Rattle.float.proofs.Fields.{normal}
 
 -- ---- q * 2 ^ k units as a pattern
 

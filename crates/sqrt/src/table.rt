@@ -1,7 +1,7 @@
 // What `guess` reads of each piece: the root at its start and a half, the slope at its end, and how the slope falls. The
 // first half is for an even exponent's field, where one place more is taken. Nothing is trusted about these numbers.
 // From a `match` the compiler makes tables, where it would copy an array at each call.
-pub fn piece(at: u32) -> [u32; 3] {
+pub(crate) fn piece(at: u32) -> [u32; 3] {
     match at {
         0 => [3_037_000_650, 3_025_223_412, 5_862_885],
         1 => [3_060_635_251, 3_002_040_767, 5_729_132],

@@ -12,8 +12,13 @@ use lib.Ieee.Scale.{finite}
 use borrow.Author.Tests.{leb-true, eqb-true, lt-leb, le-leb, eq-eqb, ne-eqb}
 use Rattle.float.proofs.Flags.{both-l, both-r, parts4}
 use Rattle.stops.specs.Stops.{posAt, colourAt, finiteRgba, isSharp, mostStops, shaped, eachStop, stopsCheck}
+use Rattle.stops.specs.Answers.{numberOfChecked, Checks}
 use Rattle.stops.specs.declared.Kind.{Kind}
+use Rattle.stops.specs.declared.Checked.{Checked}
 use Rattle.stops.specs.declared.Checked.the-variants.{Fine, Refused}
+
+pub checks : {c r : Checked} → r ≡ c → Checks c r
+checks e = record { answer = e; number = ap numberOfChecked e }
 
 -- what the lengths of a ramp of stops are
 pub record Shape (kind : Kind) (n m c : ℕ) : Type 0 where

@@ -1,4 +1,5 @@
 pub mod Stops
+pub mod Answers
 pub mod Place
 pub mod Pair
 pub mod Near

@@ -19,10 +19,10 @@ enum-known-n : tie.Need-enum-known-n
 enum-known-n c = search needs
 
 returns : tie.Need-returns
-returns c = let s = c .before .before .before .before .before .before .before in at-coloured (s .args .kind) (now (s .args .positions)) (now (s .args .channels)) (now (s .args .codes)) (sym (c .before .before .before .check .ensures) ∙ c .before .enum-told .given .1) (s .args .t) (c .colour-at .ensures)
+returns c = let s = c .before .before .before .before .before .before .before in at-coloured (s .args .kind) (now (s .args .positions)) (now (s .args .channels)) (now (s .args .codes)) (sym (c .before .before .before .check .ensures .answer) ∙ c .before .enum-told .given .1) (s .args .t) (c .colour-at .ensures)
 
 returns-2 : tie.Need-returns-2
-returns-2 c = let s = c .before .before .before .before .before .before .before in at-refused (s .args .kind) (now (s .args .positions)) (now (s .args .channels)) (now (s .args .codes)) (sym (c .before .before .before .check .ensures) ∙ c .before .n .given .1) (s .args .t)
+returns-2 c = let s = c .before .before .before .before .before .before .before in at-refused (s .args .kind) (now (s .args .positions)) (now (s .args .channels)) (now (s .args .codes)) (sym (c .before .before .before .check .ensures .answer) ∙ c .before .n .given .1) (s .args .t)
 
 pub at-spec : {M : Type 1} → statement M
 at-spec =

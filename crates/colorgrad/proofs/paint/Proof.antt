@@ -24,15 +24,15 @@ same-length c = search needs
 returns : tie.Need-returns
 returns c =
     let s = c .before .before .before .before .before .before .before .before .before .before .before .before .before in
-    no-room (s .args .kind) (now (s .args .positions)) (now (s .args .channels)) (now (s .args .codes)) (sym (c .before .before .before .before .before .before .before .check .ensures) ∙ c .before .before .before .before .before .enum-told .given .1) (now (s .args .ts)) (now (s .args .out)) (c .before .before .before .before .if1 .taken) (c .before .before .clear .ensures)
+    no-room (s .args .kind) (now (s .args .positions)) (now (s .args .channels)) (now (s .args .codes)) (sym (c .before .before .before .before .before .before .before .check .ensures .answer) ∙ c .before .before .before .before .before .enum-told .given .1) (now (s .args .ts)) (now (s .args .out)) (c .before .before .before .before .if1 .taken) (c .before .before .clear .ensures)
 
 paint-all-requires : tie.Need-paint-all-requires
-paint-all-requires c κs = (sym (c .before .before .before .before .check .ensures) ∙ c .before .before .enum-told .given .1, search needs)
+paint-all-requires c κs = (sym (c .before .before .before .before .check .ensures .answer) ∙ c .before .before .enum-told .given .1, search needs)
 
 returns-2 : tie.Need-returns-2
 returns-2 c =
     let s = c .before .before .before .before .before .before .before .before .before in
-    paint-refused (s .args .kind) (now (s .args .positions)) (now (s .args .channels)) (now (s .args .codes)) (sym (c .before .before .before .check .ensures) ∙ c .before .n .given .1) (now (s .args .ts)) (now (s .args .out))
+    paint-refused (s .args .kind) (now (s .args .positions)) (now (s .args .channels)) (now (s .args .codes)) (sym (c .before .before .before .check .ensures .answer) ∙ c .before .n .given .1) (now (s .args .ts)) (now (s .args .out))
 
 same-length-2 : tie.Need-same-length-2
 same-length-2 c = search needs
@@ -40,7 +40,7 @@ same-length-2 c = search needs
 returns-3 : tie.Need-returns-3
 returns-3 c =
     let s = c .before .before .before .before .before .before .before .before .before .before .before .before .before in
-    done (s .args .kind) (now (s .args .positions)) (now (s .args .channels)) (now (s .args .codes)) (sym (c .before .before .before .before .before .before .before .check .ensures) ∙ c .before .before .before .before .before .enum-told .given .1) (now (s .args .ts)) (now (s .args .out)) (c .before .before .before .before .if1 .left) (c .before .before .paint-all .ensures)
+    done (s .args .kind) (now (s .args .positions)) (now (s .args .channels)) (now (s .args .codes)) (sym (c .before .before .before .before .before .before .before .check .ensures .answer) ∙ c .before .before .before .before .before .enum-told .given .1) (now (s .args .ts)) (now (s .args .out)) (c .before .before .before .before .if1 .left) (c .before .before .paint-all .ensures)
 
 pub paint-spec : {M : Type 1} → statement M
 paint-spec =

@@ -8,8 +8,9 @@ use lib.Ieee.{binary32, round, toBits}
 use lib.Ieee.Fits.{nearest-le}
 use lib.Count.{leadingZeros}
 use Rattle.decimal.specs.Decimal.{mostDigits}
-use Rattle.decimal.proofs.Division.{Shifted, shifted, moved-long}
-use Rattle.decimal.proofs.Rounding.{bits-are, bits-zero}
+use Rattle.decimal.proofs.Division.{moved-long}
+use Rattle.float.proofs.Fraction.{bits-are, bits-zero}
+use Rattle.float.proofs.Counted.{Shifted, shifted}
 use Rattle.decimal.proofs.Scale.{five-le, ten-le, unit-is}
 use borrow.Author.Needs.{needs}
 use Rattle.decimal.proofs.magnitude.Statement.{statement}

@@ -6,7 +6,7 @@ use native.Mathlib.Omega.{arith}
 use native.Mathlib.Nat.{zero-add}
 use lib.Ieee.{ofBits, toBits, round, binary32}
 use Rattle.decimal.proofs.Scale.{ten-le, ten-shifted}
-use Rattle.decimal.proofs.Rounding.{no-nan, bits-back}
+use Rattle.float.proofs.Fraction.{no-nan, bits-back}
 use borrow.Author.Needs.{needs}
 use Rattle.decimal.proofs.nearest.Statement.{statement}
 use Rattle.decimal.proofs.nearest.Tie as tie

@@ -1,5 +1,5 @@
 -- `decimal::rounded` meets its contract: the test says which of m and m + 1 is the nearest. Assumes nothing.
-use Rattle.decimal.proofs.Compare.{stays, moves}
+use Rattle.float.proofs.Nearest.{stays, moves}
 use borrow.Author.Needs.{needs}
 use Rattle.decimal.proofs.rounded.Statement.{statement}
 use Rattle.decimal.proofs.rounded.Tie as tie

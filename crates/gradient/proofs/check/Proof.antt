@@ -1,5 +1,6 @@
 -- `check` meets its contract: by the kind. Assumes nothing.
 use mathlib.Core.Path.{sym, _∙_}
+use Rattle.stops.proofs.Checking.{checks}
 use Rattle.gradient.specs.Ramp.{checkOf}
 use borrow.Author.Needs.{needs}
 use Rattle.gradient.proofs.check.Statement.{statement}
@@ -13,14 +14,14 @@ check-requires c κs = search needs
 
 returns : tie.Need-returns
 unfolding checkOf
-returns c = c .check .ensures ∙ simp (sym (c .before .before .is-gimp .ensures) ∙ c .before .if1 .taken)
+returns c = checks (c .check .ensures .answer ∙ simp (sym (c .before .before .is-gimp .ensures) ∙ c .before .if1 .taken))
 
 check-requires-2 : tie.Need-check-requires-2
 check-requires-2 c κs = search needs
 
 returns-2 : tie.Need-returns-2
 unfolding checkOf
-returns-2 c = c .check2 .ensures ∙ simp (sym (c .before .before .is-gimp .ensures) ∙ c .before .if1 .left)
+returns-2 c = checks (c .check2 .ensures .answer ∙ simp (sym (c .before .before .is-gimp .ensures) ∙ c .before .if1 .left))
 
 pub check-spec : {M : Type 1} → statement M
 check-spec =

@@ -1,5 +1,6 @@
 -- `check_thin` meets its contract: the refusals of a sampling first. Assumes nothing.
 use mathlib.Core.Path.{sym, _∙_}
+use Rattle.stops.proofs.Checking.{checks}
 use Rattle.linearize.proofs.Checks.{sample-refuses, sample-passes}
 use borrow.Author.Needs.{needs}
 use Rattle.linearize.proofs.check_thin.Statement.{statement}
@@ -18,10 +19,10 @@ check-counts-requires : tie.Need-check-counts-requires
 check-counts-requires c κs = search needs
 
 returns : tie.Need-returns
-returns c = sample-refuses _ _ _ _ _ _ _ (sym (c .before .before .before .check-sample .ensures) ∙ c .before .n .given .1)
+returns c = checks (sample-refuses _ _ _ _ _ _ _ (sym (c .before .before .before .check-sample .ensures) ∙ c .before .n .given .1))
 
 returns-2 : tie.Need-returns-2
-returns-2 c = sample-passes _ _ _ _ _ _ _ (sym (c .before .before .before .check-sample .ensures) ∙ c .before .enum-told .given .1) (c .check-counts .ensures)
+returns-2 c = checks (sample-passes _ _ _ _ _ _ _ (sym (c .before .before .before .check-sample .ensures) ∙ c .before .enum-told .given .1) (c .check-counts .ensures))
 
 pub check-thin-spec : {M : Type 1} → statement M
 check-thin-spec =

@@ -24,10 +24,10 @@ max-of-requires : tie.Need-max-of-requires
 max-of-requires c κs = search needs
 
 thin-record-requires : tie.Need-thin-record-requires
-thin-record-requires c κs = ready _ _ _ _ _ _ (sym (c .before .before .before .before .before .before .check-thin .ensures) ∙ c .before .before .before .before .enum-told .given .1)
+thin-record-requires c κs = ready _ _ _ _ _ _ (sym (c .before .before .before .before .before .before .check-thin .ensures .answer) ∙ c .before .before .before .before .enum-told .given .1)
 
 returns : tie.Need-returns
-returns c = thin-refused _ _ _ _ _ _ _ _ _ _ (sym (c .before .before .before .check-thin .ensures) ∙ c .before .n .given .1)
+returns c = thin-refused _ _ _ _ _ _ _ _ _ _ (sym (c .before .before .before .check-thin .ensures .answer) ∙ c .before .n .given .1)
 
 same-length : tie.Need-same-length
 same-length c = search needs
@@ -40,7 +40,7 @@ returns-2 c =
     let a = c .before .before .before .before .before .before .before .before .before .before .before .before .before .before .before .before .before .before .before .args in
     let h = (c .before .before .before .before .thin-record) in
     thin-done (a .kind) (a .positions .now) (a .channels .now) (a .codes .now) (a .threshold) (a .rows .now) (a .counts .now) (a .out-positions .now) (a .out-channels .now) (exceeds (c .before .before .before .before .before .before .before .before .cutoff-of .result)) (c .before .before .before .before .before .before .before .max-of .result)
-    (h .last .1 .1 .1 .1 .1 .1 .1 .1 .0) (h .last .1 .1 .1 .1 .1 .1 .1 .1 .1 .0) (h .result) (sym (c .before .before .before .before .before .before .before .before .before .before .before .check-thin .ensures) ∙ c .before .before .before .before .before .before .before .before .before .enum-told .given .1) (far-by-cutoff _ _ (c .before .before .before .before .before .before .before .before .cutoff-of .ensures)) (c .before .before .before .before .before .before .before .max-of .ensures) (h .ensures)
+    (h .last .1 .1 .1 .1 .1 .1 .1 .1 .0) (h .last .1 .1 .1 .1 .1 .1 .1 .1 .1 .0) (h .result) (sym (c .before .before .before .before .before .before .before .before .before .before .before .check-thin .ensures .answer) ∙ c .before .before .before .before .before .before .before .before .before .enum-told .given .1) (far-by-cutoff _ _ (c .before .before .before .before .before .before .before .before .cutoff-of .ensures)) (c .before .before .before .before .before .before .before .max-of .ensures) (h .ensures)
 
 pub thin-spec : {M : Type 1} → statement M
 thin-spec =

@@ -11,7 +11,7 @@ use denote.Ref.{now}
 use Rattle.float.proofs.Flags.{failed, passed}
 use Rattle.stops.specs.Stops.{posAt, colourAt, finiteRgba, eachStop, stopsCheck}
 use Rattle.stops.specs.declared.Kind.{Kind}
-use Rattle.stops.proofs.Checking.{not-shaped, if-shaped, bad-position, bad-colour, falling, next, done, from-start}
+use Rattle.stops.proofs.Checking.{checks, not-shaped, if-shaped, bad-position, bad-colour, falling, next, done, from-start}
 use Rattle.stops.proofs.check.Statement.{statement}
 use Rattle.stops.proofs.check.Tie as tie
 
@@ -50,8 +50,9 @@ is-shaped-requires c κs = search needs
 
 returns : tie.Need-returns Inv-loop μ-loop
 returns c =
-    let s = c .before .before .before .before .before in
-    not-shaped (s .args .kind) (now (s .args .positions)) (now (s .args .channels)) (now (s .args .codes)) (failed (c .if1 .taken) (c .before .is-shaped .ensures))
+    checks
+    (let s = c .before .before .before .before .before in
+    not-shaped (s .args .kind) (now (s .args .positions)) (now (s .args .channels)) (now (s .args .codes)) (failed (c .if1 .taken) (c .before .is-shaped .ensures)))
 
 loop-holds : tie.Need-loop-holds Inv-loop μ-loop
 unfolding div neg ofBits
@@ -70,8 +71,9 @@ is-finite-requires c κs = search needs
 
 returns-2 : tie.Need-returns-2 Inv-loop μ-loop
 returns-2 c =
-    let l = c .before .before .before .before in
-    sym (bad-position _ (l .loop .i) (l .loop .prev) (ps l) (cs l) (c .before .before .before .loop-test .taken) (failed (c .if2 .taken) (c .before .is-finite .ensures))) ∙ answer l
+    checks
+    (let l = c .before .before .before .before in
+    sym (bad-position _ (l .loop .i) (l .loop .prev) (ps l) (cs l) (c .before .before .before .loop-test .taken) (failed (c .if2 .taken) (c .before .is-finite .ensures))) ∙ answer l)
 
 colour-requires : tie.Need-colour-requires Inv-loop μ-loop
 colour-requires c κs = search needs
@@ -81,17 +83,19 @@ is-finite-colour-requires c κs = search needs
 
 returns-3 : tie.Need-returns-3 Inv-loop μ-loop
 returns-3 c =
-    let l = c .before .before .before .before .before .before .before in
+    checks
+    (let l = c .before .before .before .before .before .before .before in
     sym (bad-colour _ (l .loop .i) (l .loop .prev) (ps l) (cs l) (c .before .before .before .before .before .before .loop-test .taken)
     (passed (c .before .before .before .if2 .left) (c .before .before .before .before .is-finite .ensures))
     (failed (c .if3 .taken) (c .before .is-finite-colour .ensures ∙ ap finiteRgba (c .before .before .colour .ensures))))
-    ∙ answer l
+    ∙ answer l)
 
 returns-4 : tie.Need-returns-4 Inv-loop μ-loop
 returns-4 c =
-    let l = c .before .before .before .before .before .before .before .before in
+    checks
+    (let l = c .before .before .before .before .before .before .before .before in
     sym (falling _ (l .loop .i) (l .loop .prev) (ps l) (cs l) (c .before .before .before .before .before .before .before .loop-test .taken) (position-fine (c .before)) (colour-fine (c .before)) (c .if4 .taken))
-    ∙ answer l
+    ∙ answer l)
 
 add-i : tie.Need-add-i Inv-loop μ-loop
 add-i c = search needs
@@ -106,7 +110,7 @@ loop-again c =
     (search needs, sym (next _ (l .loop .i) (l .loop .prev) (ps l) (cs l) t (position-fine (c .before)) (colour-fine (c .before)) (c .if4 .left)) ∙ l .loop .inv .1)
 
 returns-5 : tie.Need-returns-5 Inv-loop μ-loop
-returns-5 c = sym (done _ (c .before .loop .i) (c .before .loop .prev) (ps (c .before)) (cs (c .before)) (c .loop-test .left)) ∙ answer (c .before)
+returns-5 c = checks (sym (done _ (c .before .loop .i) (c .before .loop .prev) (ps (c .before)) (cs (c .before)) (c .loop-test .left)) ∙ answer (c .before))
 
 pub check-spec : {M : Type 1} → statement M
 check-spec =

@@ -15,7 +15,7 @@ enum-told : tie.Need-enum-told
 enum-told c = search needs
 
 returns : tie.Need-returns
-returns c = let s = c .before .before .before .before .before .before .before in check-of (now (s .args .positions)) (now (s .args .channels)) (now (s .args .codes)) (c .before .before .coded .given .1) (c .check .ensures)
+returns c = let s = c .before .before .before .before .before .before .before in check-of (now (s .args .positions)) (now (s .args .channels)) (now (s .args .codes)) (c .before .before .coded .given .1) (c .check .ensures .answer)
 
 returns-2 : tie.Need-returns-2
 returns-2 c = let s = c .before .before .before .before .before in check-none (now (s .args .positions)) (now (s .args .channels)) (now (s .args .codes)) (c .enum-told .given .1)

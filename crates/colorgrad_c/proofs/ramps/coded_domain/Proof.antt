@@ -27,7 +27,7 @@ domain-by-requires-2 : tie.Need-domain-by-requires-2
 domain-by-requires-2 c κs = search needs
 
 returns : tie.Need-returns
-returns c = let s = c .before .before .before .before .before .before .before .before .before .before in domain-of (now (s .args .positions)) (now (s .args .channels)) (now (s .args .codes)) (c .before .before .before .before .before .coded .given .1) (c .domain-by .ensures) (c .before .before .before .check .ensures) (c .before .before .min-of .ensures) (c .before .max-of .ensures)
+returns c = let s = c .before .before .before .before .before .before .before .before .before .before in domain-of (now (s .args .positions)) (now (s .args .channels)) (now (s .args .codes)) (c .before .before .before .before .before .coded .given .1) (c .domain-by .ensures) (c .before .before .before .check .ensures .answer) (c .before .before .min-of .ensures) (c .before .max-of .ensures)
 
 returns-2 : tie.Need-returns-2
 returns-2 c = let s = c .before .before .before .before .before .before in domain-none (now (s .args .positions)) (now (s .args .channels)) (now (s .args .codes)) (c .before .enum-told .given .1) (c .domain-by2 .ensures)

@@ -1,7 +1,6 @@
 -- `colorgrad_sharp` meets its contract: the answer of `build`, shown, and what that answer leaves. Assumes nothing.
 use mathlib.Core.Path.{ap, _∙_}
 use Rattle.colorgrad_c.specs.Ramps.{builtShown}
-use Rattle.colorgrad_c.proofs.Coding.{after-is}
 use borrow.Author.Needs.{needs}
 use Rattle.colorgrad_c.proofs.ramps.colorgrad_sharp.Statement.{statement}
 use Rattle.colorgrad_c.proofs.ramps.colorgrad_sharp.Tie as tie
@@ -19,7 +18,7 @@ same-length-2 : tie.Need-same-length-2
 same-length-2 c = search needs
 
 returns : tie.Need-returns
-returns c = let e = c .before .before .before .before .before .build .ensures in (c .built-shown .ensures ∙ ap builtShown (e .0), (after-is _ _ (e .0) (e .1 .0), after-is _ _ (e .0) (e .1 .1)))
+returns c = let e = c .before .before .before .before .before .build .ensures in (c .built-shown .ensures ∙ ap builtShown (e .answer), (e .positions, e .channels))
 
 pub colorgrad-sharp-spec : {M : Type 1} → statement M
 colorgrad-sharp-spec =

@@ -3,6 +3,7 @@ use denote.Ref.{now}
 use lib.ListN.{length}
 use Prim.Native.Nat.{_/_}
 use Rattle.float.proofs.Flags.{failed, passed}
+use Rattle.stops.proofs.Checking.{checks}
 use Rattle.gradient.proofs.GimpLaws.{shape, check-shape, check-kinds, check-positions, check-channels, check-fine}
 use borrow.Author.Needs.{needs}
 use Rattle.gradient.proofs.gimp.check.Statement.{statement}
@@ -13,8 +14,9 @@ is-shaped-requires c κs = search needs
 
 returns : tie.Need-returns
 returns c =
-    let a = c .before .before .before .before .before .args in
-    check-shape (now (a .positions)) (now (a .channels)) (now (a .codes)) (failed (c .if1 .taken) (c .before .is-shaped .ensures))
+    checks
+    (let a = c .before .before .before .before .before .args in
+    check-shape (now (a .positions)) (now (a .channels)) (now (a .codes)) (failed (c .if1 .taken) (c .before .is-shaped .ensures)))
 
 are-carried-requires : tie.Need-are-carried-requires
 are-carried-requires c κs =
@@ -24,31 +26,34 @@ are-carried-requires c κs =
 
 returns-2 : tie.Need-returns-2
 returns-2 c =
-    let s = c .before .before in
+    checks
+    (let s = c .before .before in
     let a = s .before .before .before .before .before .args in
     check-kinds (now (a .positions)) (now (a .channels)) (now (a .codes))
     (failed (c .if2 .taken) (c .before .are-carried .ensures))
-    (passed (s .if1 .left) (s .before .is-shaped .ensures))
+    (passed (s .if1 .left) (s .before .is-shaped .ensures)))
 
 all-finite-requires : tie.Need-all-finite-requires
 all-finite-requires c κs = search needs
 
 returns-3 : tie.Need-returns-3
 returns-3 c =
-    let k = c .before .before in
+    checks
+    (let k = c .before .before in
     let s = k .before .before in
     let a = s .before .before .before .before .before .args in
     check-positions (now (a .positions)) (now (a .channels)) (now (a .codes))
     (failed (c .if3 .taken) (c .before .all-finite .ensures))
     (passed (k .if2 .left) (k .before .are-carried .ensures))
-    (passed (s .if1 .left) (s .before .is-shaped .ensures))
+    (passed (s .if1 .left) (s .before .is-shaped .ensures)))
 
 all-finite-requires-2 : tie.Need-all-finite-requires-2
 all-finite-requires-2 c κs = search needs
 
 returns-4 : tie.Need-returns-4
 returns-4 c =
-    let f = c .before .before in
+    checks
+    (let f = c .before .before in
     let k = f .before .before in
     let s = k .before .before in
     let a = s .before .before .before .before .before .args in
@@ -56,11 +61,12 @@ returns-4 c =
     (failed (c .if4 .taken) (c .before .all-finite2 .ensures))
     (passed (f .if3 .left) (f .before .all-finite .ensures))
     (passed (k .if2 .left) (k .before .are-carried .ensures))
-    (passed (s .if1 .left) (s .before .is-shaped .ensures))
+    (passed (s .if1 .left) (s .before .is-shaped .ensures)))
 
 returns-5 : tie.Need-returns-5
 returns-5 c =
-    let f = c .before .before in
+    checks
+    (let f = c .before .before in
     let k = f .before .before in
     let s = k .before .before in
     let a = s .before .before .before .before .before .args in
@@ -68,7 +74,7 @@ returns-5 c =
     (passed (c .if4 .left) (c .before .all-finite2 .ensures))
     (passed (f .if3 .left) (f .before .all-finite .ensures))
     (passed (k .if2 .left) (k .before .are-carried .ensures))
-    (passed (s .if1 .left) (s .before .is-shaped .ensures))
+    (passed (s .if1 .left) (s .before .is-shaped .ensures)))
 
 pub check-spec : {M : Type 1} → statement M
 check-spec =

@@ -9,7 +9,7 @@ use lib.Ieee.{Float, inf}
 use denote.Ref.{now}
 use Rattle.float.proofs.Flags.{failed, passed}
 use Rattle.gradient.specs.Sharp.{mostBands, sharpPositions, sharpChannels, domainFits, steady, bands}
-use Rattle.gradient.proofs.SharpLaws.{few, Room, room, build-domain, build-fit, build-room, build-finite, build-stops, length-positions, length-channels, longer, after-refused, after-stops, after-copy}
+use Rattle.gradient.proofs.SharpLaws.{builds, few, Room, room, build-domain, build-fit, build-room, build-finite, build-stops, length-positions, length-channels, longer, after-refused, after-stops, after-copy}
 use borrow.Author.Needs.{needs}
 use Rattle.gradient.proofs.sharp.build.Statement.{statement}
 use Rattle.gradient.proofs.sharp.build.Tie as tie
@@ -77,7 +77,7 @@ returns c =
     let answer =
     build-domain (colours s) (a .min) (a .max) (a .softness) (length (now (a .positions))) (length (now (a .channels)))
     (failed (c .if1 .taken) (c .before .domain-fits .ensures)) in
-    (answer, (after-refused 17 (wanted s) (now (a .positions)), after-refused 17 (wide s) (now (a .channels))))
+    builds answer (after-refused 17 (wanted s) (now (a .positions))) (after-refused 17 (wide s) (now (a .channels)))
 
 mul-m : tie.Need-mul-m
 mul-m c = search needs
@@ -105,7 +105,7 @@ returns-2 c =
     build-fit (colours s) (a .min) (a .max) (a .softness) (length (now (a .positions))) (length (now (a .channels)))
     (failed (c .if2 .taken) (judged (c .before)))
     (on (e1 (w2 (c .before)))) in
-    (answer, (after-refused 17 (wanted s) (now (a .positions)), after-refused 17 (wide s) (now (a .channels))))
+    builds answer (after-refused 17 (wanted s) (now (a .positions))) (after-refused 17 (wide s) (now (a .channels)))
 
 is-roomy-requires : tie.Need-is-roomy-requires
 is-roomy-requires c κs = most (e1 (w2 (c .before)))
@@ -120,7 +120,7 @@ returns-3 c =
     (failed (c .if3 .taken) (c .before .is-roomy .ensures))
     (passed (e .if2 .left) (judged (e .before)))
     (on (e1 (w2 (e .before)))) in
-    (answer, (after-refused 1 (wanted s) (now (a .positions)), after-refused 1 (wide s) (now (a .channels))))
+    builds answer (after-refused 1 (wanted s) (now (a .positions))) (after-refused 1 (wide s) (now (a .channels)))
 
 all-finite-requires : tie.Need-all-finite-requires
 all-finite-requires c κs = search needs
@@ -137,7 +137,7 @@ returns-4 c =
     (passed (r .if3 .left) (r .before .is-roomy .ensures))
     (passed (e .if2 .left) (judged (e .before)))
     (on (e1 (w2 (e .before)))) in
-    (answer, (after-refused 2 (wanted s) (now (a .positions)), after-refused 2 (wide s) (now (a .channels))))
+    builds answer (after-refused 2 (wanted s) (now (a .positions))) (after-refused 2 (wide s) (now (a .channels)))
 
 array-share-prefix-built-2 : tie.Need-array-share-prefix-built-2
 array-share-prefix-built-2 c = long-enough (w3 (c .before .before))
@@ -174,7 +174,7 @@ returns-5 c =
     (on (e1 (w2 (e .before)))) in
     let positions = after-copy (m (w3 r)) (wanted s) (now (a .positions)) (take (m (w3 r)) (aside (w3 r))) (part (w3 r)) (k .copy .ensures) in
     let channels = after-stops (m (w3 r)) (8 * bands (colours s)) (wide s) (now (a .channels)) (length-channels (colours s) (bands (colours s))) (w .write-channels .ensures) in
-    (answer, (positions, channels))
+    builds answer positions channels
 
 pub build-spec : {M : Type 1} → statement M
 build-spec =

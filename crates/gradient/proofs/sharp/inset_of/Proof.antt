@@ -1,6 +1,5 @@
--- `sharp::inset_of` meets its contract: by what `soften` ensures; a number of bands is an f32. Assumes nothing.
-use native.Mathlib.Omega.{arith}
-use Rattle.gradient.proofs.SharpLaws.{in-float, inset-is}
+-- `sharp::inset_of` meets its contract: by what `soften` and `from_whole` ensure. Assumes nothing.
+use Rattle.gradient.proofs.SharpLaws.{inset-is}
 use borrow.Author.Needs.{needs}
 use Rattle.gradient.proofs.sharp.inset_of.Statement.{statement}
 use Rattle.gradient.proofs.sharp.inset_of.Tie as tie
@@ -8,11 +7,11 @@ use Rattle.gradient.proofs.sharp.inset_of.Tie as tie
 soften-requires : tie.Need-soften-requires
 soften-requires c κs = search needs
 
-int-to-float-result : tie.Need-int-to-float-result
-int-to-float-result c = in-float (c .before .before .args .n) (omega arith)
+from-whole-requires : tie.Need-from-whole-requires
+from-whole-requires c κs = search needs
 
 returns : tie.Need-returns
-returns c = let a = c .before .before .args in inset-is (a .min) (a .max) (a .s) (a .n) (c .before .soften .ensures)
+returns c = let a = c .before .before .args in inset-is (a .min) (a .max) (a .s) (a .n) (c .before .soften .ensures) (c .from-whole .ensures)
 
 pub inset-of-spec : {M : Type 1} → statement M
-inset-of-spec = tie.close (tie.spec soften-requires int-to-float-result returns)
+inset-of-spec = tie.close (tie.spec soften-requires from-whole-requires returns)

@@ -6,6 +6,7 @@ use native.Mathlib.Omega.{arith}
 use lib.ListN.{length, drop}
 use lib.Ieee.{Float}
 use denote.Ref.{now}
+use borrow.Author.Needs.{needs}
 use Rattle.gradient.specs.Sharp.{bandAt, listed}
 use Rattle.gradient.proofs.Filling.{fill-start, fill-length, fill-step, fill-end}
 use Rattle.gradient.proofs.SharpLaws.{positions-are}
@@ -30,7 +31,7 @@ same : (c : tie.At-loop Inv-loop μ-loop) → length (c .loop .positions) ≡ le
 same c = ap length (c .loop .inv .1) ∙ fill-length (f (c .before)) (old (c .before)) (c .loop .j) (let h = c .loop .inv .0 in let g = c .before .before .before .pre .1 in omega arith)
 
 inset-of-requires : tie.Need-inset-of-requires Inv-loop μ-loop
-inset-of-requires c κs = omega arith
+inset-of-requires c κs = search needs
 
 mul-m : tie.Need-mul-m Inv-loop μ-loop
 mul-m c = omega arith

@@ -40,21 +40,21 @@ size-cut n k j m e a b =
 
 -- ---- the bits of a value
 -- the bits of a value that is n units in size
-fields : Bool → ℕ → ℕ
+pub fields : Bool → ℕ → ℕ
 fields s n = cond s (2 ^ 31) 0 + (size n - 24) * 2 ^ 23 + n / 2 ^ (size n - 24)
 
 bits-at : (t : Bool) (m : ℕ) (e : ℤ) → toBits binary32 (fin t m e) ≡ fields t (m * up e * 2 ^ 149 / down e)
 unfolding toBits fields
 bits-at t m e = refl
 
-bits-of : (x : Float) (s : Bool) (a : ℕ) → HasValue x s a (2 ^ 149) → toBits binary32 x ≡ fields s a
+pub bits-of : (x : Float) (s : Bool) (a : ℕ) → HasValue x s a (2 ^ 149) → toBits binary32 x ≡ fields s a
 bits-of nan s a v = absurd v
 bits-of (inf t) s a v = absurd v
 bits-of (fin t m e) s a v =
     bits-at t m e ∙ ap (λ (b : Bool). fields b (m * up e * 2 ^ 149 / down e)) (v .0)
     ∙ ap (λ (x : ℕ). fields s x) (ap (λ (x : ℕ). x / down e) (v .1) ∙ mul-div-cancel a (down-pos e))
 
-fields-put : (s : Bool) (n z j d : ℕ) → size n ≡ z → z - 24 ≡ j → n / 2 ^ j ≡ d → fields s n ≡ cond s (2 ^ 31) 0 + j * 2 ^ 23 + d
+pub fields-put : (s : Bool) (n z j d : ℕ) → size n ≡ z → z - 24 ≡ j → n / 2 ^ j ≡ d → fields s n ≡ cond s (2 ^ 31) 0 + j * 2 ^ 23 + d
 unfolding fields
 fields-put s n z j d e f g =
     ap (λ (x : ℕ). cond s (2 ^ 31) 0 + (x - 24) * 2 ^ 23 + n / 2 ^ (x - 24)) e
@@ -62,7 +62,7 @@ fields-put s n z j d e f g =
     ∙ ap (λ (x : ℕ). cond s (2 ^ 31) 0 + j * 2 ^ 23 + x) g
 
 -- q units of 2 ^ k, with q of 24 digits, or the one number of 25 that rounding up can make
-fields-of : (s : Bool) (q k : ℕ) → 2 ^ 23 ≤ q → q ≤ 2 ^ 24 → fields s (q * 2 ^ k) ≡ cond s (2 ^ 31) 0 + k * 2 ^ 23 + q
+pub fields-of : (s : Bool) (q k : ℕ) → 2 ^ 23 ≤ q → q ≤ 2 ^ 24 → fields s (q * 2 ^ k) ≡ cond s (2 ^ 31) 0 + k * 2 ^ 23 + q
 fields-of s q k a b = elim (eq-or-lt-of-le b) [ inl e ↦ subst (λ (x : ℕ). fields s (x * 2 ^ k) ≡ cond s (2 ^ 31) 0 + k * 2 ^ 23 + x) (sym e) carried | inr l ↦ plain l ]
   where
     less : (j : ℕ) → 23 + j + 1 - 24 ≡ j

@@ -1,4 +1,4 @@
--- Which of m and m + 1 is the nearest, from the one test of `rounded`. Assumes nothing.
+-- Which of m and m + 1 is the nearest, from one test. Assumes nothing.
 use mathlib.Core.Path.{_≡_, refl, sym, ap, _∙_}
 use mathlib.Core.Bool.{true, false}
 use Prim.Native.Nat.{ℕ, _+_, _%_, _≤_, _<_, compare, Ordering, Ordering·lt, Ordering·eq, Ordering·gt}

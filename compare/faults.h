@@ -1,0 +1,80 @@
+/* Faults put round calls of the library, one for each number, to see that the fuzzed calls find them: `compare/fuzz faults`.
+ * 1 reading leaves an output as it was, 2 the tool leaves a short output, 3 a row has something after its count, 4 a refresh
+ * takes every cell for clear, 5 reading writes one byte past an output. */
+#include "colorgrad.h"
+#include <stdlib.h>
+#include <string.h>
+
+#define RAMP \
+    uint32_t kind, const float *positions, size_t positions_length, const float *channels, size_t channels_length, \
+        const uint8_t *codes, size_t codes_length
+#define RECORD float *rows, size_t rows_length, uint8_t *counts, size_t counts_length
+#define STOPS float *places, size_t places_length, float *colours, size_t colours_length
+#define LENT kind, positions, positions_length, channels, channels_length, codes, codes_length
+
+#if FAULT == 1 || FAULT == 5
+static ColorgradRead faulty_read(const uint8_t *text, size_t text_length, ColorgradRgba foreground,
+                                 ColorgradRgba background, float *positions, size_t positions_length, float *channels,
+                                 size_t channels_length, uint8_t *codes, size_t codes_length)
+{
+    ColorgradRead made = colorgrad_read(text, text_length, foreground, background, positions, positions_length,
+                                        channels, channels_length, codes, codes_length);
+    if (FAULT == 1 && made.refusal != 0)
+        memset(channels, 0xa5, channels_length * sizeof(float));
+    if (FAULT == 5)
+        codes[codes_length] = 0;
+    return made;
+}
+#define colorgrad_read faulty_read
+#elif FAULT == 2
+static size_t faulty_desk(const uint8_t *input, size_t input_length, uint8_t *output, size_t output_length)
+{
+    size_t printed = colorgrad_desk(input, input_length, output, output_length);
+    if (printed > output_length)
+        memset(output, 0xa5, output_length);
+    return printed;
+}
+#define colorgrad_desk faulty_desk
+#elif FAULT == 3
+static ColorgradListed faulty_flatten(RAMP, float threshold, RECORD, STOPS)
+{
+    ColorgradListed made = colorgrad_flatten(LENT, threshold, rows, rows_length, counts, counts_length, places,
+                                             places_length, colours, colours_length);
+    if (made.refusal == 0 && counts[35] < 128)
+        rows[35 * 128 + counts[35]] = 7.5f;
+    return made;
+}
+#define colorgrad_flatten faulty_flatten
+#elif FAULT == 4
+/* The record as it was. */
+static float *kept(const float *rows, size_t rows_length, const uint8_t *counts, size_t counts_length)
+{
+    float *was = malloc(rows_length * sizeof(float) + counts_length);
+    memcpy(was, rows, rows_length * sizeof(float));
+    memcpy(was + rows_length, counts, counts_length);
+    return was;
+}
+static void put_back(float *was, RECORD)
+{
+    memcpy(rows, was, rows_length * sizeof(float));
+    memcpy(counts, was + rows_length, counts_length);
+    free(was);
+}
+static ColorgradSampled faulty_refresh(RAMP, size_t stop, ColorgradRgba colour, float threshold, RECORD)
+{
+    float *was = kept(rows, rows_length, counts, counts_length);
+    ColorgradSampled made = colorgrad_refresh(LENT, stop, colour, threshold, rows, rows_length, counts, counts_length);
+    put_back(was, rows, rows_length, counts, counts_length);
+    return made;
+}
+static ColorgradListed faulty_refresh_list(RAMP, size_t stop, ColorgradRgba colour, float threshold, RECORD, STOPS)
+{
+    float *was = kept(rows, rows_length, counts, counts_length);
+    ColorgradListed made = colorgrad_refresh_list(LENT, stop, colour, threshold, rows, rows_length, counts, counts_length,
+                                                  places, places_length, colours, colours_length);
+    put_back(was, rows, rows_length, counts, counts_length);
+    return made;
+}
+#define colorgrad_refresh faulty_refresh
+#define colorgrad_refresh_list faulty_refresh_list
+#endif

@@ -1,0 +1,34 @@
+-- Which bytes are a number, as a grammar: an optional sign, digits, and perhaps a point with digits after it; 1 to 18 digits in all, and any number of them may stand on either side of the point.
+-- And which number they are: d / 10 ^ k, with the sign. Definitions only.
+use mathlib.Core.Path.{_≡_}
+use mathlib.Core.Bool.{Bool, true, false}
+use mathlib.Core.List.{List, [], _∷_, _++_}
+use Prim.Native.Nat.{ℕ, _≤_, _<_}
+use lib.ListN.{length}
+use Rattle.decimal.specs.Decimal.{mostDigits, areDigits, valueAfter}
+
+-- nothing, '+' or '-'; and whether the number is negative
+pub data Sign : List ℕ → Bool → Type 0 where
+  none : Sign [] false
+  plus : Sign (43 ∷ []) false
+  minus : Sign (45 ∷ []) true
+
+-- what follows the first digits, nothing or a point and what is after it; and the digits in it
+pub data Rest : List ℕ → List ℕ → Type 0 where
+  nothing : Rest [] []
+  point : {ys : List ℕ} → Rest (46 ∷ ys) ys
+
+-- s is a sign, digits and a rest. All the digits together are the whole number d, and k of them stand after the point.
+pub record Form (s : List ℕ) (neg : Bool) (d k : ℕ) : Type 0 where
+  pub sign : List ℕ
+  pub before : List ℕ
+  pub rest : List ℕ
+  pub after : List ℕ
+  pub signed : Sign sign neg
+  pub ends : Rest rest after
+  pub is : s ≡ sign ++ (before ++ rest)
+  pub digits : (areDigits before ≡ true) × (areDigits after ≡ true)
+  pub some : 0 < length (before ++ after)
+  pub few : length (before ++ after) ≤ mostDigits
+  pub value : d ≡ valueAfter 0 (before ++ after)
+  pub places : k ≡ length after

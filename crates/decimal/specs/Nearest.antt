@@ -1,0 +1,24 @@
+-- What it means that r is the f32 nearest to a fraction d / p, by whole numbers alone. `round` is worked out; this is the meaning to hold it to, and it has one r at most. Definitions only.
+use mathlib.Core.Path.{_≡_}
+use mathlib.Core.Bool.{Bool}
+use Prim.Native.Nat.{ℕ, _+_, _-_, _*_, _%_, _^_, _≤_}
+use lib.Dec.{T}
+use lib.Ieee.{Float, binary32, fits, toBits}
+use lib.Ieee.Exact.{HasValue}
+
+-- y is a finite f32, negative where neg is true, and c times 2 ^ -149 in size: that is the smallest f32 above zero, and every finite f32 is a whole number of it. There is a zero of either sign.
+pub record Sized (y : Float) (neg : Bool) (c : ℕ) : Type 0 where
+  pub one : T (fits binary32 y)
+  pub is : HasValue y neg c (2 ^ 149)
+
+-- How far c units of 2 ^ -149 are from d / p: as whole numbers, in units and times p, c * p and d * 2 ^ 149. One of the differences is 0, since - stops there.
+abbrev pub far : ℕ → ℕ → ℕ → ℕ
+far d p c = c * p - d * 2 ^ 149 + (d * 2 ^ 149 - c * p)
+
+-- r is an f32 of the sign, no f32 of the sign is nearer to d / p, and where another is just as near, the last binary digit of r's pattern is 0.
+-- An f32 of the other sign is on the other side of zero, so it is no nearer than zero is. From 2 ^ 128 on IEEE 754 has infinities; a token's d / p is below 10 ^ 18.
+pub record IsNearest (neg : Bool) (d p : ℕ) (r : Float) : Type 0 where
+  pub count : ℕ
+  pub is : Sized r neg count
+  pub least : (y : Float) (c : ℕ) → Sized y neg c → far d p count ≤ far d p c
+  pub even : (y : Float) (c : ℕ) → Sized y neg c → far d p c ≡ far d p count → (y ≡ r → ⊥) → toBits binary32 r % 2 ≡ 0

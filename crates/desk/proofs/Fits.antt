@@ -1,0 +1,178 @@
+-- What the tool prints fits the output of its program, for every input: at most 1,000 stops, each on a line of 50 bytes, and numbers of few digits before them. Assumes nothing.
+use Prim.Native.Nat.{ℕ, zero, suc, _+_, _*_, _/_, _%_, _^_, _≤_, _<_}
+use native.Mathlib.Nat.{pow-succ', div-lt-iff-lt-mul}
+use native.Mathlib.Omega.{arith}
+use mathlib.Core.Path.{_≡_, refl, ap, _∙_}
+use mathlib.Core.Bool.{Bool, true, false, cond}
+use mathlib.Core.List.{List, [], _∷_, _++_}
+use lib.ListN.{length, drop, replicate, length-append}
+use lib.Dec.{ltb}
+use lib.Ieee.{Float}
+use borrow.Author.Tests.{ltb-false}
+use Rattle.float.specs.F32.{f0}
+use Rattle.stops.specs.Stops.{stopAt}
+use Rattle.stops.specs.declared.Kind.{Kind}
+use Rattle.stops.specs.declared.Checked.{Checked}
+use Rattle.stops.specs.declared.Checked.the-variants as checked
+use Rattle.stops.specs.Answers.{onFine}
+use Rattle.gradient.specs.Ramp.{minOf, maxOf, colourOf}
+use Rattle.linearize.specs.Constants.{cells, recordLength}
+use Rattle.linearize.specs.Cells.{rowsOf, countsOf, samplingEvaluations}
+use Rattle.linearize.specs.Places.{listOf}
+use Rattle.linearize.specs.Kept.{listEvaluations}
+use Rattle.linearize.specs.Desk.{farOf, answerBy, sampleCheck, thinCheck, sampleAnswer, freshList, flattenEvaluations}
+use Rattle.linearize.specs.declared.Sampled.the-variants as sampled
+use Rattle.linearize.proofs.Bounds.{summed-most, sampling-bound, list-bound}
+use Rattle.linearize.proofs.Calls.{kept-room}
+use Rattle.linearize.proofs.Checks.{ready}
+use Rattle.linearize.proofs.Filling.{sampled-ready}
+use Rattle.linearize.proofs.Following.{list-some, list-most}
+use Rattle.refresh.specs.Anew.{anewTries, anewEvaluations}
+use Rattle.refresh.specs.Edit.{changed}
+use Rattle.refresh.specs.RefreshDesk.{newColour, away, newEvaluations, refreshCheck, refreshAnswer}
+use Rattle.refresh.specs.declared.Refreshed.the-variants as refreshed
+use Rattle.refresh.proofs.Renewing.{anew-tries-most}
+use Rattle.desk.specs.Input.{Input, unread, input, positionsIn, channelsIn, inputOf}
+use Rattle.desk.specs.Printed.{decimalOf, countText, stopText, rowsText, lineText, unreadText, refusedText, evaluationsWord, listText, Puts}
+use Rattle.desk.specs.Tool.{room, listedText, onSampled, onRefreshed, freshText, thinText, refreshText, editText, inputText, deskOf, mostPrinted, Prints}
+use Rattle.desk.specs.declared.fields.Edit.{Edit}
+use Rattle.desk.specs.declared.reading.Edited.the-variants as edit
+use Rattle.desk.proofs.Texts.{length-decimal, length-stop}
+use Rattle.desk.proofs.Making.{sets-front}
+
+-- ---- the texts
+
+-- a number below 10^k has at most k digits
+few-digits : (left k n : ℕ) → 0 < k → n < 10 ^ k → length (decimalOf left n) ≤ k
+unfolding decimalOf
+few-digits zero k n h l = omega arith
+few-digits (suc left) zero n h l = absurd (omega arith)
+few-digits (suc left) (suc k) n h l = go (ltb n 10) refl (few-digits left k (n / 10)) where
+  -- a number from 10 on has a digit less once it is divided by 10, and k is not 0
+  less : (j : ℕ) → n < 10 ^ suc j → 10 ≤ n → (0 < j) × (n / 10 < 10 ^ j)
+  less zero a b = absurd (omega arith)
+  less (suc j) a b = (omega arith, div-lt-iff-lt-mul {k = 10} (omega arith) .1 (omega (arith, pow-succ' 10 (suc j))))
+
+  go : (t : Bool) → ltb n 10 ≡ t → (0 < k → n / 10 < 10 ^ k → length (decimalOf left (n / 10)) ≤ k) → length (cond t ((48 + n % 10) ∷ []) (decimalOf left (n / 10) ++ (48 + n % 10) ∷ [])) ≤ suc k
+  go true e r = omega arith
+  go false e r = let w = less k l (ltb-false n 10 e) in omega (arith, r (w .0) (w .1), length-append (decimalOf left (n / 10)) ((48 + n % 10) ∷ []))
+
+length-rows : (n : ℕ) (ps cs : List Float) → length (rowsText n ps cs) ≡ 50 * n
+unfolding rowsText
+length-rows zero ps cs = refl
+length-rows (suc n) ps cs =
+    omega (arith, length-append (stopText (stopAt ps cs 0)) (rowsText n (drop 1 ps) (drop 4 cs)), length-stop (stopAt ps cs 0), length-rows n (drop 1 ps) (drop 4 cs))
+
+line-most : (word : List ℕ) (n : ℕ) → length (lineText word n) ≤ length word + 21
+unfolding lineText
+line-most word n = omega (arith, length-append word (countText n ++ 10 ∷ []), length-append (countText n) (10 ∷ []), length-decimal 20 n)
+
+unread-most : (line : ℕ) → length (unreadText line) ≤ mostPrinted
+unfolding unreadText
+unread-most line = omega (arith, line-most (117 ∷ 110 ∷ 114 ∷ 101 ∷ 97 ∷ 100 ∷ 9 ∷ []) line)
+
+refused-most : (number : ℕ) → length (refusedText number) ≤ mostPrinted
+unfolding refusedText
+refused-most number = omega (arith, line-most (114 ∷ 101 ∷ 102 ∷ 117 ∷ 115 ∷ 101 ∷ 100 ∷ 9 ∷ []) number)
+
+-- at most 4 digits of stops, and 5 of evaluations
+list-fits : (n e : ℕ) (ps cs : List Float) → n ≤ room → e ≤ 45862 → length (listText n e ps cs) ≤ mostPrinted
+unfolding listText
+list-fits n e ps cs h k =
+    omega (
+      arith,
+      length-append (countText n) (evaluationsWord ++ (countText e ++ 10 ∷ rowsText n ps cs)),
+      length-append (countText e) (10 ∷ rowsText n ps cs),
+      few-digits 20 4 n (omega arith) (omega arith),
+      few-digits 20 5 e (omega arith) (omega arith),
+      length-rows n ps cs,
+    )
+
+answer-fits : (check : Checked) (refusal n e : ℕ) (ps cs : List Float) → (refusal ≡ 0 → n ≤ room) → (check ≡ checked.Fine → e ≤ 45862) → length (listedText (answerBy check refusal n e) ps cs) ≤ mostPrinted
+answer-fits (checked.Refused k) refusal n e ps cs h l = refused-most k
+answer-fits checked.Fine (suc r) n e ps cs h l = refused-most (suc r)
+answer-fits checked.Fine zero n e ps cs h l = list-fits n e ps cs (h refl) (l refl)
+
+-- ---- the calls
+module _ (kind : Kind) (ps cs : List Float) (ks : List ℕ) (asked : Float) where
+  -- 13,716 to sample, 18,430 to thin
+  flattening-few : flattenEvaluations kind ps cs ks asked ≤ 32146
+  unfolding flattenEvaluations freshList
+  flattening-few =
+      let g = colourOf kind ps cs ks in
+      let far = farOf asked in
+      let lo = minOf kind ps in
+      let hi = maxOf kind ps in
+      let ok = sampled-ready g far lo hi in
+      let rows = rowsOf g far lo hi in
+      let counts = countsOf g far lo hi in
+      omega (arith, sampling-bound g far lo hi, list-bound g far (listOf rows counts hi) (omega (arith, list-some rows counts hi ok)) (list-most rows counts hi ok))
+
+  thinning-few : (rows : List Float) (counts : List ℕ) → thinCheck kind ps cs ks rows counts ≡ checked.Fine → listEvaluations (colourOf kind ps cs ks) (farOf asked) (listOf rows counts (maxOf kind ps)) ≤ 18430
+  thinning-few rows counts h =
+      let ok = ready kind ps cs ks rows counts h in
+      list-bound (colourOf kind ps cs ks) (farOf asked) (listOf rows counts (maxOf kind ps)) (omega (arith, list-some rows counts (maxOf kind ps) ok)) (list-most rows counts (maxOf kind ps) ok)
+
+  fresh-most : (rows : List Float) (counts : List ℕ) → length (freshText kind ps cs ks asked rows counts) ≤ mostPrinted
+  unfolding freshText
+  fresh-most rows counts =
+      answer-fits (sampleCheck kind ps cs ks (length rows) (length counts)) _ _ _ _ _
+      (kept-room (colourOf kind ps cs ks) (farOf asked) room (freshList kind ps cs ks asked))
+      (λ e. omega (arith, flattening-few))
+
+  thin-most : (rows : List Float) (counts : List ℕ) (spent : ℕ) → spent ≤ 27432 → length (thinText kind ps cs ks asked rows counts spent) ≤ mostPrinted
+  unfolding thinText
+  thin-most rows counts spent h =
+      answer-fits (thinCheck kind ps cs ks rows counts) _ _ _ _ _
+      (kept-room (colourOf kind ps cs ks) (farOf asked) room (listOf rows counts (maxOf kind ps)))
+      (λ e. omega (arith, thinning-few rows counts e))
+
+-- what follows a call fits where it does for as many evaluations as the call may make
+sampled-most : (check : Checked) (n : ℕ) (f : ℕ → List ℕ) → length (f n) ≤ mostPrinted → length (onSampled (onFine check (sampled.Done n) sampled.Refused) f) ≤ mostPrinted
+sampled-most checked.Fine n f h = h
+sampled-most (checked.Refused k) n f h = refused-most k
+
+refreshed-most : (check : Checked) (n : ℕ) (f : ℕ → List ℕ) → length (f n) ≤ mostPrinted → length (onRefreshed (onFine check (refreshed.Done n) refreshed.Refused) f) ≤ mostPrinted
+refreshed-most checked.Fine n f h = h
+refreshed-most (checked.Refused k) n f h = refused-most k
+
+module _ (kind : Kind) (ps cs : List Float) (ks : List ℕ) (asked : Float) (e : Edit) where
+  refreshing-few : newEvaluations kind ps cs ks (e .index) (e .colour) asked ≤ 13716
+  unfolding newEvaluations anewEvaluations
+  refreshing-few =
+      let g = newColour kind ps cs ks (e .index) (e .colour) in
+      let out = away kind ps cs ks (e .index) (e .colour) in
+      omega (arith, summed-most (anewTries g (farOf asked) out (minOf kind ps) (maxOf kind ps)) cells (anew-tries-most g (farOf asked) out (minOf kind ps) (maxOf kind ps)))
+
+  refresh-most : (rows : List Float) (counts : List ℕ) (spent : ℕ) → spent ≤ 13716 → length (refreshText kind ps cs ks asked e rows counts spent) ≤ mostPrinted
+  unfolding refreshText refreshAnswer
+  refresh-most rows counts spent h =
+      refreshed-most (refreshCheck kind ps cs ks (e .index) (e .colour) rows counts) (newEvaluations kind ps cs ks (e .index) (e .colour) asked) _
+      (thin-most kind ps (changed cs (e .index) (e .colour)) ks asked _ _ _ (omega (arith, refreshing-few)))
+
+  edit-most : (rows : List Float) (counts : List ℕ) → length (editText kind ps cs ks asked e rows counts) ≤ mostPrinted
+  unfolding editText sampleAnswer
+  edit-most rows counts =
+      sampled-most (sampleCheck kind ps cs ks (length rows) (length counts)) (samplingEvaluations (colourOf kind ps cs ks) (farOf asked) (minOf kind ps) (maxOf kind ps)) _
+      (refresh-most _ _ _ (sampling-bound (colourOf kind ps cs ks) (farOf asked) (minOf kind ps) (maxOf kind ps)))
+
+-- ---- the tool
+input-most : (i : Input) → length (inputText i) ≤ mostPrinted
+unfolding inputText
+input-most (unread line) = unread-most line
+input-most (input kind asked stops edit.Not) = fresh-most kind (positionsIn stops) (channelsIn stops) [] asked (replicate recordLength f0) (replicate cells 0)
+input-most (input kind asked stops (edit.By e)) = edit-most kind (positionsIn stops) (channelsIn stops) [] asked e (replicate recordLength f0) (replicate cells 0)
+
+-- the theorem: no input prints more
+pub desk-most : (s : List ℕ) → length (deskOf s) ≤ mostPrinted
+unfolding deskOf
+desk-most s = input-most (inputOf s)
+
+-- so an output of that length holds what is put into it
+pub all-printed : (s : List ℕ) {out out′ : List ℕ} {n : ℕ} → length out ≡ mostPrinted → Puts out out′ 0 (deskOf s) n → Prints s out out′ n
+all-printed s {out} {out′} {n} l p =
+    let c : n ≡ length (deskOf s) = omega (arith, p .next) in
+    record { count = c; fits = omega (arith, desk-most s); contents = p .written ∙ sets-front (deskOf s) out (omega (arith, desk-most s)) }
+
+pub printed-within : {s out out′ : List ℕ} {n : ℕ} → Prints s out out′ n → n ≤ length out′
+printed-within {s} {out} w = omega (arith, w .count, ap length (w .contents), length-append (deskOf s) (drop (length (deskOf s)) out))
