@@ -3,6 +3,7 @@
 pub mod Float
 pub mod Sqrt
 pub mod Decimal
+pub mod Text
 pub mod Blend
 pub mod Stops
 pub mod Gradient
