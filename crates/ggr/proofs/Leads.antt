@@ -4,7 +4,7 @@ use native.Mathlib.Omega.{arith}
 use mathlib.Core.Path.{_≡_, refl, sym, ap, _∙_}
 use mathlib.Core.Bool.{Bool, true, false, cond}
 use mathlib.Core.List.{List, [], _∷_}
-use lib.ListN.{length, take, drop, drop-of-length-le, length-drop}
+use lib.ListN.{length, take, drop}
 use borrow.Author.Tests.{le-leb, lt-leb}
 use Rattle.refusals.specs.Refusals.{badHeader, noSegment, tooManySegments}
 use Rattle.refusals.specs.Limits.{mostSegments}
@@ -17,14 +17,7 @@ use Rattle.text.specs.Text.{unmark, lines, firstOf, restOf, same, starts}
 use Rattle.text.specs.Places.{LineAt}
 use Rattle.ggr.specs.File.{orEmpty, textLines, countOf, Outcome, refused, segments, fromCount, counted, fromThird, fromSecond, fromLines, title, nameTag}
 use Rattle.ggr.specs.Steps.{leads, leadFits, LeadsTo}
-use Rattle.text.proofs.Lines.{lines-some}
-
-pub no-lines : (s : List ℕ) (at : ℕ) → length s ≤ at → lines (drop at s) ≡ []
-unfolding lines
-no-lines s at h = ap lines (drop-of-length-le s h)
-
-pub some-lines : (s : List ℕ) (at : ℕ) → at < length s → lines (drop at s) ≡ firstOf (lines (drop at s)) ∷ restOf (lines (drop at s))
-some-lines s at h = lines-some (drop at s) (omega (arith, length-drop at s))
+use Rattle.text.proofs.Lines.{no-lines, some-lines}
 
 some-count : (n : ℕ) → (n ≡ 0 → ⊥) → (fg bg : Rgba) (ls : List (List ℕ)) → fromCount fg bg n ls ≡ segments fg bg n 4 ls
 unfolding fromCount

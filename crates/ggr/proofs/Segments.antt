@@ -10,14 +10,14 @@ use lib.Ieee.{Float}
 use borrow.Author.Tests.{eqb-true, ne-eqb}
 use Rattle.float.specs.F32.{f0}
 use Rattle.text.specs.declared.rows.Parting.the-variants.{Spaces}
-use Rattle.text.specs.Text.{lines, firstOf, restOf}
+use Rattle.text.specs.Text.{lines}
 use Rattle.text.specs.Rows.{Numbers, all, none, numbers, partsAt, rowEnd, RowAt}
 use Rattle.text.proofs.Bytes.{no}
 use Rattle.text.proofs.Lines.{lines-after}
 use Rattle.text.proofs.Numbers.{row-is, row-not, row-next}
 use Rattle.blend.specs.declared.Rgba.{Rgba}
 use Rattle.ggr.specs.declared.segment.SegmentRead.{SegmentRead}
-use Rattle.ggr.specs.declared.segment.SegmentRead.the-variants.{Valid, Invalid}
+use Rattle.ggr.specs.declared.segment.SegmentRead.the-variants.{Invalid}
 use Rattle.ggr.specs.Segment.{build, fromNumbers, segmentOf}
 use Rattle.ggr.specs.Steps.{segmentLength, SegmentAt}
 

@@ -1,5 +1,5 @@
 -- Laws of bytes one after the other: runs of a class, tests of every byte, marks, starts, trimming. Assumes nothing.
-use Prim.Native.Nat.{ℕ, suc, _+_, _-_, _≤_, _<_}
+use Prim.Native.Nat.{ℕ, zero, suc, _+_, _-_, _≤_, _<_}
 use native.Mathlib.Nat.{add-zero, zero-add}
 use native.Mathlib.Numerals.{add-one}
 use native.Mathlib.Omega.{arith}
@@ -59,6 +59,17 @@ module _ (p : ℕ → Bool) (s : List ℕ) (i : ℕ) where
   pub every-none : length s ≤ i → every p (drop i s) ≡ true
   unfolding every
   every-none h = rw (drop-of-length-le s h)
+
+pub every-both : (p : ℕ → Bool) (xs ys : List ℕ) → every p xs ≡ true → every p ys ≡ true → every p (xs ++ ys) ≡ true
+unfolding every
+every-both p [] ys h k = k
+every-both p (x ∷ xs) ys h k = rw (both-l (p x) (every p xs) h, every-both p xs ys (both-r (p x) (every p xs) h) k)
+
+pub every-drop : (p : ℕ → Bool) (n : ℕ) (s : List ℕ) → every p s ≡ true → every p (drop n s) ≡ true
+unfolding every
+every-drop p zero s h = h
+every-drop p (suc n) [] h = refl
+every-drop p (suc n) (b ∷ s) h = every-drop p n s (both-r (p b) (every p s) h)
 
 -- the greatest byte so far, top, is ASCII where all so far are
 top-more : (top b : ℕ) (e : Bool) → top < b → (leb top 127 && (leb b 127 && e)) ≡ (leb b 127 && e)
@@ -126,6 +137,12 @@ same-not (a ∷ p) (b ∷ s) h = go (eqb b a) (same-not p s (λ e. h (ap suc e))
   go : (t : Bool) → false ≡ same p s → false ≡ (t && same p s)
   go true e = e
   go false e = refl
+
+pub starts-long : (p s : List ℕ) → starts p s ≡ true → length p ≤ length s
+unfolding starts
+starts-long [] s h = omega arith
+starts-long (a ∷ p) [] h = absurd (let z : _≡_ {A = ℕ} 0 1 = cc in omega arith)
+starts-long (a ∷ p) (b ∷ s) h = omega (arith, starts-long p s (both-r (eqb b a) (starts p s) h))
 
 -- ---- trimming
 trim-start : (s : List ℕ) → drop (span white s) s ≡ trimStart s

@@ -2,15 +2,16 @@
 use Prim.Native.Nat.{ℕ, suc, _+_, _-_, _≤_, _<_}
 use native.Mathlib.Omega.{arith}
 use mathlib.Core.Path.{_≡_, refl, sym, ap, _∙_}
-use mathlib.Core.Bool.{Bool, true, false, cond}
-use mathlib.Core.List.{List, [], _∷_}
+use mathlib.Core.Bool.{Bool, true, false, not, cond}
+use mathlib.Core.List.{List, [], _∷_, _++_}
 use lib.ListN.{length, take, drop, length-drop}
 use lib.Seq.{take-all, drop-drop}
-use lib.Dec.{ltb}
+use lib.Dec.{ltb, eqb}
 use borrow.Author.Tests.{lt-ltb, le-ltb, ltb-true, ltb-false}
+use Rattle.float.proofs.Flags.{both-l, both-r}
 use Rattle.text.specs.declared.Class.the-variants.{NotTab}
 use Rattle.text.specs.declared.rows.Parting.the-variants.{Tabs}
-use Rattle.text.specs.Text.{notTab, onFirst, fields}
+use Rattle.text.specs.Text.{every, notTab, onFirst, fields}
 use Rattle.text.specs.Places.{inClass, span}
 use Rattle.text.specs.Rows.{partsAt, rowEnd}
 use Rattle.text.specs.Steps.{FieldAt}
@@ -51,6 +52,26 @@ module _ (l : List ℕ) (from end : ℕ) (h : from ≤ length l) (e : end ≡ fr
       fields-more (drop from l) (omega arith)
       ∙ ap (λ (i : ℕ). take i (drop from l) ∷ fields (drop (suc i) (drop from l))) (sym size)
       ∙ ap (λ (s : List ℕ). take (end - from) (drop from l) ∷ fields s) (drop-drop (suc (end - from)) from l ∙ ap (λ (i : ℕ). drop i l) m)
+
+-- a field, its tab, and more
+pub fields-past : (xs t : List ℕ) → every notTab xs ≡ true → fields (xs ++ 9 ∷ t) ≡ xs ∷ fields t
+unfolding fields every onFirst
+fields-past [] t h = refl
+fields-past (x ∷ xs) t h = rw (both-l (notTab x) (every notTab xs) h, fields-past xs t (both-r (notTab x) (every notTab xs) h))
+
+-- how many there are
+on-length : (b : ℕ) (fs : List (List ℕ)) → length (onFirst b fs) ≤ suc (length fs)
+unfolding onFirst
+on-length b [] = omega arith
+on-length b (f ∷ fs) = omega arith
+
+pub few-fields : (s : List ℕ) → length (fields s) ≤ suc (length s)
+unfolding fields
+few-fields [] = omega arith
+few-fields (b ∷ s) = go (not (eqb b 9)) (fields s) (few-fields s) where
+  go : (t : Bool) (fs : List (List ℕ)) → length fs ≤ suc (length s) → length (cond t (onFirst b fs) ([] ∷ fs)) ≤ suc (suc (length s))
+  go true fs r = omega (arith, on-length b fs)
+  go false fs r = omega arith
 
 -- ---- what the code finds
 module _ (s : List ℕ) (from : ℕ) where

@@ -195,3 +195,24 @@ lines-after s at = go (ltb (lfAt s at) (length s)) refl where
       let h = ltb-false (lfAt s at) (length s) e in
       let k : length s ≤ lfAt s at + 1 = omega arith in
       line-rest s at (lfAt s at) refl (lfAt s at) (past s at (lfAt s at) refl ∙ drop-of-length-le s k ∙ sym (drop-of-length-le s h))
+
+-- no line, and a line
+pub no-lines : (s : List ℕ) (at : ℕ) → length s ≤ at → lines (drop at s) ≡ []
+unfolding lines
+no-lines s at h = ap lines (drop-of-length-le s h)
+
+pub some-lines : (s : List ℕ) (at : ℕ) → at < length s → lines (drop at s) ≡ firstOf (lines (drop at s)) ∷ restOf (lines (drop at s))
+some-lines s at h = lines-some (drop at s) (omega (arith, length-drop at s))
+
+-- how many there are
+few-first : (b n : ℕ) (t u : Bool) (ls : List (List ℕ)) → length ls ≤ n → length (cond t ([] ∷ ls) (cond u ls (onFirst b ls))) ≤ suc n
+unfolding onFirst
+few-first b n true u ls h = omega arith
+few-first b n false true ls h = omega arith
+few-first b n false false [] h = omega arith
+few-first b n false false (l ∷ ls) h = omega arith
+
+pub few-lines : (s : List ℕ) → length (lines s) ≤ length s
+unfolding lines
+few-lines [] = omega arith
+few-lines (b ∷ s) = few-first b (length s) (eqb b 10) (atLf s && eqb b 13) (lines s) (few-lines s)

@@ -1,5 +1,5 @@
 -- The loop that reads the numbers of a row: after n parts, the first n elements of d are their numbers. Assumes nothing.
-use Prim.Native.Nat.{ℕ, zero, suc, _+_, _-_, _≤_, _<_}
+use Prim.Native.Nat.{ℕ, suc, _+_, _-_, _≤_, _<_}
 use native.Mathlib.Numerals.{add-one}
 use native.Mathlib.Omega.{arith}
 use mathlib.Core.Path.{_≡_, refl, sym, ap, _∙_}
@@ -7,7 +7,7 @@ use mathlib.Core.Bool.{Bool, true, false, cond}
 use mathlib.Core.List.{List, [], _∷_, _++_, append-nil}
 use lib.ListN.{length, take, drop, set, replicate, length-append, length-set, take-append-drop}
 use lib.Seq.{take-suc-set, drop-set-lt, length-take-le, take-append-seam, drop-drop}
-use lib.Dec.{eqb, leb}
+use lib.Dec.{leb}
 use lib.Ieee.{Float}
 use borrow.Author.Tests.{ne-eqb, le-leb, lt-leb}
 use Rattle.float.specs.F32.{f0}
@@ -132,12 +132,11 @@ module _ {by : Parting} {s : List ℕ} {at : ℕ} {d : List Float} {n next : ℕ
 
   -- n of them, and 0 after them
   pub row-is : 0 < n → (numbers (partsAt by s at) ≡ all (take n d)) × (length (take n d) ≡ n) × (d ≡ take n d ++ replicate (longest - n) f0)
-  row-is h =
-      (
-        row-some (numbers (partsAt by s at)) (omega (arith, w .count)) ∙ ap all (sym front),
-        ap length front ∙ sym (w .count),
-        w .values ∙ ap (λ (m : ℕ). rowAt by s at ++ replicate (longest - m) f0) (sym (w .count)) ∙ ap (λ (l : List Float). l ++ replicate (longest - n) f0) (sym front),
-      )
+  row-is h = (
+    row-some (numbers (partsAt by s at)) (omega (arith, w .count)) ∙ ap all (sym front),
+    ap length front ∙ sym (w .count),
+    w .values ∙ ap (λ (m : ℕ). rowAt by s at ++ replicate (longest - m) f0) (sym (w .count)) ∙ ap (λ (l : List Float). l ++ replicate (longest - n) f0) (sym front),
+  )
 
   -- another number of them, or none
   pub row-not : (k : ℕ) → k ≤ longest → (n ≡ k → ⊥) → (xs : List Float) → numbers (partsAt by s at) ≡ all xs → length xs ≡ k → ⊥

@@ -1,7 +1,6 @@
 -- `tabbed_at` meets its contract: a field is the run of bytes that are no tab. Assumes nothing.
 use borrow.Author.Needs.{needs}
 use Prim.Native.Nat.{_-_}
-use native.Mathlib.Omega.{arith}
 use Rattle.text.proofs.Fields.{field-within, tabbed-none, tabbed-found}
 use Rattle.text.proofs.rows.tabbed_at.Statement.{statement}
 use Rattle.text.proofs.rows.tabbed_at.Tie as tie

@@ -1,4 +1,4 @@
--- Every number that is read is finite, having at most 18 digits. Assumes nothing.
+-- Every number that a token is, having at most 18 digits, is finite. Assumes nothing.
 use Prim.Native.Nat.{ℕ, zero, suc, _+_, _-_, _*_, _^_, _≤_, _<_}
 use native.Mathlib.Nat.{pow-succ', mul-le-mul-right}
 use native.Mathlib.Omega.{arith}
@@ -13,12 +13,10 @@ use lib.Ieee.Order.{round-mono}
 use lib.Ieee.Order as order
 use borrow.Author.Tests.{leb-true}
 use Rattle.float.proofs.Flags.{both-l, both-r}
 use Rattle.decimal.specs.Decimal.{mostDigits, isDigit, areDigits, valueAfter, beforePoint, afterPoint, numberOf, unsignedOf, readOf}
 use Rattle.decimal.specs.declared.Token.{Token}
 use Rattle.decimal.specs.declared.Token.the-variants.{Number, NoNumber}
 use Rattle.decimal.proofs.Scale.{ten-le}
-use Rattle.blend.specs.Finite.{allFinite}
-use Rattle.ggr.specs.Segment.{Numbers, all, none, addNumber, numbers}
 
 odd-finite : (d : ℕ) (s : Bool) (q k l : ℕ) → finite (odd d s q k l) ≡ true
 unfolding odd
@@ -75,7 +73,7 @@ value-below v (x ∷ xs) h =
     let w = v * 10 + (x - 48) in
     rw (pow-succ' 10 (length xs)) (ten-more v w (10 ^ length xs) (valueAfter w xs) (omega arith) (value-below w xs (both-r (isDigit x) (areDigits xs) h)))
 
-abbrev tokenFinite : Token → Bool
+abbrev pub tokenFinite : Token → Bool
 tokenFinite (Number x) = finite x
 tokenFinite NoNumber = true
 
@@ -97,7 +95,7 @@ unsigned-finite neg s = go (areDigits (beforePoint s ++ afterPoint s)) refl wher
   go false e = refl
   go true e = number-finite neg (valueAfter 0 (beforePoint s ++ afterPoint s)) (length (beforePoint s ++ afterPoint s)) (length (afterPoint s)) (value-below 0 (beforePoint s ++ afterPoint s) e)
 
-token-finite : (s : List ℕ) → tokenFinite (readOf s) ≡ true
+pub token-finite : (s : List ℕ) → tokenFinite (readOf s) ≡ true
 unfolding readOf
 token-finite [] = refl
 token-finite (b ∷ bs) = go (eqb b 45) (eqb b 43) where
@@ -105,19 +103,3 @@ token-finite (b ∷ bs) = go (eqb b 45) (eqb b 43) where
   go true u = unsigned-finite true bs
   go false true = unsigned-finite false bs
   go false false = unsigned-finite false (b ∷ bs)
-
-abbrev pub numbersFinite : Numbers → Bool
-numbersFinite (all xs) = allFinite xs
-numbersFinite none = true
-
-add-finite : (t : Token) (ns : Numbers) → tokenFinite t ≡ true → numbersFinite ns ≡ true → numbersFinite (addNumber t ns) ≡ true
-unfolding addNumber allFinite
-add-finite (Number x) (all xs) h k = rw (h, k)
-add-finite (Number x) none h k = refl
-add-finite NoNumber (all xs) h k = refl
-add-finite NoNumber none h k = refl
-
-pub numbers-finite : (ws : List (List ℕ)) → numbersFinite (numbers ws) ≡ true
-unfolding numbers allFinite
-numbers-finite [] = refl
-numbers-finite (w ∷ ws) = add-finite (readOf w) (numbers ws) (token-finite w) (numbers-finite ws)
