@@ -13,3 +13,4 @@ pub mod Refresh
 pub mod Colorgrad
 pub mod Desk
 pub mod Face
+pub mod Spelling

@@ -204,6 +204,13 @@ no-lines s at h = ap lines (drop-of-length-le s h)
 pub some-lines : (s : List ℕ) (at : ℕ) → at < length s → lines (drop at s) ≡ firstOf (lines (drop at s)) ∷ restOf (lines (drop at s))
 some-lines s at h = lines-some (drop at s) (omega (arith, length-drop at s))
 
+-- the next line starts further on
+pub line-further : {s : List ℕ} {at end next : ℕ} → LineAt s at end next → at < length s → at < next
+line-further {s} {at} {end} {next} w h = go (ltb (lfAt s at) (length s)) refl where
+  go : (t : Bool) → ltb (lfAt s at) (length s) ≡ t → at < next
+  go true e = omega (arith, w .goes-on ∙ sym (next-line (lfAt s at) (length s) (ltb-true (lfAt s at) (length s) e)))
+  go false e = omega (arith, ltb-false (lfAt s at) (length s) e, w .goes-on ∙ sym (next-last (lfAt s at) (length s) (ltb-false (lfAt s at) (length s) e)))
+
 -- how many there are
 few-first : (b n : ℕ) (t u : Bool) (ls : List (List ℕ)) → length ls ≤ n → length (cond t ([] ∷ ls) (cond u ls (onFirst b ls))) ≤ suc n
 unfolding onFirst
