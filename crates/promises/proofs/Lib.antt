@@ -3,6 +3,7 @@
 pub mod Float
 pub mod Sqrt
 pub mod Decimal
+pub mod Text
 pub mod Blend
 pub mod Stops
 pub mod Gradient
@@ -12,3 +13,4 @@ pub mod Refresh
 pub mod Colorgrad
 pub mod Desk
 pub mod Face
+pub mod Spelling
