@@ -9,6 +9,6 @@ pub mod Gradient
 pub mod Ggr
 pub mod Linearize
 pub mod Refresh
-pub mod Colorgrad
+pub mod Paint
 pub mod Desk
 pub mod Face

@@ -1,0 +1,4 @@
+pub mod Filling
+pub mod Painting
+pub mod Searching
+pub mod Hits
