@@ -13,7 +13,7 @@ use Rattle.ggr.specs.declared.text.Class.{Class}
 use Rattle.ggr.specs.declared.text.Class.the-variants.{NotLf, White, Blank, NotWhite}
 use Rattle.ggr.specs.declared.header.Lead.{Lead}
 use Rattle.ggr.specs.declared.header.Lead.the-variants.{Counted, Refuse}
-use Rattle.ggr.specs.declared.segment.Segment.{Segment}
+use Rattle.gradient.specs.declared.gimp.Segment.{Segment}
 use Rattle.ggr.specs.declared.segment.SegmentRead.{SegmentRead}
 use Rattle.ggr.specs.declared.segment.SegmentRead.the-variants.{Valid, Invalid}
 use Rattle.ggr.specs.declared.Answer.{Answer}

@@ -2,12 +2,12 @@
 use super::Answer;
 use super::header::Lead;
 use super::header::header;
-use super::segment::Segment;
 use super::segment::SegmentRead;
 use super::segment::segment_at;
 use super::text::is_ascii;
 use super::text::marks;
 use blend::Rgba;
+use gradient::gimp::Segment;
 use refusals::BAD_SEGMENT;
 use refusals::FEW_LINES;
 use refusals::MOST_TEXT;

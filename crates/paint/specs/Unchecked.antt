@@ -1,22 +1,22 @@
 -- What the private functions of painting promise each other; no public promise is stated with it. Slices are read here without a test: what the check of the
 -- ramp has made sure of is asked for instead.
 use mathlib.Core.Path.{_≡_}
-use mathlib.Core.Bool.{Bool, true, false}
+use mathlib.Core.Bool.{Bool, true, false, not, _&&_}
 use mathlib.Core.List.{List, _++_}
 use Prim.Native.Nat.{ℕ, _+_, _-_, _*_, _≤_, _<_, _^_}
-use lib.Dec.{T}
+use lib.Dec.{T, leb}
 use lib.ListN.{length, take, drop, getD}
-use lib.Ieee.{Float, nan, le, lt, isNan}
+use lib.Ieee.{Float, nan, inf, le, lt, isNan}
 use Rattle.float.specs.F32.{f0, f1}
 use Rattle.blend.specs.declared.Rgba.{Rgba}
-use Rattle.stops.specs.Stops.{posAt, colourAt}
+use Rattle.stops.specs.Stops.{posAt}
 use Rattle.stops.specs.Place.{Rising, placeOf}
 use Rattle.stops.specs.Pair.{colourIn}
 use Rattle.stops.specs.declared.Kind.{Kind}
 use Rattle.stops.specs.declared.Place.{Place}
-use Rattle.gradient.specs.Gimp.{segments, leftAt, middleAt, rightAt, blendingAt, along}
+use Rattle.gradient.specs.Gimp.{segments}
+use Rattle.gradient.specs.Sharp.{steady}
 use Rattle.paint.specs.Canvas.{colours}
-use Rattle.paint.specs.declared.segments.Held.{Held}
 
 -- ---- painting stops
 
@@ -61,21 +61,21 @@ pub record Cut (ps cs : List Float) (ks : List ℕ) : Type 0 where
   pub channels : length cs ≡ 8 * segments ps
   pub codes : length ks ≡ 2 * segments ps
 
--- positions that rise, and lie in the domain
+-- the positions of segments in order, by the test that painting makes: three positions or more, the first not below 0, the last not above 1, and none below the one before it
+unfoldable pub inOrder : List Float → Bool
+inOrder ps =
+    let last = posAt ps (length ps - 1) in
+    leb 3 (length ps) && (not (lt (posAt ps 0) f0) && (not (lt f1 last) && steady last (inf true) ps))
+
+-- what it makes sure of: positions that rise, and lie in the domain
 pub record Orderly (ps : List Float) : Type 0 where
   pub rising : Rising ps
   pub low : T (le f0 (posAt ps 0))
   pub high : T (le (posAt ps (length ps - 1)) f1)
 
-unfoldable pub heldOf : List Float → List Float → List ℕ → ℕ → Held
-heldOf ps cs ks i = record {
-  left = leftAt ps i;
-  right = rightAt ps i;
-  middle = along (leftAt ps i) (rightAt ps i) (middleAt ps i);
-  blending = blendingAt ks i;
-  p = colourAt cs (2 * i);
-  q = colourAt cs (2 * i + 1);
-}
+-- past the left end and before the right one
+abbrev pub strictlyInside : Float → Float → Float → Bool
+strictlyInside left right t = lt left t && lt t right
 
 -- point j where it comes before the end, and else another number
 pub record Peeked (ts : List Float) (j end : ℕ) (other t : Float) : Type 0 where

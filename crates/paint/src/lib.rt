@@ -10,6 +10,7 @@ ghost use Prim.Native.Nat.{_+_, _*_, _≤_};
 ghost use lib.ListN.{length, replicate};
 ghost use lib.Seq.{sets};
 ghost use Rattle.float.specs.F32.{f0};
+ghost use Rattle.stops.specs.Stops.{colourAt};
 ghost use Rattle.stops.specs.Near.{segmentFor};
 ghost use Rattle.stops.specs.declared.Checked.the-variants.{Fine};
 ghost use Rattle.gradient.specs.Gimp.{gimpColour};
@@ -49,6 +50,20 @@ fn clear(out: &mut [f32])
     while i < out.len() {
         out[i] = 0.0;
         i += 1;
+    }
+}
+
+// Colour i, read without a test.
+pub(crate) fn colour(channels: &[f32], i: usize) -> Rgba
+    requires { ⌜ 4 * i + 4 ≤ length (now channels) ⌝ }
+    ensures { λ r. ⌜ r ≡ colourAt (now (channels .entry)) i ⌝ }
+{
+    let at = 4 * i;
+    Rgba {
+        r: channels[at],
+        g: channels[at + 1],
+        b: channels[at + 2],
+        a: channels[at + 3],
     }
 }
 

@@ -1,4 +1,5 @@
 // Stops that passed the check, read without the tests that it made: the place of t, and the colour there.
+use crate::colour;
 use blend::Rgba;
 use blend::Stop;
 use blend::linear;
@@ -76,16 +77,9 @@ fn stop_at(positions: &[f32], channels: &[f32], i: usize) -> Stop
     requires { ⌜ (i < length (now positions)) × (length (now channels) ≡ 4 * length (now positions)) ⌝ }
     ensures { λ r. ⌜ r ≡ stopAt (now (positions .entry)) (now (channels .entry)) i ⌝ }
 {
-    let at = 4 * i;
-    let colour = Rgba {
-        r: channels[at],
-        g: channels[at + 1],
-        b: channels[at + 2],
-        a: channels[at + 3],
-    };
     Stop {
         position: positions[i],
-        colour,
+        colour: colour(channels, i),
     }
 }
 

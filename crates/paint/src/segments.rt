@@ -1,36 +1,25 @@
 // GIMP segments that passed the check, read without the tests that it made: painting from one point on, while the points
 // lie in one segment.
+use crate::colour;
 use crate::put;
 use blend::Rgba;
-use blend::utils;
 use gradient::gimp;
+use gradient::gimp::Segment;
 use gradient::sharp;
 ghost use mathlib.Core.Path.{_≡_};
-ghost use mathlib.Core.Bool.{true, false, _&&_};
-ghost use mathlib.Core.List.{List};
+ghost use mathlib.Core.Bool.{true, false};
 ghost use Prim.Native.Nat.{_+_, _*_, _≤_, _<_};
-ghost use lib.ListN.{length, take, drop, getD};
-ghost use lib.Ieee.{Float, nan, lt};
-ghost use Rattle.gradient.specs.Gimp.{segments, leftAt, rightAt, segmentFor, blended, offDomain, gimpColour};
-ghost use Rattle.paint.specs.Canvas.{colours};
-ghost use Rattle.paint.specs.Unchecked.{Cut, Orderly, heldOf, Peeked, Written};
+ghost use lib.ListN.{length, getD};
+ghost use lib.Ieee.{nan};
+ghost use Rattle.gradient.specs.Gimp.{segments, leftAt, rightAt, segmentFor, gimpSegment, offDomain, gimpColour};
+ghost use Rattle.paint.specs.Unchecked.{Cut, inOrder, Orderly, strictlyInside, Peeked, Written};
 
 // With fewer segments than this the search is as quick as a guess.
 const MANY: usize = 32;
 
-// A segment, while points lie in it.
-struct Held {
-    left: f32,
-    right: f32,
-    middle: f32,
-    blending: u8,
-    p: Rgba,
-    q: Rgba,
-}
-
 // Whether the positions rise, from 0 or later to 1 or before.
 pub(crate) fn is_orderly(positions: &[f32]) -> bool
-    ensures { λ r. ⌜ (r ≡ true → Orderly (now (positions .entry))) ⌝ }
+    ensures { λ r. ⌜ r ≡ inOrder (now (positions .entry)) ⌝ }
 {
     let n = positions.len();
     if n < 3 {
@@ -70,10 +59,11 @@ fn guess(positions: &[f32], t: f32) -> usize
     base
 }
 
-// t lies past the left end of segment i and before its right end: two answers, weighed as one number.
+// Whether t lies inside segment i. Each of two answers is 1 or 0, and n times their sum is above n + i, where i is less than
+// n, just where both are 1: one comparison, so that no branch has to be guessed.
 fn is_inside(positions: &[f32], i: usize, t: f32) -> bool
     requires { ⌜ i < segments (now positions) ⌝ }
-    ensures { λ r. ⌜ r ≡ (lt (leftAt (now (positions .entry)) i) t && lt t (rightAt (now (positions .entry)) i)) ⌝ }
+    ensures { λ r. ⌜ r ≡ strictlyInside (leftAt (now (positions .entry)) i) (rightAt (now (positions .entry)) i) t ⌝ }
 {
     let n = positions.len();
     let at = 3 * i;
@@ -97,48 +87,27 @@ fn find_segment(positions: &[f32], t: f32, orderly: bool) -> usize
     gimp::find_segment(positions, t)
 }
 
-fn hold(positions: &[f32], channels: &[f32], codes: &[u8], i: usize) -> Held
+// Segment i. `gradient` reads one too, from any slices at all; this reading makes none of its tests, since it is done again
+// at each point that has left its segment.
+fn hold(positions: &[f32], channels: &[f32], codes: &[u8], i: usize) -> Segment
     requires { ⌜ Cut (now positions) (now channels) (now codes) × (i < segments (now positions)) ⌝ }
-    ensures { λ r. ⌜ r ≡ heldOf (now (positions .entry)) (now (channels .entry)) (now (codes .entry)) i ⌝ }
+    ensures { λ r. ⌜ r ≡ gimpSegment (now (positions .entry)) (now (channels .entry)) (now (codes .entry)) i ⌝ }
 {
-    let left = positions[3 * i];
-    let right = positions[3 * i + 2];
-    let at = 8 * i;
-    Held {
-        left,
-        right,
-        middle: gimp::place_along(left, right, positions[3 * i + 1]),
+    let lcolor = colour(channels, 2 * i);
+    let rcolor = colour(channels, 2 * i + 1);
+    Segment {
+        left: positions[3 * i],
+        middle: positions[3 * i + 1],
+        right: positions[3 * i + 2],
+        lcolor,
+        rcolor,
         blending: codes[2 * i],
-        p: Rgba {
-            r: channels[at],
-            g: channels[at + 1],
-            b: channels[at + 2],
-            a: channels[at + 3],
-        },
-        q: Rgba {
-            r: channels[at + 4],
-            g: channels[at + 5],
-            b: channels[at + 6],
-            a: channels[at + 7],
-        },
+        colouring: codes[2 * i + 1],
     }
 }
 
-// The held segment's colour at a place. It has one caller, so that the compiler puts it into the loop.
-fn shade(h: Held, place: f32) -> Rgba
-    ensures { λ r. ⌜ r ≡ blended (h .blending) (h .p) (h .q) (h .middle) place ⌝ }
-{
-    if h.blending == gimp::STEP {
-        if place >= h.middle {
-            return h.q;
-        }
-        return h.p;
-    }
-    let f = gimp::bend(h.blending, gimp::calc_linear_factor(h.middle, place));
-    utils::interpolate_linear(h.p, h.q, f)
-}
-
-// Point j where it comes before the end, and else something else.
+// Point j, or, where the points that may be painted end before it, the number given for it. So that the loop below can look
+// one point ahead without a branch of its own: it gives the left end of the segment, which does not lie inside it.
 fn point_or(ts: &[f32], j: usize, end: usize, other: f32) -> f32
     requires { ⌜ end ≤ length (now ts) ⌝ }
     ensures { λ r. ⌜ Peeked (now (ts .entry)) j end other r ⌝ }
@@ -149,8 +118,9 @@ fn point_or(ts: &[f32], j: usize, end: usize, other: f32) -> f32
     other
 }
 
+// The same test as `is_inside`, branched: of points in order nearly every one lies inside, so the branch is guessed rightly.
 fn is_strictly_inside(left: f32, right: f32, t: f32) -> bool
-    ensures { λ r. ⌜ r ≡ (lt left t && lt t right) ⌝ }
+    ensures { λ r. ⌜ r ≡ strictlyInside left right t ⌝ }
 {
     if left < t {
         return t < right;
@@ -174,18 +144,19 @@ fn paint_held(
     requires { ⌜ (start < end) × (s ≡ segmentFor (now positions) (getD (now ts) start nan)) × (offDomain (getD (now ts) start nan) ≡ false) ⌝ }
     ensures { λ r. ⌜ Written (gimpColour (now (positions .entry)) (now (channels .entry)) (now (codes .entry))) (now (ts .entry)) start r (now (out .entry)) (now (out .exit)) ⌝ }
 {
-    let h = hold(positions, channels, codes, s);
+    let g = hold(positions, channels, codes, s);
+    let pivot = gimp::place_along(g.left, g.right, g.middle);
     let mut i = start;
-    let mut place = gimp::place_along(h.left, h.right, ts[start]);
+    let mut place = gimp::place_along(g.left, g.right, ts[start]);
     let mut on = true;
     while on {
-        let t = point_or(ts, i + 1, end, h.left);
-        let ahead = gimp::place_along(h.left, h.right, t);
-        let c = shade(h, place);
+        let t = point_or(ts, i + 1, end, g.left);
+        let ahead = gimp::place_along(g.left, g.right, t);
+        let c = gimp::blend(g, pivot, place);
         put(out, 4 * i, c);
         i += 1;
         place = ahead;
-        on = is_strictly_inside(h.left, h.right, t);
+        on = is_strictly_inside(g.left, g.right, t);
     }
     i
 }

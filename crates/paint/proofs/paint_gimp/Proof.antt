@@ -1,7 +1,7 @@
 -- `paint_gimp` meets its contract. The invariant: the colours of the first i points, and the rest as it was. Assumes nothing.
 use borrow.Author.Needs.{needs}
-use mathlib.Core.Path.{_≡_, refl, _∙_}
-use mathlib.Core.List.{List, _++_}
+use mathlib.Core.Path.{_≡_, refl, sym, _∙_}
+use mathlib.Core.List.{_++_}
 use Prim.Native.Nat.{_-_, _*_, _≤_}
 use native.Mathlib.Omega.{arith}
 use denote.Ref.{now}
@@ -9,6 +9,7 @@ use lib.ListN.{length, take, drop}
 use Rattle.gradient.specs.Gimp.{gimpColour}
 use Rattle.paint.specs.Canvas.{colours}
 use Rattle.paint.proofs.Filling.{colours-done}
+use Rattle.paint.proofs.Orders.{in-order}
 use Rattle.paint.proofs.paint_gimp.Statement.{statement}
 use Rattle.paint.proofs.paint_gimp.Tie as tie
 
@@ -30,7 +31,7 @@ paint-on-requires c κs =
     let l = c .before .before in
     let o = l .before in
     let s = o .before .before .before .before .before .before in
-    ((s .pre .0, omega (arith, l .loop .inv .1, s .pre .1), o .is-orderly .ensures), c .before .loop-test .taken)
+    ((s .pre .0, omega (arith, l .loop .inv .1, s .pre .1), λ e. in-order _ (sym (o .is-orderly .ensures) ∙ e)), c .before .loop-test .taken)
 
 loop-less : tie.Need-loop-less Inv-loop μ-loop
 loop-less c = let w = c .before .before .paint-on .ensures in let h = w .on in let k = w .within in omega arith

@@ -1,35 +1,17 @@
--- `segments::is_orderly` meets its contract: finite positions that do not fall, and the ends in the domain. Assumes nothing.
-use mathlib.Core.Path.{_≡_, refl, sym, _∙_}
-use mathlib.Core.Bool.{true, false, true≢false}
-use native.Mathlib.Omega.{arith}
-use Prim.Native.Nat.{_-_}
-use denote.Ref.{now}
-use lib.ListN.{length}
-use lib.Ieee.{inf, isNan, ofBits}
-use Rattle.float.specs.F32.{f0, f1}
-use Rattle.float.proofs.Order.{no-nan-l, not-lt→le}
-use Rattle.stops.specs.Stops.{posAt}
-use Rattle.gradient.proofs.SharpValid.{steady-rising}
+-- `segments::is_orderly` meets its contract, test by test. Assumes nothing.
+use Rattle.paint.proofs.Orders.{too-few, below, above, by-steps}
 use borrow.Author.Needs.{needs}
 use Rattle.paint.proofs.segments.is_orderly.Statement.{statement}
 use Rattle.paint.proofs.segments.is_orderly.Tie as tie
 
-zero-is : isNan f0 ≡ false
-unfolding isNan ofBits
-zero-is = refl
-
-one-is : isNan f1 ≡ false
-unfolding isNan ofBits
-one-is = refl
-
 returns : tie.Need-returns
-returns c = λ e. absurd (true≢false (sym e))
+returns c = too-few _ (c .if1 .taken)
 
 shared-slice-read-if2 : tie.Need-shared-slice-read-if2
 shared-slice-read-if2 c = search needs
 
 returns-2 : tie.Need-returns-2
-returns-2 c = λ e. absurd (true≢false (sym e))
+returns-2 c = below _ (c .before .before .if1 .left) (c .if2 .taken)
 
 sub-if3 : tie.Need-sub-if3
 sub-if3 c = search needs
@@ -41,7 +23,7 @@ shared-slice-read-if3 : tie.Need-shared-slice-read-if3
 shared-slice-read-if3 c = search needs
 
 returns-3 : tie.Need-returns-3
-returns-3 c = λ e. absurd (true≢false (sym e))
+returns-3 c = let e2 = c .before .before in above _ (e2 .before .before .if1 .left) (e2 .if2 .left) (c .if3 .taken)
 
 sub-is-steady : tie.Need-sub-is-steady
 sub-is-steady c = search needs
@@ -59,16 +41,7 @@ returns-4 : tie.Need-returns-4
 returns-4 c =
     let e3 = c .before .before in
     let e2 = e3 .before .before in
-    let s = e2 .before .before .before .before in
-    let ps = now (s .args .positions) in
-    let last = length ps - 1 in
-    λ e.
-    let rises = steady-rising _ (inf true) ps (sym (c .is-steady .ensures) ∙ e) in
-    record {
-      rising = rises;
-      low = not-lt→le (posAt ps 0) f0 (no-nan-l (posAt ps 0) (posAt ps 0) (rises 0 0 (omega arith) (omega arith))) zero-is (e2 .if2 .left);
-      high = not-lt→le f1 (posAt ps last) one-is (no-nan-l (posAt ps last) (posAt ps last) (rises last last (omega arith) (omega arith))) (e3 .if3 .left);
-    }
+    by-steps _ (e2 .before .before .if1 .left) (e2 .if2 .left) (e3 .if3 .left) (c .is-steady .ensures)
 
 pub is-orderly-spec : {M : Type 1} → statement M
 is-orderly-spec =
