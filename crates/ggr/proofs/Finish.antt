@@ -9,7 +9,7 @@ use lib.Ieee.{Float}
 use Rattle.refusals.specs.Limits.{mostSegments}
 use Rattle.float.specs.F32.{f0}
 use Rattle.blend.specs.declared.Rgba.{Rgba}
-use Rattle.ggr.specs.declared.segment.Segment.{Segment}
+use Rattle.gradient.specs.declared.gimp.Segment.{Segment}
 use Rattle.ggr.specs.declared.Answer.{Answer}
 use Rattle.ggr.specs.declared.Answer.the-variants.{Read, Refused}
 use Rattle.ggr.specs.declared.header.Lead.{Lead}

@@ -13,7 +13,7 @@ use Rattle.blend.specs.declared.Rgba.{Rgba}
 use Rattle.stops.specs.Stops.{finiteRgba}
 use Rattle.text.specs.declared.digits.Digits.{Digits}
 use Rattle.text.specs.declared.digits.Digits.the-variants.{Bad, Is}
-use Rattle.ggr.specs.declared.segment.Segment.{Segment}
+use Rattle.gradient.specs.declared.gimp.Segment.{Segment}
 use Rattle.ggr.specs.declared.segment.SegmentRead.{SegmentRead}
 use Rattle.ggr.specs.declared.segment.SegmentRead.the-variants.{Valid, Invalid, NotCarried}
 use Rattle.ggr.specs.declared.Answer.{Answer}

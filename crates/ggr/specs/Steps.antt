@@ -11,7 +11,7 @@ use Rattle.float.specs.F32.{f0}
 use Rattle.blend.specs.declared.Rgba.{Rgba}
 use Rattle.ggr.specs.declared.header.Lead.{Lead}
 use Rattle.ggr.specs.declared.header.Lead.the-variants.{Counted, Refuse}
-use Rattle.ggr.specs.declared.segment.Segment.{Segment}
+use Rattle.gradient.specs.declared.gimp.Segment.{Segment}
 use Rattle.ggr.specs.declared.segment.SegmentRead.{SegmentRead}
 use Rattle.ggr.specs.declared.segment.SegmentRead.the-variants.{Valid}
 use Rattle.ggr.specs.declared.Answer.{Answer}

@@ -2,10 +2,10 @@
 use super::Answer;
 use super::header::Lead;
 use super::header::header;
-use super::segment::Segment;
 use super::segment::SegmentRead;
 use super::segment::segment_at;
 use blend::Rgba;
+use gradient::gimp::Segment;
 use refusals::BAD_SEGMENT;
 use refusals::FEW_LINES;
 use refusals::MOST_TEXT;

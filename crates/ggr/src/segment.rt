@@ -1,29 +1,12 @@
 // A segment line: its numbers, and the segment that they make.
 use blend::Rgba;
 use gradient::gimp;
+use gradient::gimp::Segment;
 use text::rows::Parting;
 use text::rows::row_at;
 ghost use mathlib.Core.Path.{_≡_};
 ghost use Rattle.ggr.specs.Segment.{codeOf, validCodes, withoutAlpha, colourOf, build};
 ghost use Rattle.ggr.specs.Steps.{segmentLength, SegmentAt};
-
-// Blending codes that are not carried.
-const CURVED: u8 = 1;
-
-const SINUSOIDAL: u8 = 2;
-
-// The colouring code that is.
-const RGB: u8 = 0;
-
-pub struct Segment {
-    pub left: f32,
-    pub middle: f32,
-    pub right: f32,
-    pub lcolor: Rgba,
-    pub rcolor: Rgba,
-    pub blending: u8,
-    pub colouring: u8,
-}
 
 pub enum SegmentRead {
     Valid(Segment),

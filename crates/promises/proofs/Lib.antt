@@ -10,7 +10,7 @@ pub mod Gradient
 pub mod Ggr
 pub mod Linearize
 pub mod Refresh
-pub mod Colorgrad
+pub mod Paint
 pub mod Desk
 pub mod Face
 pub mod Spelling
