@@ -4,7 +4,6 @@ mod Rows
 mod Inputs
 pub mod Making
 pub mod Fits
-mod Finite
 mod Plain
 mod Heads
 pub mod EditedText

@@ -77,10 +77,6 @@ listText n evaluations ps cs = stopsWord ++ (countText n ++ (evaluationsWord ++ 
 
 -- ---- what the functions within promise
 
--- no text is longer
-abbrev pub mostText : ℕ
-mostText = 65536
-
 -- the text is written from `at` on, as far as the output goes, and the next one starts at r
 pub record Puts (out out′ : List ℕ) (at : ℕ) (text : List ℕ) (r : ℕ) : Type 0 where
   pub next : r ≡ at + length text

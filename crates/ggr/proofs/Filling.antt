@@ -11,14 +11,14 @@ use lib.Ieee.{Float}
 use Rattle.refusals.specs.Refusals.{badSegment, fewLines, notCarried}
 use Rattle.float.specs.F32.{f0}
 use Rattle.blend.specs.declared.Rgba.{Rgba}
-use Rattle.ggr.specs.declared.segment.Segment.{Segment}
+use Rattle.gradient.specs.declared.gimp.Segment.{Segment}
 use Rattle.ggr.specs.declared.segment.SegmentRead.{SegmentRead}
 use Rattle.ggr.specs.declared.segment.SegmentRead.the-variants.{Valid, Invalid, NotCarried}
 use Rattle.ggr.specs.declared.Answer.the-variants.{Read, Refused}
-use Rattle.ggr.specs.Text.{lines, restOf}
+use Rattle.text.specs.Text.{lines, restOf}
 use Rattle.ggr.specs.File.{Outcome, found, refused, addSegment, segments, answerOf, positionsOf, channelsOf, codesOf, flat, written}
 use Rattle.ggr.specs.Steps.{SegmentAt, Filled}
-use Rattle.ggr.proofs.Leads.{no-lines, some-lines}
+use Rattle.text.proofs.Lines.{no-lines, some-lines}
 
 -- ---- items one after the other
 module _ {A : Type 0} (f : Segment → List A) (w : ℕ) (each : (g : Segment) → length (f g) ≡ w) where

@@ -4,26 +4,20 @@ use native.Mathlib.Omega.{arith}
 use mathlib.Core.Path.{_≡_, refl, sym, ap, _∙_}
 use mathlib.Core.Bool.{Bool, true, false, cond}
 use mathlib.Core.List.{List, [], _∷_}
-use lib.ListN.{length, take, drop, drop-of-length-le, length-drop}
+use lib.ListN.{length, take, drop}
 use borrow.Author.Tests.{le-leb, lt-leb}
 use Rattle.refusals.specs.Refusals.{badHeader, noSegment, tooManySegments}
 use Rattle.refusals.specs.Limits.{mostSegments}
 use Rattle.blend.specs.declared.Rgba.{Rgba}
-use Rattle.ggr.specs.declared.text.Count.{Count}
-use Rattle.ggr.specs.declared.text.Count.the-variants.{Bad, Is}
+use Rattle.text.specs.declared.digits.Digits.{Digits}
+use Rattle.text.specs.declared.digits.Digits.the-variants.{Bad, Is}
 use Rattle.ggr.specs.declared.header.Lead.{Lead}
 use Rattle.ggr.specs.declared.header.Lead.the-variants.{Counted, Refuse}
-use Rattle.ggr.specs.Text.{unmark, lines, firstOf, restOf, orEmpty, textLines, same, starts, countOf}
-use Rattle.ggr.specs.File.{Outcome, refused, segments, fromCount, counted, fromThird, fromSecond, fromLines, title, nameTag}
-use Rattle.ggr.specs.Steps.{leads, leadFits, LeadsTo, LineAt}
-use Rattle.ggr.proofs.Lines.{lines-some}
-
-pub no-lines : (s : List ℕ) (at : ℕ) → length s ≤ at → lines (drop at s) ≡ []
-unfolding lines
-no-lines s at h = ap lines (drop-of-length-le s h)
-
-pub some-lines : (s : List ℕ) (at : ℕ) → at < length s → lines (drop at s) ≡ firstOf (lines (drop at s)) ∷ restOf (lines (drop at s))
-some-lines s at h = lines-some (drop at s) (omega (arith, length-drop at s))
+use Rattle.text.specs.Text.{unmark, lines, firstOf, restOf, same, starts}
+use Rattle.text.specs.Places.{LineAt}
+use Rattle.ggr.specs.File.{orEmpty, textLines, countOf, Outcome, refused, segments, fromCount, counted, fromThird, fromSecond, fromLines, title, nameTag}
+use Rattle.ggr.specs.Steps.{leads, leadFits, LeadsTo}
+use Rattle.text.proofs.Lines.{no-lines, some-lines}
 
 some-count : (n : ℕ) → (n ≡ 0 → ⊥) → (fg bg : Rgba) (ls : List (List ℕ)) → fromCount fg bg n ls ≡ segments fg bg n 4 ls
 unfolding fromCount
@@ -39,10 +33,10 @@ module _ (s : List ℕ) (at room : ℕ) where
   unfolding fromThird leads leadFits
   third-end h = record { fits = tt; same = λ fg bg. ap (fromThird room fg bg) (no-lines s at h) }
 
-  module _ (h : at < length s) (end next : ℕ) (w : LineAt s at end next) (k : Count) (q : k ≡ countOf (take (end - at) (drop at s))) where
+  module _ (h : at < length s) (end next : ℕ) (w : LineAt s at end next) (k : Digits) (q : k ≡ countOf (take (end - at) (drop at s))) where
     by : (fg bg : Rgba) → third fg bg ≡ counted room fg bg k (restOf (lines (drop at s)))
     unfolding fromThird
-    by fg bg = ap (fromThird room fg bg) (some-lines s at h) ∙ ap (λ (c : Count). counted room fg bg c (restOf (lines (drop at s)))) (sym (q ∙ ap countOf (w .first)))
+    by fg bg = ap (fromThird room fg bg) (some-lines s at h) ∙ ap (λ (c : Digits). counted room fg bg c (restOf (lines (drop at s)))) (sym (q ∙ ap countOf (w .first)))
 
     pub third-bad : k ≡ Bad → LeadsTo room third (Refuse badHeader 3) s
     unfolding counted leads leadFits

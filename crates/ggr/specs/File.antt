@@ -11,17 +11,32 @@ use Rattle.refusals.specs.Limits.{mostSegments, mostText}
 use Rattle.float.specs.F32.{f0}
 use Rattle.blend.specs.declared.Rgba.{Rgba}
 use Rattle.stops.specs.Stops.{finiteRgba}
-use Rattle.ggr.specs.declared.text.Count.{Count}
-use Rattle.ggr.specs.declared.text.Count.the-variants.{Bad, Is}
-use Rattle.ggr.specs.declared.segment.Segment.{Segment}
+use Rattle.text.specs.declared.digits.Digits.{Digits}
+use Rattle.text.specs.declared.digits.Digits.the-variants.{Bad, Is}
+use Rattle.gradient.specs.declared.gimp.Segment.{Segment}
 use Rattle.ggr.specs.declared.segment.SegmentRead.{SegmentRead}
 use Rattle.ggr.specs.declared.segment.SegmentRead.the-variants.{Valid, Invalid, NotCarried}
 use Rattle.ggr.specs.declared.Answer.{Answer}
 use Rattle.ggr.specs.declared.Answer.the-variants.{Read, Refused}
-use Rattle.ggr.specs.Text.{every, ascii, unmark, textLines, firstOf, restOf, same, starts, trim, countOf}
+use Rattle.text.specs.Digits.{digitsOf}
+use Rattle.text.specs.Text.{every, ascii, unmark, lines, firstOf, restOf, same, starts, trim}
 use Rattle.ggr.specs.Segment.{segmentOf}
 
--- what a file holds, or the number of a refusal and its line, 0 if none
+-- ---- the lines of a file: those after its marks; marks alone leave an empty line 1
+
+unfoldable pub orEmpty : List (List ℕ) → List (List ℕ)
+orEmpty [] = [] ∷ []
+orEmpty (l ∷ ls) = l ∷ ls
+
+unfoldable pub textLines : List ℕ → List (List ℕ)
+textLines [] = []
+textLines (b ∷ s) = orEmpty (lines (unmark (b ∷ s)))
+
+-- the count of line 3 is digits alone, up to 2^64 - 1
+abbrev pub countOf : List ℕ → Digits
+countOf l = digitsOf l
+
+-- ---- what a file holds, or the number of a refusal and its line, 0 if none
 pub data Outcome : Type 0 where
   found : List Segment → Outcome
   refused : ℕ → ℕ → Outcome
@@ -47,7 +62,7 @@ unfoldable pub fromCount : Rgba → Rgba → ℕ → List (List ℕ) → Outcome
 fromCount fg bg zero ls = refused noSegment 4
 fromCount fg bg (suc n) ls = segments fg bg (suc n) 4 ls
 
-unfoldable pub counted : ℕ → Rgba → Rgba → Count → List (List ℕ) → Outcome
+unfoldable pub counted : ℕ → Rgba → Rgba → Digits → List (List ℕ) → Outcome
 counted room fg bg Bad ls = refused badHeader 3
 counted room fg bg (Is n) ls = cond (leb n mostSegments && leb n room) (fromCount fg bg n ls) (refused tooManySegments 3)
 

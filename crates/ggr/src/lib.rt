@@ -12,7 +12,6 @@ ghost use Rattle.ggr.specs.File.{Done, fileOf, roomOf, nameOf};
 mod fill;
 mod header;
 mod segment;
-pub mod text;
 
 // How many segments were read, or document 01's number of the refusal and its line, 0 if none.
 pub enum Answer {
