@@ -38,8 +38,10 @@ module _ (ramp : Ramp) (e : Edit) (ok : Allowed ramp e) (asked : Float) where
   pub fresh-renewed : renewed ramp e asked (fresh ramp asked) ≡ fresh (edited ramp e) asked
   unfolding renewed fresh
   fresh-renewed =
-      rw (refreshed-rows (colourOf ramp) (colourOf (edited ramp e)) (farOf asked) (away ramp e) agree (minOf ramp) (maxOf ramp),
-      refreshed-counts (colourOf ramp) (colourOf (edited ramp e)) (farOf asked) (away ramp e) agree (minOf ramp) (maxOf ramp))
+      rw (
+        refreshed-rows (colourOf ramp) (colourOf (edited ramp e)) (farOf asked) (away ramp e) agree (minOf ramp) (maxOf ramp),
+        refreshed-counts (colourOf ramp) (colourOf (edited ramp e)) (farOf asked) (away ramp e) agree (minOf ramp) (maxOf ramp),
+      )
 
 -- a record that a sampling left passes the check of a refresh whose edit passes
 module _ (ramp : Ramp) (e : Edit) (asked : Float) (was : Held) (fine : heldCheck ramp was ≡ checked.Fine) (edit : editCheck ramp e ≡ checked.Fine) where
