@@ -87,8 +87,8 @@ fn find_segment(positions: &[f32], t: f32, orderly: bool) -> usize
     gimp::find_segment(positions, t)
 }
 
-// Segment i. `gradient` reads one too, from any slices at all; this reading makes none of its tests, since it is done again
-// at each point that has left its segment.
+// Segment i. `gradient` reads the same segment from any slices at all; this reading makes none of its tests, because it is
+// done anew at each point that has left its segment.
 fn hold(positions: &[f32], channels: &[f32], codes: &[u8], i: usize) -> Segment
     requires { ⌜ Cut (now positions) (now channels) (now codes) × (i < segments (now positions)) ⌝ }
     ensures { λ r. ⌜ r ≡ gimpSegment (now (positions .entry)) (now (channels .entry)) (now (codes .entry)) i ⌝ }
@@ -106,8 +106,8 @@ fn hold(positions: &[f32], channels: &[f32], codes: &[u8], i: usize) -> Segment
     }
 }
 
-// Point j, or, where the points that may be painted end before it, the number given for it. So that the loop below can look
-// one point ahead without a branch of its own: it gives the left end of the segment, which does not lie inside it.
+// Point j, or the other number where j is past the points that may be painted. The loop below looks one point ahead, past
+// the last one too: the left end of its segment, which does not lie inside it, then ends it by the one test that it makes.
 fn point_or(ts: &[f32], j: usize, end: usize, other: f32) -> f32
     requires { ⌜ end ≤ length (now ts) ⌝ }
     ensures { λ r. ⌜ Peeked (now (ts .entry)) j end other r ⌝ }
