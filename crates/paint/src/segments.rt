@@ -34,6 +34,14 @@ pub(crate) fn is_orderly(positions: &[f32]) -> bool
     sharp::is_steady(positions, positions[n - 1])
 }
 
+// 1 where t lies past the left end of segment i, else 0.
+fn past(positions: &[f32], i: usize, t: f32) -> usize
+    requires { ⌜ i < segments (now positions) ⌝ }
+    ensures { λ r. ⌜ r ≤ 1 ⌝ }
+{
+    stops::below(positions[3 * i], t)
+}
+
 // About the segment that t lies in; which one it is, is not promised. No branch has to be guessed.
 fn guess(positions: &[f32], t: f32) -> usize
     requires { ⌜ 1 ≤ segments (now positions) ⌝ }
@@ -43,18 +51,17 @@ fn guess(positions: &[f32], t: f32) -> usize
     let mut left = positions.len() / 3;
     while 3 < left {
         let part = left / 4;
-        let a = stops::below(positions[3 * (base + part)], t);
-        let b = stops::below(positions[3 * (base + 2 * part)], t);
-        let c = stops::below(positions[3 * (base + 3 * part)], t);
+        let a = past(positions, base + part, t);
+        let b = past(positions, base + 2 * part, t);
+        let c = past(positions, base + 3 * part, t);
         base += part * (a + b + c);
         left -= 3 * part;
     }
     if 2 < left {
-        let d = stops::below(positions[3 * (base + 1)], t);
-        return base + d + stops::below(positions[3 * (base + 2)], t);
+        return base + past(positions, base + 1, t) + past(positions, base + 2, t);
     }
     if 1 < left {
-        return base + stops::below(positions[3 * (base + 1)], t);
+        return base + past(positions, base + 1, t);
     }
     base
 }
