@@ -1,6 +1,7 @@
 -- Laws that belong to no one function.
 mod Texts
 mod Rows
+mod Others
 mod Inputs
 pub mod Making
 pub mod Fits

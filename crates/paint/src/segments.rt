@@ -34,6 +34,14 @@ pub(crate) fn is_orderly(positions: &[f32]) -> bool
     sharp::is_steady(positions, positions[n - 1])
 }
 
+// 1 where t lies past the left end of segment i, else 0.
+fn past(positions: &[f32], i: usize, t: f32) -> usize
+    requires { ⌜ i < segments (now positions) ⌝ }
+    ensures { λ r. ⌜ r ≤ 1 ⌝ }
+{
+    stops::below(positions[3 * i], t)
+}
+
 // About the segment that t lies in; which one it is, is not promised. No branch has to be guessed.
 fn guess(positions: &[f32], t: f32) -> usize
     requires { ⌜ 1 ≤ segments (now positions) ⌝ }
@@ -43,18 +51,17 @@ fn guess(positions: &[f32], t: f32) -> usize
     let mut left = positions.len() / 3;
     while 3 < left {
         let part = left / 4;
-        let a = stops::below(positions[3 * (base + part)], t);
-        let b = stops::below(positions[3 * (base + 2 * part)], t);
-        let c = stops::below(positions[3 * (base + 3 * part)], t);
+        let a = past(positions, base + part, t);
+        let b = past(positions, base + 2 * part, t);
+        let c = past(positions, base + 3 * part, t);
         base += part * (a + b + c);
         left -= 3 * part;
     }
     if 2 < left {
-        let d = stops::below(positions[3 * (base + 1)], t);
-        return base + d + stops::below(positions[3 * (base + 2)], t);
+        return base + past(positions, base + 1, t) + past(positions, base + 2, t);
     }
     if 1 < left {
-        return base + stops::below(positions[3 * (base + 1)], t);
+        return base + past(positions, base + 1, t);
     }
     base
 }
@@ -87,8 +94,8 @@ fn find_segment(positions: &[f32], t: f32, orderly: bool) -> usize
     gimp::find_segment(positions, t)
 }
 
-// Segment i. `gradient` reads one too, from any slices at all; this reading makes none of its tests, since it is done again
-// at each point that has left its segment.
+// Segment i. `gradient` reads the same segment from any slices at all; this reading makes none of its tests, because it is
+// done anew at each point that has left its segment.
 fn hold(positions: &[f32], channels: &[f32], codes: &[u8], i: usize) -> Segment
     requires { ⌜ Cut (now positions) (now channels) (now codes) × (i < segments (now positions)) ⌝ }
     ensures { λ r. ⌜ r ≡ gimpSegment (now (positions .entry)) (now (channels .entry)) (now (codes .entry)) i ⌝ }
@@ -106,8 +113,8 @@ fn hold(positions: &[f32], channels: &[f32], codes: &[u8], i: usize) -> Segment
     }
 }
 
-// Point j, or, where the points that may be painted end before it, the number given for it. So that the loop below can look
-// one point ahead without a branch of its own: it gives the left end of the segment, which does not lie inside it.
+// Point j, or the other number where j is past the points that may be painted. The loop below looks one point ahead, past
+// the last one too: the left end of its segment, which does not lie inside it, then ends it by the one test that it makes.
 fn point_or(ts: &[f32], j: usize, end: usize, other: f32) -> f32
     requires { ⌜ end ≤ length (now ts) ⌝ }
     ensures { λ r. ⌜ Peeked (now (ts .entry)) j end other r ⌝ }
