@@ -2,7 +2,7 @@
 use mathlib.Core.Path.{_≡_, refl, sym, ap, _∙_, subst}
 use mathlib.Core.Bool.{Bool}
 use mathlib.Core.List.{List}
-use Prim.Native.Nat.{ℕ, _*_, _≤_}
+use Prim.Native.Nat.{ℕ, zero, suc, _+_, _*_, _≤_}
 use native.Mathlib.Omega.{arith}
 use lib.ListN.{length}
 use lib.Ieee.{Float}
@@ -14,15 +14,17 @@ use Rattle.gradient.specs.Ramp.{minOf, maxOf, colourOf, anyColour}
 use Rattle.gradient.proofs.Same.{same-function}
 use Rattle.linearize.specs.Constants.{cells}
 use Rattle.linearize.specs.Midpoints.{Gradient, Far}
+use Rattle.linearize.specs.Places.{listOf}
 use Rattle.linearize.specs.Kept.{keptOf, refusalOf, listEvaluations}
 use Rattle.linearize.specs.Lent.{Held, Output, heldOf}
-use Rattle.linearize.specs.Desk.{farOf, withSampling, thinCheck, pointsIn, room, thinOutput}
-use Rattle.linearize.specs.Promises.{Thins}
+use Rattle.linearize.specs.Desk.{evaluationsOfListed, valueBy, farOf, withSampling, thinCheck, pointsIn, room, thinOutput}
+use Rattle.linearize.specs.Promises.{Ready, Thins}
 use Rattle.linearize.specs.declared.Listed.{Listed}
 use Rattle.linearize.specs.declared.Listed.the-variants as listed
 use Rattle.linearize.proofs.Checks.{ready, ready-counts}
 use Rattle.linearize.proofs.Answers.{tells, added}
-use Rattle.linearize.proofs.Bounds.{summed-most}
+use Rattle.linearize.proofs.Bounds.{summed-most, list-bound}
+use Rattle.linearize.proofs.Following.{list-some, list-most}
 use Rattle.refresh.specs.Stretch.{reachOf, outsideOf}
 use Rattle.refresh.specs.Edit.{edited}
 use Rattle.refresh.specs.Anew.{Domain, anewTries, anewEvaluations, RecordAnew}
@@ -70,6 +72,13 @@ module _ (ramp : Ramp) (e : Edit) (asked : Float) where
         let d = anew-of copy far lo hi n c p q r w in
         record { answer = rw (h, d .tried); number = rw h; evaluations = rw (h, d .tried); left = renewed-is n d ∙ rw h }
 
+-- a refresh tells 13,716 evaluations at most
+pub new-most : (ramp : Ramp) (e : Edit) (asked : Float) → newEvaluations ramp e asked ≤ 13716
+unfolding newEvaluations anewEvaluations
+new-most ramp e asked =
+    let g = colourOf (edited ramp e) in
+    omega (arith, summed-most (anewTries g (farOf asked) (away ramp e) (minOf ramp) (maxOf ramp)) cells (anew-tries-most g (farOf asked) (away ramp e) (minOf ramp) (maxOf ramp)))
+
 -- ---- what a refresh told
 fine-of : (check : Checked) (m n : ℕ) → onFine check (refreshed.Done m) refreshed.Refused ≡ refreshed.Done n → check ≡ checked.Fine
 fine-of checked.Fine m n h = refl
@@ -86,15 +95,8 @@ fine-most (checked.Refused k) n most h = omega arith
 module _ (ramp : Ramp) (e : Edit) (asked : Float) (held : Change Held) (r : Refreshed) (w : Refreshes ramp e asked held r) where
   -- 13,716 evaluations at most
   pub refresh-most : evaluationsOfRefreshed r ≤ 13716
-  unfolding refreshEvaluations newEvaluations anewEvaluations
-  refresh-most =
-      let t = anewTries (colourOf (edited ramp e)) (farOf asked) (away ramp e) (minOf ramp) (maxOf ramp) in
-      omega (
-        arith,
-        w .evaluations,
-        fine-most (refreshCheck ramp e (held .entry)) (newEvaluations ramp e asked) 13716
-            (omega (arith, summed-most t cells (anew-tries-most (colourOf (edited ramp e)) (farOf asked) (away ramp e) (minOf ramp) (maxOf ramp)))),
-      )
+  unfolding refreshEvaluations
+  refresh-most = omega (arith, w .evaluations, fine-most (refreshCheck ramp e (held .entry)) (newEvaluations ramp e asked) 13716 (new-most ramp e asked))
 
   module _ (n : ℕ) (done : r ≡ refreshed.Done n) where
     pub done-fine : refreshCheck ramp e (held .entry) ≡ checked.Fine
@@ -140,3 +142,35 @@ module _ (ramp : Ramp) (e : Edit) (asked : Float) (held : Change Held) (r : Refr
         left = w .left;
         output = t .output ∙ rw (p, h, s .0);
       }
+
+-- ---- 13,716 + 18,430 evaluations at most for a refresh and its list
+value-most : (check : Checked) (k n most : ℕ) → (check ≡ checked.Fine → n ≤ most) → valueBy check k n ≤ most
+value-most checked.Fine zero n most h = h refl
+value-most checked.Fine (suc k) n most h = omega arith
+value-most (checked.Refused r) k n most h = omega arith
+
+module _ (ramp : Ramp) (e : Edit) (asked : Float) (was : Held) where
+  -- the record once the edit is made may be thinned
+  pub renewed-thins : refreshCheck ramp e was ≡ checked.Fine → Ready (renewed ramp e asked was .rows) (renewed ramp e asked was .counts)
+  unfolding renewed
+  renewed-thins h =
+      renewed-ready (colourOf (edited ramp e)) (farOf asked) (away ramp e) (minOf ramp) (maxOf ramp) (was .rows) (was .counts) (ready ramp was (thin-fine ramp e was h)) _ _ _
+      (record { tried = refl; written = refl; counted = refl })
+
+  pub relist-most : refreshCheck ramp e was ≡ checked.Fine
+      → newEvaluations ramp e asked + listEvaluations (colourOf (edited ramp e)) (farOf asked) (pointsIn (edited ramp e) (renewed ramp e asked was)) ≤ 32146
+  relist-most h =
+      let is = renewed ramp e asked was in
+      let ok = renewed-thins h in
+      let hi = maxOf ramp in
+      omega (arith, new-most ramp e asked, list-bound (colourOf (edited ramp e)) (farOf asked) (listOf (is .rows) (is .counts) hi) (omega (arith, list-some (is .rows) (is .counts) hi ok)) (list-most (is .rows) (is .counts) hi ok))
+
+pub refresh-list-most : (ramp : Ramp) (e : Edit) (asked : Float) (held : Change Held) (out : Change Output) (r : Listed) → RefreshLists ramp e asked held out r → evaluationsOfListed r ≤ 32146
+refresh-list-most ramp e asked held out r w =
+    let g = colourOf (edited ramp e) in
+    let ts = pointsIn (edited ramp e) (renewed ramp e asked (held .entry)) in
+    omega (
+      arith,
+      w .told .evaluations,
+      value-most (refreshCheck ramp e (held .entry)) (refusalOf g (farOf asked) (room (out .entry)) ts) (newEvaluations ramp e asked + listEvaluations g (farOf asked) ts) 32146 (relist-most ramp e asked (held .entry)),
+    )
