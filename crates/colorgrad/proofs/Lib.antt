@@ -1,5 +1,1 @@
-pub mod Filling
-pub mod Painting
-pub mod Searching
-pub mod Hits
 pub mod Refreshing

@@ -1,5 +1,1 @@
-pub mod Answers
-pub mod Canvas
-pub mod Unchecked
-pub mod Promises
 pub mod Fresh

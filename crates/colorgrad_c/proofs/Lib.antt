@@ -1,4 +1,3 @@
 pub mod Coding
 pub mod Naming
-pub mod Listing
 pub mod Printing

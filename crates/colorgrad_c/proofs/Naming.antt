@@ -7,7 +7,7 @@ use borrow.Author.Tests.{lt-ltb, le-ltb}
 use lib.ListN.{length, take, drop}
 use lib.Seq.{take-length}
 use lib.Ieee.{Float}
-use Rattle.ggr.specs.File.{Outcome, Done, answerOf}
+use Rattle.ggr.specs.File.{Outcome, Done}
 use Rattle.ggr.specs.declared.Answer.{Answer}
 use Rattle.colorgrad_c.specs.Gimp.{named, readShown, Reads}
 use Rattle.colorgrad_c.specs.declared.gimp.GimpRead.{GimpRead}

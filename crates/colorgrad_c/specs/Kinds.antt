@@ -1,5 +1,6 @@
 -- The kinds of ramp by their codes. A code that names none is refused with 1, like a ramp of the wrong shape.
 use Prim.Native.Nat.{ℕ}
+use mathlib.Core.Path.{_≡_}
 use mathlib.Core.Bool.{cond}
 use lib.Dec.{eqb}
 use Rattle.stops.specs.declared.Kind.the-variants.{Linear, Smoothstep, Sharp, Basis, CatmullRom, Gimp}
@@ -16,11 +17,13 @@ kindOf code =
     (cond (eqb code 4) (Of CatmullRom)
     (cond (eqb code 5) (Of Gimp) Unknown)))))
 
-abbrev pub onKind : {A : Type 0} → Coded → (Kind → A) → A → A
+-- what is promised of an answer: for the kind of a code, and for a code that names none
+abbrev pub onKind : {A : Type 0} → Coded → (Kind → A → Type 0) → (A → Type 0) → A → Type 0
 onKind (Of kind) known unknown = known kind
 onKind Unknown known unknown = unknown
 
--- a promise for the kind of a code, and one for a code that names none
-abbrev pub onCode : Coded → (Kind → Type 0) → Type 0 → Type 0
-onCode (Of kind) known unknown = known kind
-onCode Unknown known unknown = unknown
+-- b shows an answer that is promised for the code
+pub record Shows {A B : Type 0} (code : ℕ) (known : Kind → A → Type 0) (unknown : A → Type 0) (show : A → B) (b : B) : Type 0 where
+  pub answer : A
+  pub promised : onKind (kindOf code) known unknown answer
+  pub shown : b ≡ show answer

@@ -1,8 +1,9 @@
 -- The answers of the calls on ramps as structs of plain fields, for a kind given by its code.
 use Prim.Native.Nat.{ℕ}
+use mathlib.Core.Path.{_≡_}
 use mathlib.Core.List.{List}
-use lib.ListN.{length}
 use lib.Ieee.{Float}
+use Rattle.refusals.specs.Refusals.{misshapen}
 use Rattle.float.specs.F32.{f0}
 use Rattle.stops.specs.declared.Kind.{Kind}
 use Rattle.stops.specs.declared.Checked.{Checked}
@@ -10,14 +11,14 @@ use Rattle.stops.specs.declared.Checked.the-variants as checked
 use Rattle.gradient.specs.Ramp.{checkOf, minOf, maxOf}
 use Rattle.gradient.specs.declared.sharp.Built.{Built}
 use Rattle.gradient.specs.Sharp.{numberOfBuilt, stopsOfBuilt}
-use Rattle.colorgrad.specs.Answers.{atAnswer, paintAnswer}
-use Rattle.colorgrad.specs.Canvas.{roomOf, canvas}
-use Rattle.colorgrad.specs.declared.Answer.{Answer}
-use Rattle.colorgrad.specs.declared.Answer.the-variants as answer
-use Rattle.colorgrad.specs.declared.Painted.{Painted}
-use Rattle.colorgrad.specs.declared.Painted.the-variants as painted
-use Rattle.colorgrad_c.specs.Kinds.{onKind}
-use Rattle.colorgrad_c.specs.declared.kinds.Coded.{Coded}
+use Rattle.stops.specs.Answers.{Checks, numberOfChecked}
+use Rattle.paint.specs.Answers.{numberOfPainted}
+use Rattle.paint.specs.Promises.{AtIs, PaintIs}
+use Rattle.paint.specs.declared.Answer.{Answer}
+use Rattle.paint.specs.declared.Answer.the-variants as answer
+use Rattle.paint.specs.declared.Painted.{Painted}
+use Rattle.paint.specs.declared.Painted.the-variants as painted
+use Rattle.colorgrad_c.specs.Kinds.{Shows}
 use Rattle.colorgrad_c.specs.declared.ramps.Domain.{Domain}
 use Rattle.colorgrad_c.specs.declared.ramps.Shown.{Shown}
 use Rattle.colorgrad_c.specs.declared.ramps.SharpBuilt.{SharpBuilt}
@@ -35,20 +36,22 @@ abbrev pub builtShown : Built → SharpBuilt
 builtShown r = record { refusal = numberOfBuilt r; stops = stopsOfBuilt r }
 
 -- the calls on a ramp; a code that names no kind is 1 and changes nothing
-unfoldable pub codedCheck : Coded → List Float → List Float → List ℕ → Checked
-codedCheck coded ps cs ks = onKind coded (λ (kind : Kind). checkOf kind ps cs ks) (checked.Refused 1)
+module _ (code : ℕ) (ps cs : List Float) (ks : List ℕ) where
+  abbrev pub CodedChecks : ℕ → Type 0
+  CodedChecks = Shows code (λ (kind : Kind). Checks (checkOf kind ps cs ks)) (λ (a : Checked). a ≡ checked.Refused misshapen) numberOfChecked
 
-unfoldable pub codedDomain : Coded → List Float → List Float → List ℕ → Domain
-codedDomain coded ps cs ks =
-    onKind coded
-    (λ (kind : Kind). domainBy (checkOf kind ps cs ks) (minOf kind ps) (maxOf kind ps))
-    (domainBy (checked.Refused 1) f0 f0)
+  -- the ends are worked out with the check, so that the answer is shown as it is
+  abbrev pub CodedDomain : Domain → Type 0
+  CodedDomain =
+      Shows code (λ (kind : Kind) (a : Domain). a ≡ domainBy (checkOf kind ps cs ks) (minOf kind ps) (maxOf kind ps))
+      (λ (a : Domain). a ≡ domainBy (checked.Refused misshapen) f0 f0)
+      (λ (a : Domain). a)
 
-unfoldable pub codedAnswer : Coded → List Float → List Float → List ℕ → Float → Answer
-codedAnswer coded ps cs ks t = onKind coded (λ (kind : Kind). atAnswer kind ps cs ks t) (answer.Refused 1)
+  abbrev pub CodedAt : Float → Shown → Type 0
+  CodedAt t = Shows code (λ (kind : Kind). AtIs kind ps cs ks t) (λ (a : Answer). a ≡ answer.Refused misshapen) answerShown
 
-unfoldable pub codedPainted : Coded → List Float → List Float → List ℕ → List Float → List Float → Painted
-codedPainted coded ps cs ks ts out = onKind coded (λ (kind : Kind). paintAnswer kind ps cs ks (length ts) (roomOf out)) (painted.Refused 1)
-
-unfoldable pub codedCanvas : Coded → List Float → List Float → List ℕ → List Float → List Float → List Float
-codedCanvas coded ps cs ks ts out = onKind coded (λ (kind : Kind). canvas kind ps cs ks ts out) out
+  abbrev pub CodedPaints : List Float → List Float → List Float → ℕ → Type 0
+  CodedPaints ts out out′ =
+      Shows code (λ (kind : Kind). PaintIs kind ps cs ks ts out out′)
+      (λ (a : Painted). (a ≡ painted.Refused misshapen) × (out′ ≡ out))
+      numberOfPainted

@@ -7,12 +7,9 @@ use crate::lists::SampleMade;
 use blend::Rgba;
 use linearize::Listed;
 use refresh::Refreshed;
+use refusals::MISSHAPEN;
 ghost use mathlib.Core.Path.{_≡_};
-ghost use Rattle.colorgrad_c.specs.Kinds.{kindOf};
-ghost use Rattle.colorgrad_c.specs.Lists.{Shows, listedShown};
 ghost use Rattle.colorgrad_c.specs.Edits.{refreshedShown, CodedRefreshes, CodedRefreshLists};
-
-const WRONG_SHAPE: u8 = 1;
 
 fn refreshed_shown(refreshed: Refreshed) -> SampleMade
     ensures { λ r. ⌜ r ≡ refreshedShown refreshed ⌝ }
@@ -29,37 +26,6 @@ fn refreshed_shown(refreshed: Refreshed) -> SampleMade
     }
 }
 
-fn coded_refresh(
-    coded: Coded,
-    positions: &[f32],
-    channels: &[f32],
-    codes: &[u8],
-    stop: usize,
-    colour: Rgba,
-    threshold: f32,
-    rows: &mut [f32],
-    counts: &mut [u8],
-) -> Refreshed
-    ensures { λ r. ⌜ CodedRefreshes coded (now (positions .entry)) (now (channels .entry)) (now (codes .entry)) stop colour threshold (now (rows .entry)) (now (counts .entry)) (now (rows .exit)) (now (counts .exit)) r ⌝ }
-{
-    match coded {
-        Coded::Of(kind) => {
-            refresh::refresh(
-                kind,
-                positions,
-                channels,
-                codes,
-                stop,
-                colour,
-                threshold,
-                rows,
-                counts,
-            )
-        }
-        Coded::Unknown => Refreshed::Refused(WRONG_SHAPE),
-    }
-}
-
 #[no_mangle]
 pub extern "C" fn colorgrad_refresh(
     kind: u32,
@@ -72,10 +38,13 @@ pub extern "C" fn colorgrad_refresh(
     rows: &mut [f32],
     counts: &mut [u8],
 ) -> SampleMade
-    ensures { λ r. ⌜ Shows (CodedRefreshes (kindOf kind) (now (positions .entry)) (now (channels .entry)) (now (codes .entry)) stop colour threshold (now (rows .entry)) (now (counts .entry)) (now (rows .exit)) (now (counts .exit))) refreshedShown r ⌝ }
+    ensures { λ r. ⌜ CodedRefreshes kind (now (positions .entry)) (now (channels .entry)) (now (codes .entry)) stop colour threshold (now (rows .entry)) (now (counts .entry)) (now (rows .exit)) (now (counts .exit)) r ⌝ }
 {
-    refreshed_shown(coded_refresh(
-        kinds::kind_of(kind),
+    let Coded::Of(known) = kinds::kind_of(kind) else {
+        return refreshed_shown(Refreshed::Refused(MISSHAPEN));
+    };
+    refreshed_shown(refresh::refresh(
+        known,
         positions,
         channels,
         codes,
@@ -85,41 +54,6 @@ pub extern "C" fn colorgrad_refresh(
         rows,
         counts,
     ))
-}
-
-fn coded_refresh_list(
-    coded: Coded,
-    positions: &[f32],
-    channels: &[f32],
-    codes: &[u8],
-    stop: usize,
-    colour: Rgba,
-    threshold: f32,
-    rows: &mut [f32],
-    counts: &mut [u8],
-    places: &mut [f32],
-    colours: &mut [f32],
-) -> Listed
-    ensures { λ r. ⌜ CodedRefreshLists coded (now (positions .entry)) (now (channels .entry)) (now (codes .entry)) stop colour threshold (now (rows .entry)) (now (counts .entry)) (now (rows .exit)) (now (counts .exit)) (now (places .entry)) (now (places .exit)) (now (colours .entry)) (now (colours .exit)) r ⌝ }
-{
-    match coded {
-        Coded::Of(kind) => {
-            refresh::refresh_list(
-                kind,
-                positions,
-                channels,
-                codes,
-                stop,
-                colour,
-                threshold,
-                rows,
-                counts,
-                places,
-                colours,
-            )
-        }
-        Coded::Unknown => Listed::Refused(WRONG_SHAPE),
-    }
 }
 
 #[no_mangle]
@@ -136,10 +70,13 @@ pub extern "C" fn colorgrad_refresh_list(
     places: &mut [f32],
     colours: &mut [f32],
 ) -> ListMade
-    ensures { λ r. ⌜ Shows (CodedRefreshLists (kindOf kind) (now (positions .entry)) (now (channels .entry)) (now (codes .entry)) stop colour threshold (now (rows .entry)) (now (counts .entry)) (now (rows .exit)) (now (counts .exit)) (now (places .entry)) (now (places .exit)) (now (colours .entry)) (now (colours .exit))) listedShown r ⌝ }
+    ensures { λ r. ⌜ CodedRefreshLists kind (now (positions .entry)) (now (channels .entry)) (now (codes .entry)) stop colour threshold (now (rows .entry)) (now (counts .entry)) (now (rows .exit)) (now (counts .exit)) (now (places .entry)) (now (places .exit)) (now (colours .entry)) (now (colours .exit)) r ⌝ }
 {
-    lists::listed_shown(coded_refresh_list(
-        kinds::kind_of(kind),
+    let Coded::Of(known) = kinds::kind_of(kind) else {
+        return lists::listed_shown(Listed::Refused(MISSHAPEN));
+    };
+    lists::listed_shown(refresh::refresh_list(
+        known,
         positions,
         channels,
         codes,

@@ -3,11 +3,9 @@ use crate::kinds;
 use crate::kinds::Coded;
 use linearize::Listed;
 use linearize::Sampled;
+use refusals::MISSHAPEN;
 ghost use mathlib.Core.Path.{_≡_};
-ghost use Rattle.colorgrad_c.specs.Kinds.{kindOf};
-ghost use Rattle.colorgrad_c.specs.Lists.{Shows, sampledShown, listedShown, CodedSamples, CodedThins, CodedFlattens};
-
-const WRONG_SHAPE: u8 = 1;
+ghost use Rattle.colorgrad_c.specs.Lists.{sampledShown, listedShown, CodedSamples, CodedThins, CodedFlattens};
 
 // The refusal, or 0 and the evaluations.
 #[repr(C)]
@@ -56,31 +54,6 @@ pub fn listed_shown(listed: Listed) -> ListMade
     }
 }
 
-fn coded_sample(
-    coded: Coded,
-    positions: &[f32],
-    channels: &[f32],
-    codes: &[u8],
-    threshold: f32,
-    rows: &mut [f32],
-    counts: &mut [u8],
-) -> Sampled
-    ensures { λ r. ⌜ CodedSamples coded (now (positions .entry)) (now (channels .entry)) (now (codes .entry)) threshold (now (rows .entry)) (now (rows .exit)) (now (counts .entry)) (now (counts .exit)) r ⌝ }
-{
-    match coded {
-        Coded::Of(kind) => linearize::sample(
-            kind,
-            positions,
-            channels,
-            codes,
-            threshold,
-            rows,
-            counts,
-        ),
-        Coded::Unknown => Sampled::Refused(WRONG_SHAPE),
-    }
-}
-
 #[no_mangle]
 pub extern "C" fn colorgrad_sample(
     kind: u32,
@@ -91,48 +64,12 @@ pub extern "C" fn colorgrad_sample(
     rows: &mut [f32],
     counts: &mut [u8],
 ) -> SampleMade
-    ensures { λ r. ⌜ Shows (CodedSamples (kindOf kind) (now (positions .entry)) (now (channels .entry)) (now (codes .entry)) threshold (now (rows .entry)) (now (rows .exit)) (now (counts .entry)) (now (counts .exit))) sampledShown r ⌝ }
+    ensures { λ r. ⌜ CodedSamples kind (now (positions .entry)) (now (channels .entry)) (now (codes .entry)) threshold (now (rows .entry)) (now (rows .exit)) (now (counts .entry)) (now (counts .exit)) r ⌝ }
 {
-    sampled_shown(coded_sample(
-        kinds::kind_of(kind),
-        positions,
-        channels,
-        codes,
-        threshold,
-        rows,
-        counts,
-    ))
-}
-
-fn coded_thin(
-    coded: Coded,
-    positions: &[f32],
-    channels: &[f32],
-    codes: &[u8],
-    threshold: f32,
-    rows: &[f32],
-    counts: &[u8],
-    places: &mut [f32],
-    colours: &mut [f32],
-) -> Listed
-    ensures { λ r. ⌜ CodedThins coded (now (positions .entry)) (now (channels .entry)) (now (codes .entry)) threshold (now (rows .entry)) (now (counts .entry)) (now (places .entry)) (now (places .exit)) (now (colours .entry)) (now (colours .exit)) r ⌝ }
-{
-    match coded {
-        Coded::Of(kind) => {
-            linearize::thin(
-                kind,
-                positions,
-                channels,
-                codes,
-                threshold,
-                rows,
-                counts,
-                places,
-                colours,
-            )
-        }
-        Coded::Unknown => Listed::Refused(WRONG_SHAPE),
-    }
+    let Coded::Of(known) = kinds::kind_of(kind) else {
+        return sampled_shown(Sampled::Refused(MISSHAPEN));
+    };
+    sampled_shown(linearize::sample(known, positions, channels, codes, threshold, rows, counts))
 }
 
 #[no_mangle]
@@ -147,10 +84,13 @@ pub extern "C" fn colorgrad_thin(
     places: &mut [f32],
     colours: &mut [f32],
 ) -> ListMade
-    ensures { λ r. ⌜ Shows (CodedThins (kindOf kind) (now (positions .entry)) (now (channels .entry)) (now (codes .entry)) threshold (now (rows .entry)) (now (counts .entry)) (now (places .entry)) (now (places .exit)) (now (colours .entry)) (now (colours .exit))) listedShown r ⌝ }
+    ensures { λ r. ⌜ CodedThins kind (now (positions .entry)) (now (channels .entry)) (now (codes .entry)) threshold (now (rows .entry)) (now (counts .entry)) (now (places .entry)) (now (places .exit)) (now (colours .entry)) (now (colours .exit)) r ⌝ }
 {
-    listed_shown(coded_thin(
-        kinds::kind_of(kind),
+    let Coded::Of(known) = kinds::kind_of(kind) else {
+        return listed_shown(Listed::Refused(MISSHAPEN));
+    };
+    listed_shown(linearize::thin(
+        known,
         positions,
         channels,
         codes,
@@ -160,37 +100,6 @@ pub extern "C" fn colorgrad_thin(
         places,
         colours,
     ))
-}
-
-fn coded_flatten(
-    coded: Coded,
-    positions: &[f32],
-    channels: &[f32],
-    codes: &[u8],
-    threshold: f32,
-    rows: &mut [f32],
-    counts: &mut [u8],
-    places: &mut [f32],
-    colours: &mut [f32],
-) -> Listed
-    ensures { λ r. ⌜ CodedFlattens coded (now (positions .entry)) (now (channels .entry)) (now (codes .entry)) threshold (now (rows .entry)) (now (rows .exit)) (now (counts .entry)) (now (counts .exit)) (now (places .entry)) (now (places .exit)) (now (colours .entry)) (now (colours .exit)) r ⌝ }
-{
-    match coded {
-        Coded::Of(kind) => {
-            linearize::flatten(
-                kind,
-                positions,
-                channels,
-                codes,
-                threshold,
-                rows,
-                counts,
-                places,
-                colours,
-            )
-        }
-        Coded::Unknown => Listed::Refused(WRONG_SHAPE),
-    }
 }
 
 #[no_mangle]
@@ -205,10 +114,13 @@ pub extern "C" fn colorgrad_flatten(
     places: &mut [f32],
     colours: &mut [f32],
 ) -> ListMade
-    ensures { λ r. ⌜ Shows (CodedFlattens (kindOf kind) (now (positions .entry)) (now (channels .entry)) (now (codes .entry)) threshold (now (rows .entry)) (now (rows .exit)) (now (counts .entry)) (now (counts .exit)) (now (places .entry)) (now (places .exit)) (now (colours .entry)) (now (colours .exit))) listedShown r ⌝ }
+    ensures { λ r. ⌜ CodedFlattens kind (now (positions .entry)) (now (channels .entry)) (now (codes .entry)) threshold (now (rows .entry)) (now (rows .exit)) (now (counts .entry)) (now (counts .exit)) (now (places .entry)) (now (places .exit)) (now (colours .entry)) (now (colours .exit)) r ⌝ }
 {
-    listed_shown(coded_flatten(
-        kinds::kind_of(kind),
+    let Coded::Of(known) = kinds::kind_of(kind) else {
+        return listed_shown(Listed::Refused(MISSHAPEN));
+    };
+    listed_shown(linearize::flatten(
+        known,
         positions,
         channels,
         codes,

@@ -2,19 +2,17 @@
 use crate::kinds;
 use crate::kinds::Coded;
 use blend::Rgba;
-use colorgrad::Answer;
-use colorgrad::Painted;
 use gradient::sharp::Built;
+use paint::Answer;
+use paint::Painted;
+use refusals::MISSHAPEN;
 use stops::Checked;
 ghost use mathlib.Core.Path.{_≡_};
 ghost use lib.ListN.{length};
 ghost use Rattle.stops.specs.Answers.{numberOfChecked};
 ghost use Rattle.gradient.specs.Sharp.{buildOf, after, bands, sharpPositions, sharpChannels};
-ghost use Rattle.colorgrad_c.specs.Kinds.{kindOf};
-ghost use Rattle.colorgrad.specs.Answers.{numberOfPainted};
-ghost use Rattle.colorgrad_c.specs.Ramps.{codedCheck, domainBy, codedDomain, codedAnswer, answerShown, codedPainted, codedCanvas, builtShown};
-
-const WRONG_SHAPE: u8 = 1;
+ghost use Rattle.paint.specs.Answers.{numberOfPainted};
+ghost use Rattle.colorgrad_c.specs.Ramps.{domainBy, answerShown, builtShown, CodedChecks, CodedDomain, CodedAt, CodedPaints};
 
 // The refusal, or 0 and the ends of the domain.
 #[repr(C)]
@@ -47,15 +45,6 @@ fn checked_number(checked: Checked) -> u32
     }
 }
 
-fn coded_check(coded: Coded, positions: &[f32], channels: &[f32], codes: &[u8]) -> Checked
-    ensures { λ r. ⌜ r ≡ codedCheck coded (now (positions .entry)) (now (channels .entry)) (now (codes .entry)) ⌝ }
-{
-    match coded {
-        Coded::Of(kind) => gradient::check(kind, positions, channels, codes),
-        Coded::Unknown => Checked::Refused(WRONG_SHAPE),
-    }
-}
-
 // 0, or the refusal.
 #[no_mangle]
 pub extern "C" fn colorgrad_check(
@@ -64,9 +53,12 @@ pub extern "C" fn colorgrad_check(
     channels: &[f32],
     codes: &[u8],
 ) -> u32
-    ensures { λ r. ⌜ r ≡ numberOfChecked (codedCheck (kindOf kind) (now (positions .entry)) (now (channels .entry)) (now (codes .entry))) ⌝ }
+    ensures { λ r. ⌜ CodedChecks kind (now (positions .entry)) (now (channels .entry)) (now (codes .entry)) r ⌝ }
 {
-    checked_number(coded_check(kinds::kind_of(kind), positions, channels, codes))
+    let Coded::Of(known) = kinds::kind_of(kind) else {
+        return MISSHAPEN as u32;
+    };
+    checked_number(gradient::check(known, positions, channels, codes))
 }
 
 fn domain_by(checked: Checked, min: f32, max: f32) -> Domain
@@ -86,21 +78,6 @@ fn domain_by(checked: Checked, min: f32, max: f32) -> Domain
     }
 }
 
-fn coded_domain(coded: Coded, positions: &[f32], channels: &[f32], codes: &[u8]) -> Domain
-    ensures { λ r. ⌜ r ≡ codedDomain coded (now (positions .entry)) (now (channels .entry)) (now (codes .entry)) ⌝ }
-{
-    match coded {
-        Coded::Of(kind) => {
-            domain_by(
-                gradient::check(kind, positions, channels, codes),
-                gradient::min_of(kind, positions),
-                gradient::max_of(kind, positions),
-            )
-        }
-        Coded::Unknown => domain_by(Checked::Refused(WRONG_SHAPE), 0.0, 0.0),
-    }
-}
-
 #[no_mangle]
 pub extern "C" fn colorgrad_domain(
     kind: u32,
@@ -108,9 +85,16 @@ pub extern "C" fn colorgrad_domain(
     channels: &[f32],
     codes: &[u8],
 ) -> Domain
-    ensures { λ r. ⌜ r ≡ codedDomain (kindOf kind) (now (positions .entry)) (now (channels .entry)) (now (codes .entry)) ⌝ }
+    ensures { λ r. ⌜ CodedDomain kind (now (positions .entry)) (now (channels .entry)) (now (codes .entry)) r ⌝ }
 {
-    coded_domain(kinds::kind_of(kind), positions, channels, codes)
+    let Coded::Of(known) = kinds::kind_of(kind) else {
+        return domain_by(Checked::Refused(MISSHAPEN), 0.0, 0.0);
+    };
+    domain_by(
+        gradient::check(known, positions, channels, codes),
+        gradient::min_of(known, positions),
+        gradient::max_of(known, positions),
+    )
 }
 
 fn answer_shown(answer: Answer) -> Shown
@@ -130,15 +114,6 @@ fn answer_shown(answer: Answer) -> Shown
     }
 }
 
-fn coded_answer(coded: Coded, positions: &[f32], channels: &[f32], codes: &[u8], t: f32) -> Answer
-    ensures { λ r. ⌜ r ≡ codedAnswer coded (now (positions .entry)) (now (channels .entry)) (now (codes .entry)) t ⌝ }
-{
-    match coded {
-        Coded::Of(kind) => colorgrad::at(kind, positions, channels, codes, t),
-        Coded::Unknown => Answer::Refused(WRONG_SHAPE),
-    }
-}
-
 #[no_mangle]
 pub extern "C" fn colorgrad_at(
     kind: u32,
@@ -147,9 +122,12 @@ pub extern "C" fn colorgrad_at(
     codes: &[u8],
     t: f32,
 ) -> Shown
-    ensures { λ r. ⌜ r ≡ answerShown (codedAnswer (kindOf kind) (now (positions .entry)) (now (channels .entry)) (now (codes .entry)) t) ⌝ }
+    ensures { λ r. ⌜ CodedAt kind (now (positions .entry)) (now (channels .entry)) (now (codes .entry)) t r ⌝ }
 {
-    answer_shown(coded_answer(kinds::kind_of(kind), positions, channels, codes, t))
+    let Coded::Of(known) = kinds::kind_of(kind) else {
+        return answer_shown(Answer::Refused(MISSHAPEN));
+    };
+    answer_shown(paint::at(known, positions, channels, codes, t))
 }
 
 fn painted_number(painted: Painted) -> u32
@@ -158,23 +136,6 @@ fn painted_number(painted: Painted) -> u32
     match painted {
         Painted::Done => 0,
         Painted::Refused(n) => n as u32,
-    }
-}
-
-fn coded_paint(
-    coded: Coded,
-    positions: &[f32],
-    channels: &[f32],
-    codes: &[u8],
-    ts: &[f32],
-    out: &mut [f32],
-) -> Painted
-    ensures { λ r. ⌜ r ≡ codedPainted coded (now (positions .entry)) (now (channels .entry)) (now (codes .entry)) (now (ts .entry)) (now (out .entry)) ⌝ }
-    ensures { λ r. ⌜ now (out .exit) ≡ codedCanvas coded (now (positions .entry)) (now (channels .entry)) (now (codes .entry)) (now (ts .entry)) (now (out .entry)) ⌝ }
-{
-    match coded {
-        Coded::Of(kind) => colorgrad::paint(kind, positions, channels, codes, ts, out),
-        Coded::Unknown => Painted::Refused(WRONG_SHAPE),
     }
 }
 
@@ -188,10 +149,12 @@ pub extern "C" fn colorgrad_paint(
     ts: &[f32],
     out: &mut [f32],
 ) -> u32
-    ensures { λ r. ⌜ r ≡ numberOfPainted (codedPainted (kindOf kind) (now (positions .entry)) (now (channels .entry)) (now (codes .entry)) (now (ts .entry)) (now (out .entry))) ⌝ }
-    ensures { λ r. ⌜ now (out .exit) ≡ codedCanvas (kindOf kind) (now (positions .entry)) (now (channels .entry)) (now (codes .entry)) (now (ts .entry)) (now (out .entry)) ⌝ }
+    ensures { λ r. ⌜ CodedPaints kind (now (positions .entry)) (now (channels .entry)) (now (codes .entry)) (now (ts .entry)) (now (out .entry)) (now (out .exit)) r ⌝ }
 {
-    painted_number(coded_paint(kinds::kind_of(kind), positions, channels, codes, ts, out))
+    let Coded::Of(known) = kinds::kind_of(kind) else {
+        return MISSHAPEN as u32;
+    };
+    painted_number(paint::paint(known, positions, channels, codes, ts, out))
 }
 
 fn built_shown(built: Built) -> SharpBuilt

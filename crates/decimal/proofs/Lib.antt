@@ -1,6 +1,7 @@
 -- Laws and examples that belong to no one function.
 pub mod Division
 pub mod Examples
+pub mod Finite
 pub mod Grammar
 pub mod IsNearest
 pub mod Neighbours

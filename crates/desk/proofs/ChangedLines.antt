@@ -12,16 +12,17 @@ use Rattle.decimal.specs.declared.Token.the-variants.{Number}
 use Rattle.blend.specs.declared.Rgba.{Rgba}
 use Rattle.blend.specs.declared.Stop.{Stop}
 use Rattle.stops.specs.declared.Kind.the-variants.{Linear, Smoothstep}
-use Rattle.ggr.specs.Text.{firstOf, restOf, same, starts}
-use Rattle.ggr.specs.Segment.{Numbers, all, none, addNumber, numbers}
-use Rattle.ggr.specs.declared.text.Count.{Count}
-use Rattle.ggr.specs.declared.text.Count.the-variants.{Bad, Is}
-use Rattle.desk.specs.Entries.{fields, exactly, channelsAt, toThreshold, thresholdEntry, toStop, stopEntry, indexOf, toChange, changeEntry, editEntry, stopTag, thresholdTag, editTag, kindLinear, kindSmoothstep, entryOf}
+use Rattle.text.specs.Text.{firstOf, restOf, same, starts, fields}
+use Rattle.text.specs.Rows.{Numbers, all, none, addNumber, numbers}
+use Rattle.text.specs.declared.digits.Digits.{Digits}
+use Rattle.text.specs.declared.digits.Digits.the-variants.{Bad, Is}
+use Rattle.desk.specs.Entries.{exactly, channelsAt, toThreshold, thresholdEntry, toStop, stopEntry, indexOf, toChange, changeEntry, editEntry, stopTag, thresholdTag, editTag, kindLinear, kindSmoothstep, entryOf}
 use Rattle.desk.specs.Recoloured.{toTab, afterTab, changedLine}
 use Rattle.desk.specs.declared.fields.Edit.{Edit}
 use Rattle.desk.specs.declared.fields.Entry.{Entry}
 use Rattle.desk.specs.declared.fields.Entry.the-variants as entry
-use Rattle.desk.proofs.Parted.{fields-to, fields-after, numbers-long, head-number}
+use Rattle.text.proofs.Read.{numbers-long, head-number}
+use Rattle.desk.proofs.Parted.{fields-to, fields-after}
 
 -- ---- which form an entry has
 abbrev isStop : Entry → Bool
@@ -80,7 +81,7 @@ edit-not-stop : (fs : List (List ℕ)) → isStop (editEntry fs) ≡ false
 unfolding editEntry changeEntry
 edit-not-stop [] = refl
 edit-not-stop (f ∷ fs) = go (indexOf f) where
-  go : (c : Count) → isStop (changeEntry c fs) ≡ false
+  go : (c : Digits) → isStop (changeEntry c fs) ≡ false
   go Bad = refl
   go (Is k) = exactly-not isStop 4 (toChange k) (numbers fs) refl (λ xs. refl)
 
@@ -136,7 +137,7 @@ channels-of : (fs : List (List ℕ)) {e : Edit} → editEntry fs ≡ entry.Chang
 unfolding editEntry changeEntry restOf
 channels-of [] h = absurd (true≢false (sym (ap isChange h)))
 channels-of (f ∷ fs) {e} h = go (indexOf f) h where
-  go : (c : Count) → changeEntry c fs ≡ entry.Change e → Channels (f ∷ fs) (e .colour)
+  go : (c : Digits) → changeEntry c fs ≡ entry.Change e → Channels (f ∷ fs) (e .colour)
   go Bad h = absurd (true≢false (sym (ap isChange h)))
   go (Is k) h =
       let m = made-of isChange 4 (toChange k) (numbers fs) refl refl h in

@@ -10,10 +10,11 @@ use Rattle.decimal.specs.Decimal.{areDigits, valueAfter, beforePoint, afterPoin
 use Rattle.float.specs.F32.{f0, f1}
 use Rattle.blend.specs.declared.Stop.{Stop}
 use Rattle.stops.specs.declared.Kind.the-variants.{Linear}
-use Rattle.ggr.specs.Text.{every, atLf, onFirst, lines, same, starts, countOf}
-use Rattle.ggr.specs.Segment.{addNumber, numbers}
+use Rattle.text.specs.Text.{every, atLf, onFirst, lines, same, starts, fields}
+use Rattle.text.specs.Digits.{digitsOf}
+use Rattle.text.specs.Rows.{addNumber, numbers}
 use Rattle.linearize.specs.Constants.{defaultThreshold}
-use Rattle.desk.specs.Entries.{fields, exactly, thresholdEntry, stopEntry, indexOf, changeEntry, editEntry, entryOf}
+use Rattle.desk.specs.Entries.{exactly, thresholdEntry, stopEntry, indexOf, changeEntry, editEntry, entryOf}
 use Rattle.desk.specs.Input.{input, fromEnd, fromEdit, stopsOf, afterStops, fromStops, fromThreshold, fromKind, inputOf}
 use Rattle.desk.specs.Recoloured.{toTab, afterTab, changedLine, changedLines, SameStops, EditMade}
 use Rattle.desk.specs.Tool.{deskOf}
@@ -38,11 +39,11 @@ both : List Stop
 both = record { position = f0; colour = record { r = f0; g = f0; b = f0; a = f1 } } ∷ record { position = f1; colour = record { r = f1; g = f1; b = f1; a = f1 } } ∷ []
 
 reads : inputOf byEdit ≡ input Linear defaultThreshold both (edit.By green)
-unfolding byEdit green both bytes inputOf lines atLf onFirst fromKind fromThreshold fromStops stopsOf afterStops fromEdit fromEnd entryOf starts same fields exactly stopEntry thresholdEntry editEntry changeEntry indexOf countOf every numbers addNumber readOf unsignedOf numberOf beforePoint afterPoint valueAfter areDigits round ofBits
+unfolding byEdit green both bytes inputOf lines atLf onFirst fromKind fromThreshold fromStops stopsOf afterStops fromEdit fromEnd entryOf starts same fields exactly stopEntry thresholdEntry editEntry changeEntry indexOf digitsOf every numbers addNumber readOf unsignedOf numberOf beforePoint afterPoint valueAfter areDigits round ofBits
 reads = refl
 
 made : EditMade byEdit byHand green
-unfolding byEdit byHand green bytes lines atLf onFirst changedLines changedLine toTab afterTab entryOf starts same fields exactly stopEntry thresholdEntry editEntry changeEntry indexOf countOf every numbers addNumber readOf unsignedOf numberOf beforePoint afterPoint valueAfter areDigits round ofBits
+unfolding byEdit byHand green bytes lines atLf onFirst changedLines changedLine toTab afterTab entryOf starts same fields exactly stopEntry thresholdEntry editEntry changeEntry indexOf digitsOf every numbers addNumber readOf unsignedOf numberOf beforePoint afterPoint valueAfter areDigits round ofBits
 made =
     record {
       body = bytes "kind\tlinear" ∷ bytes "stop\t0\t0\t0\t0\t1" ∷ bytes "stop\t1\t1\t1\t1\t1" ∷ [];

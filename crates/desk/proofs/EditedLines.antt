@@ -11,7 +11,7 @@ use borrow.Author.Tests.{le-leb}
 use Rattle.blend.specs.declared.Rgba.{Rgba}
 use Rattle.blend.specs.declared.Stop.{Stop}
 use Rattle.stops.specs.declared.Kind.{Kind}
-use Rattle.ggr.specs.Text.{lines}
+use Rattle.text.specs.Text.{lines}
 use Rattle.linearize.specs.Constants.{defaultThreshold}
 use Rattle.desk.specs.Entries.{entryOf}
 use Rattle.desk.specs.Input.{Input, unread, input, mostBytes, ifStop, ifChange, fromEnd, fromEdit, stopsOf, afterStops, fromStops, fromThreshold, fromKind, inputOf}

@@ -8,6 +8,7 @@ use mathlib.Core.List.{List, [], _∷_}
 use lib.ListN.{length, replicate, getD}
 use lib.Ieee.{Float, nan, inf, lt}
 use lib.Ieee.Scale.{finite}
+use Rattle.refusals.specs.Refusals.{notFinite, falling}
 use Rattle.float.specs.F32.{f0}
 use Rattle.blend.specs.declared.Rgba.{Rgba}
 use Rattle.blend.specs.declared.Stop.{Stop}
@@ -68,7 +69,7 @@ module _ (cs : List Float) (k : ℕ) (c : Rgba) (there : 4 * k + 4 ≤ length cs
   unfolding eachStop
   each-same zero i prev ps = refl
   each-same (suc left) i prev ps =
-      ap₂ (λ (t : Bool) (x : Checked). cond (finite (posAt ps i) && t) (cond (lt (posAt ps i) prev) (checked.Refused 3) x) (checked.Refused 2))
+      ap₂ (λ (t : Bool) (x : Checked). cond (finite (posAt ps i) && t) (cond (lt (posAt ps i) prev) (checked.Refused falling) x) (checked.Refused notFinite))
       (finite-same i) (each-same left (suc i) (posAt ps i) ps)
 
   check-same : (kind : Kind) (ps : List Float) (ks : List ℕ) → isGimp kind ≡ false → checkOf kind ps (changed cs k c) ks ≡ checkOf kind ps cs ks

@@ -10,18 +10,13 @@ use lib.Dec.{ltb, eqb}
 use lib.Ieee.{Float}
 use borrow.Author.Tests.{ne-eqb}
 use Rattle.float.proofs.Flags.{both-l, both-r, failed}
-use Rattle.ggr.specs.Text.{every, onFirst}
+use Rattle.text.specs.Text.{every, onFirst, notTab, fields}
+use Rattle.text.proofs.Bytes.{every-both}
+use Rattle.text.proofs.Fields.{fields-past}
 use Rattle.linearize.specs.Desk.{listedOf}
-use Rattle.desk.specs.Entries.{notTab, fields}
 use Rattle.desk.specs.Printed.{decimalOf, countText, rowsText, lineText, refusedText, evaluationsWord, listText}
 use Rattle.desk.specs.Recoloured.{firstLine, afterFirst, SameStops}
 use Rattle.desk.specs.Tool.{listedText}
-
--- ---- bytes that all pass a test
-pub every-both : (p : ℕ → Bool) (xs ys : List ℕ) → every p xs ≡ true → every p ys ≡ true → every p (xs ++ ys) ≡ true
-unfolding every
-every-both p [] ys h k = k
-every-both p (x ∷ xs) ys h k = rw (both-l (p x) (every p xs) h, every-both p xs ys (both-r (p x) (every p xs) h) k)
 
 abbrev notLf : ℕ → Bool
 notLf b = not (eqb b 10)
@@ -55,12 +50,6 @@ after-past : (xs t : List ℕ) → every notLf xs ≡ true → afterFirst (xs ++
 unfolding afterFirst every
 after-past [] t h = refl
 after-past (x ∷ xs) t h = rw (other x xs h) (after-past xs t (both-r (notLf x) (every notLf xs) h))
-
--- ---- up to the first tab
-fields-past : (xs t : List ℕ) → every notTab xs ≡ true → fields (xs ++ 9 ∷ t) ≡ xs ∷ fields t
-unfolding fields every onFirst
-fields-past [] t h = refl
-fields-past (x ∷ xs) t h = rw (both-l (notTab x) (every notTab xs) h, fields-past xs t (both-r (notTab x) (every notTab xs) h))
 
 -- ---- a list of stops
 module _ (n : ℕ) (ps cs : List Float) where

@@ -2,19 +2,18 @@
 use Prim.Native.Nat.{ℕ, suc, _+_, _-_, _*_, _≤_, _<_}
 use native.Mathlib.Omega.{arith}
 use mathlib.Core.Path.{_≡_, refl, sym, ap, ap₂, _∙_}
-use mathlib.Core.Bool.{Bool, true, false, cond, _&&_}
 use mathlib.Core.List.{List, [], _∷_, _++_, append-assoc, append-nil}
-use lib.ListN.{length, take, drop, set, length-append, length-drop, length-set, drop-of-length-le}
+use lib.ListN.{length, take, drop, set, length-append, length-drop, length-set}
 use lib.Seq.{sets, length-sets}
-use lib.Dec.{eqb}
 use lib.Ieee.{Float}
 use borrow.Author.Tests.{le-leb, lt-leb}
-use types.Run.{OneOf, miss}
+use types.Run.{OneOf}
 use denote.Enum.Declared.{tagOf}
 use Rattle.blend.specs.declared.Stop.{Stop}
 use Rattle.stops.specs.declared.Kind.{Kind}
-use Rattle.ggr.specs.Text.{lines, atLf, onFirst, firstOf, restOf}
-use Rattle.ggr.specs.Steps.{LineAt}
+use Rattle.text.specs.Text.{lines, firstOf}
+use Rattle.text.specs.Places.{LineAt}
+use Rattle.text.proofs.Lines.{no-lines, some-lines, few-lines}
 use Rattle.linearize.specs.Constants.{defaultThreshold}
 use Rattle.linearize.specs.Kept.{channelsOf}
 use Rattle.linearize.proofs.Stores.{sets-append}
@@ -29,61 +28,7 @@ use Rattle.desk.specs.declared.reading.Edited.{Edited}
 use Rattle.desk.specs.declared.reading.Edited.the-variants as edited
 use Rattle.desk.specs.declared.reading.Ending.{Ending}
 use Rattle.desk.specs.declared.reading.Ending.the-variants as ending
-
--- ---- an entry of another form, by its tag
-not-ramp : {A : Type 0} (e : Entry) (f : Kind → A) (z : A) → OneOf (1 ∷ 2 ∷ 3 ∷ 4 ∷ []) (tagOf the-type e) → ifRamp e f z ≡ z
-not-ramp (entry.Ramp k) f z h = absurd (miss (1 ∷ 2 ∷ 3 ∷ 4 ∷ []) 0 tt h)
-not-ramp (entry.Threshold x) f z h = refl
-not-ramp (entry.Stop s) f z h = refl
-not-ramp (entry.Change e) f z h = refl
-not-ramp entry.Unread f z h = refl
-
-not-threshold : {A : Type 0} (e : Entry) (f : Float → A) (z : A) → OneOf (0 ∷ 2 ∷ 3 ∷ 4 ∷ []) (tagOf the-type e) → ifThreshold e f z ≡ z
-not-threshold (entry.Ramp k) f z h = refl
-not-threshold (entry.Threshold x) f z h = absurd (miss (0 ∷ 2 ∷ 3 ∷ 4 ∷ []) 1 tt h)
-not-threshold (entry.Stop s) f z h = refl
-not-threshold (entry.Change e) f z h = refl
-not-threshold entry.Unread f z h = refl
-
-not-stop : {A : Type 0} (e : Entry) (f : Stop → A) (z : A) → OneOf (0 ∷ 1 ∷ 3 ∷ 4 ∷ []) (tagOf the-type e) → ifStop e f z ≡ z
-not-stop (entry.Ramp k) f z h = refl
-not-stop (entry.Threshold x) f z h = refl
-not-stop (entry.Stop s) f z h = absurd (miss (0 ∷ 1 ∷ 3 ∷ 4 ∷ []) 2 tt h)
-not-stop (entry.Change e) f z h = refl
-not-stop entry.Unread f z h = refl
-
-not-change : {A : Type 0} (e : Entry) (f : Edit → A) (z : A) → OneOf (0 ∷ 1 ∷ 2 ∷ 4 ∷ []) (tagOf the-type e) → ifChange e f z ≡ z
-not-change (entry.Ramp k) f z h = refl
-not-change (entry.Threshold x) f z h = refl
-not-change (entry.Stop s) f z h = refl
-not-change (entry.Change e) f z h = absurd (miss (0 ∷ 1 ∷ 2 ∷ 4 ∷ []) 3 tt h)
-not-change entry.Unread f z h = refl
-
--- ---- lines
-some-first : (b : ℕ) (t u : Bool) (ls : List (List ℕ)) → ls ≡ firstOf ls ∷ restOf ls → cond t ([] ∷ ls) (cond u ls (onFirst b ls)) ≡ firstOf (cond t ([] ∷ ls) (cond u ls (onFirst b ls))) ∷ restOf (cond t ([] ∷ ls) (cond u ls (onFirst b ls)))
-unfolding onFirst firstOf restOf
-some-first b true u ls e = refl
-some-first b false true ls e = e
-some-first b false false [] e = refl
-some-first b false false (l ∷ ls) e = refl
-
-lines-some : (s : List ℕ) → 0 < length s → lines s ≡ firstOf (lines s) ∷ restOf (lines s)
-unfolding lines onFirst firstOf restOf atLf
-lines-some [] h = absurd (omega arith)
-lines-some (b ∷ []) h = elim (eqb b 10) as (λ t. cond t ([] ∷ []) ((b ∷ []) ∷ []) ≡ firstOf (cond t ([] ∷ []) ((b ∷ []) ∷ [])) ∷ restOf (cond t ([] ∷ []) ((b ∷ []) ∷ []))) [ true ↦ refl | false ↦ refl ]
-lines-some (b ∷ c ∷ s) h = some-first b (eqb b 10) (atLf (c ∷ s) && eqb b 13) (lines (c ∷ s)) (lines-some (c ∷ s) (omega arith))
-
-few-first : (b n : ℕ) (t u : Bool) (ls : List (List ℕ)) → length ls ≤ n → length (cond t ([] ∷ ls) (cond u ls (onFirst b ls))) ≤ suc n
-unfolding onFirst
-few-first b n true u ls h = omega arith
-few-first b n false true ls h = omega arith
-few-first b n false false [] h = omega arith
-few-first b n false false (l ∷ ls) h = omega arith
-
-few-lines : (s : List ℕ) → length (lines s) ≤ length s
-unfolding lines
-few-lines [] = omega arith
-few-lines (b ∷ s) = few-first b (length s) (eqb b 10) (atLf s && eqb b 13) (lines s) (few-lines s)
+use Rattle.desk.proofs.Others.{not-ramp, not-threshold, not-stop, not-change}
 
 few-stops : (ls : List (List ℕ)) → length (stopsOf ls) ≤ length ls
 unfolding stopsOf
@@ -98,16 +43,12 @@ few-stops (l ∷ ls) = go (entryOf l) (few-stops ls) where
 
 -- no line, and a line
 module _ (s : List ℕ) (at : ℕ) where
-  pub no-line : length s ≤ at → lines (drop at s) ≡ []
-  unfolding lines
-  no-line h = ap lines (drop-of-length-le s h)
-
   pub step-found : {end next : ℕ} {e : Entry} → at ≤ length s → LineAt s at end next → e ≡ entryOf (take (end - at) (drop at s)) → StepAt s at e next
   step-found h l i = record { within = l .beyond h; is = i ∙ ap entryOf (l .first); rest = l .rest }
 
   module _ (h : at < length s) {e : Entry} {next : ℕ} (w : StepAt s at e next) where
     opened : lines (drop at s) ≡ firstOf (lines (drop at s)) ∷ lines (drop next s)
-    opened = lines-some (drop at s) (omega (arith, length-drop at s)) ∙ ap (λ (ls : List (List ℕ)). firstOf (lines (drop at s)) ∷ ls) (sym (w .rest))
+    opened = some-lines s at h ∙ ap (λ (ls : List (List ℕ)). firstOf (lines (drop at s)) ∷ ls) (sym (w .rest))
 
     pub shorter : length (lines (drop next s)) < length (lines (drop at s))
     shorter = omega (arith, ap length opened)
@@ -116,7 +57,7 @@ module _ (s : List ℕ) (at : ℕ) where
 module _ (s : List ℕ) (at : ℕ) where
   pub start-none : length s ≤ at → at ≤ length s → StartAt s at defaultThreshold at 2
   unfolding fromThreshold
-  start-none h i = record { within = i; few = omega arith; is = λ k. ap (fromThreshold k) (no-line s at h) ∙ ap (fromStops k defaultThreshold 2) (sym (no-line s at h)) }
+  start-none h i = record { within = i; few = omega arith; is = λ k. ap (fromThreshold k) (no-lines s at h) ∙ ap (fromStops k defaultThreshold 2) (sym (no-lines s at h)) }
 
   module _ (h : at < length s) {e : Entry} {next : ℕ} (w : StepAt s at e next) where
     first-threshold : (k : Kind) → fromThreshold k (lines (drop at s)) ≡ ifThreshold e (λ x. fromStops k x 3 (lines (drop next s))) (fromStops k defaultThreshold 2 (lines (drop at s)))
@@ -222,7 +163,7 @@ module _ {s : List ℕ} {from n at : ℕ} {ps ps′ cs cs′ : List Float} (w : 
 
   pub block-done : length s ≤ at → BlockAt s from n at ps ps′ cs cs′
   unfolding stopsOf afterStops
-  block-done h = block-from (ap stopsOf (no-line s at h)) (ap afterStops (no-line s at h) ∙ sym (no-line s at h))
+  block-done h = block-from (ap stopsOf (no-lines s at h)) (ap afterStops (no-lines s at h) ∙ sym (no-lines s at h))
 
   pub block-other : {next : ℕ} {e : Entry} → at < length s → StepAt s at e next → OneOf (0 ∷ 1 ∷ 3 ∷ 4 ∷ []) (tagOf the-type e) → BlockAt s from n at ps ps′ cs cs′
   unfolding stopsOf afterStops
@@ -237,7 +178,7 @@ module _ {s : List ℕ} {from n at : ℕ} {ps ps′ cs cs′ : List Float} (w : 
 module _ (s : List ℕ) (at line : ℕ) where
   pub ending-none : length s ≤ at → EndsAs s at line (ending.Whole edited.Not)
   unfolding fromEdit endingOf
-  ending-none h = record { is = λ k x stops. ap (fromEdit k x stops line) (no-line s at h) }
+  ending-none h = record { is = λ k x stops. ap (fromEdit k x stops line) (no-lines s at h) }
 
   module _ (h : at < length s) {e : Entry} {next : ℕ} (w : StepAt s at e next) where
     first-edit : (k : Kind) (x : Float) (stops : List Stop) → fromEdit k x stops line (lines (drop at s)) ≡ ifChange e (λ d. fromEnd k x stops d (line + 1) (lines (drop next s))) (unread line)
@@ -256,11 +197,11 @@ module _ (s : List ℕ) (at line : ℕ) where
 
       pub ending-more : next < length s → EndsAs s at line (ending.Unread (line + 1))
       unfolding fromEnd endingOf
-      ending-more l = record { is = λ k x stops. to-end k x stops ∙ ap (fromEnd k x stops d (line + 1)) (lines-some (drop next s) (omega (arith, length-drop next s))) }
+      ending-more l = record { is = λ k x stops. to-end k x stops ∙ ap (fromEnd k x stops d (line + 1)) (some-lines s next l) }
 
       pub ending-last : length s ≤ next → EndsAs s at line (ending.Whole (edited.By d))
       unfolding fromEnd endingOf
-      ending-last l = record { is = λ k x stops. to-end k x stops ∙ ap (fromEnd k x stops d (line + 1)) (no-line s next l) }
+      ending-last l = record { is = λ k x stops. to-end k x stops ∙ ap (fromEnd k x stops d (line + 1)) (no-lines s next l) }
 
 -- ---- the whole
 module _ (s : List ℕ) where
@@ -270,7 +211,7 @@ module _ (s : List ℕ) where
 
   pub no-bytes : length s ≡ 0 → inputOf s ≡ unread 1
   unfolding inputOf fromKind
-  no-bytes h = rw (le-leb (length s) mostBytes (omega arith)) (ap fromKind (no-line s 0 (omega arith)))
+  no-bytes h = rw (le-leb (length s) mostBytes (omega arith)) (ap fromKind (no-lines s 0 (omega arith)))
 
   module _ (h : 0 < length s) (m : length s ≤ mostBytes) {e : Entry} {next : ℕ} (w : StepAt s 0 e next) where
     first-kind : inputOf s ≡ ifRamp e (λ k. fromThreshold k (lines (drop next s))) (unread 1)

@@ -1,10 +1,10 @@
 -- Laws that belong to no one function.
 mod Texts
 mod Rows
+mod Others
 mod Inputs
 pub mod Making
 pub mod Fits
-mod Finite
 mod Plain
 mod Heads
 pub mod EditedText

@@ -9,13 +9,15 @@ use lib.Seq.{sets, sets-eq, take-at}
 use lib.Dec.{leb, ltb, eqb}
 use lib.Ieee.{Float}
 use borrow.Author.Tests.{ne-eqb, le-leb, lt-leb, lt-ltb, le-ltb}
+use Rattle.refusals.specs.Refusals.{misshapen}
+use Rattle.refusals.specs.Limits.{mostStops, mostSegments}
 use Rattle.float.specs.F32.{f0}
 use Rattle.blend.specs.declared.Rgba.{Rgba}
-use Rattle.stops.specs.Stops.{mostStops, shaped, stopsCheck, stopAt}
+use Rattle.stops.specs.Stops.{shaped, stopsCheck, stopAt}
 use Rattle.stops.specs.declared.Kind.{Kind}
 use Rattle.stops.specs.declared.Checked.{Checked}
 use Rattle.stops.specs.declared.Checked.the-variants as checked
-use Rattle.gradient.specs.Gimp.{mostSegments, segments, gimpShaped, gimpCheck}
+use Rattle.gradient.specs.Gimp.{segments, gimpShaped, gimpCheck}
 use Rattle.gradient.specs.Ramp.{isGimp, checkOf, maxOf, colourOf}
 use Rattle.linearize.specs.Constants.{cells, recordLength}
 use Rattle.linearize.specs.Midpoints.{Gradient, Far}
@@ -207,10 +209,10 @@ unfolding gimpShaped
 no-codes zero p c = refl
 no-codes (suc m) p c = rw (ne-eqb 0 (2 * suc m) (λ e. omega arith)) (and-false (leb 1 (suc m) && leb (suc m) mostSegments && eqb p (3 * suc m) && eqb c (8 * suc m)))
 
-crowded : (kind : Kind) (ps cs : List Float) → keptStops < length ps → checkOf kind ps cs [] ≡ checked.Refused 1
+crowded : (kind : Kind) (ps cs : List Float) → keptStops < length ps → checkOf kind ps cs [] ≡ checked.Refused misshapen
 unfolding checkOf stopsCheck shaped gimpCheck mostStops
 crowded kind ps cs h = go (isGimp kind) where
-  go : (t : Bool) → cond t (gimpCheck ps cs []) (stopsCheck kind ps cs []) ≡ checked.Refused 1
+  go : (t : Bool) → cond t (gimpCheck ps cs []) (stopsCheck kind ps cs []) ≡ checked.Refused misshapen
   go true = rw (no-codes (segments ps) (length ps) (length cs))
   go false = rw (le-leb 2 (length ps) (omega arith), lt-leb (length ps) 512 h)
 

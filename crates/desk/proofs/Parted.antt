@@ -1,18 +1,12 @@
--- The fields of a text up to its first tab and after it, and the numbers of fields. Assumes nothing.
-use Prim.Native.Nat.{ℕ, suc, _+_, _<_}
+-- The fields of a text up to its first tab and after it. Assumes nothing.
+use Prim.Native.Nat.{ℕ, _<_}
 use native.Mathlib.Omega.{arith}
 use mathlib.Core.Path.{_≡_, refl, sym, ap, subst, _∙_}
-use mathlib.Core.Bool.{Bool, true, false, true≢false}
+use mathlib.Core.Bool.{Bool, true, false}
 use mathlib.Core.List.{List, [], _∷_, _++_}
-use lib.ListN.{length, getD}
+use lib.ListN.{length}
 use lib.Dec.{eqb}
-use lib.Ieee.{Float, nan}
-use Rattle.decimal.specs.Decimal.{readOf}
-use Rattle.decimal.specs.declared.Token.{Token}
-use Rattle.decimal.specs.declared.Token.the-variants.{Number, NoNumber}
-use Rattle.ggr.specs.Text.{onFirst, firstOf, restOf}
-use Rattle.ggr.specs.Segment.{Numbers, all, none, addNumber, numbers}
-use Rattle.desk.specs.Entries.{fields}
+use Rattle.text.specs.Text.{onFirst, firstOf, restOf, fields}
 use Rattle.desk.specs.Recoloured.{toTab, afterTab}
 
 -- ---- fields, where there are two or more
@@ -83,36 +77,3 @@ fields-after (b ∷ t) h = go (eqb b 9) refl (fields-after t) where
       let o = fields-other b t e in
       ap fields (after-later b t e) ∙ r (more-on b (fields t) (subst (λ (fs : List (List ℕ)). 1 < length fs) o h))
       ∙ sym (ap restOf o ∙ rest-on b (fields t))
-
--- ---- numbers
-abbrev listIn : Numbers → List Float
-listIn (all xs) = xs
-listIn none = []
-
-abbrev isAll : Numbers → Bool
-isAll (all xs) = true
-isAll none = false
-
-added : (t : Token) (ns : Numbers) (xs : List Float) (n : ℕ) → addNumber t ns ≡ all xs → ((ys : List Float) → ns ≡ all ys → length ys ≡ n) → length xs ≡ suc n
-unfolding addNumber
-added (Number x) (all ys) xs n h r = ap length (sym (ap listIn h)) ∙ ap suc (r ys refl)
-added (Number x) none xs n h r = absurd (true≢false (sym (ap isAll h)))
-added NoNumber (all ys) xs n h r = absurd (true≢false (sym (ap isAll h)))
-added NoNumber none xs n h r = absurd (true≢false (sym (ap isAll h)))
-
-added-first : (t : Token) (ns : Numbers) (xs : List Float) → addNumber t ns ≡ all xs → t ≡ Number (getD xs 0 nan)
-unfolding addNumber
-added-first (Number x) (all ys) xs h = ap (λ (ms : Numbers). Number (getD (listIn ms) 0 nan)) h
-added-first (Number x) none xs h = absurd (true≢false (sym (ap isAll h)))
-added-first NoNumber (all ys) xs h = absurd (true≢false (sym (ap isAll h)))
-added-first NoNumber none xs h = absurd (true≢false (sym (ap isAll h)))
-
-pub numbers-long : (ws : List (List ℕ)) (xs : List Float) → numbers ws ≡ all xs → length xs ≡ length ws
-unfolding numbers
-numbers-long [] xs h = ap length (sym (ap listIn h))
-numbers-long (w ∷ ws) xs h = added (readOf w) (numbers ws) xs (length ws) h (numbers-long ws)
-
-pub head-number : (ws : List (List ℕ)) (xs : List Float) → numbers ws ≡ all xs → 0 < length xs → readOf (firstOf ws) ≡ Number (getD xs 0 nan)
-unfolding numbers firstOf
-head-number [] xs h l = absurd (omega (arith, ap (λ (ns : Numbers). length (listIn ns)) h))
-head-number (w ∷ ws) xs h l = added-first (readOf w) (numbers ws) xs h

@@ -1,36 +1,34 @@
 -- The stops and the edit of an input that is read are finite, and its kind is one that can be refreshed. Assumes nothing.
-use Prim.Native.Nat.{ℕ, _+_, _-_}
+use Prim.Native.Nat.{ℕ, _+_, _-_, _<_}
 use native.Mathlib.Omega.{arith}
 use mathlib.Core.Path.{_≡_, refl, sym, ap, _∙_}
 use mathlib.Core.Bool.{Bool, true, false, not, cond, _&&_}
 use mathlib.Core.List.{List, [], _∷_}
-use lib.ListN.{length, drop}
+use lib.ListN.{length, drop, getD}
 use lib.Dec.{leb, eqb}
-use lib.Ieee.{Float}
+use lib.Ieee.{Float, nan}
 use lib.Ieee.Scale.{finite}
 use borrow.Author.Tests.{eqb-true}
 use Rattle.float.proofs.Flags.{both-l, both-r, parts4, failed}
 use Rattle.blend.specs.Finite.{allFinite}
 use Rattle.blend.specs.declared.Stop.{Stop}
-use Rattle.blend.proofs.FiniteLists.{finite-each}
 use Rattle.stops.specs.Stops.{finiteRgba}
 use Rattle.stops.specs.declared.Kind.{Kind}
 use Rattle.gradient.specs.Ramp.{isGimp}
-use Rattle.ggr.specs.Text.{same, starts}
-use Rattle.ggr.specs.Segment.{Numbers, all, none, numbers}
-use Rattle.ggr.specs.declared.text.Count.{Count}
-use Rattle.ggr.specs.declared.text.Count.the-variants.{Bad, Is}
+use Rattle.text.specs.Text.{same, starts, fields, lines}
+use Rattle.text.specs.Rows.{Numbers, all, none, numbers}
+use Rattle.text.specs.declared.digits.Digits.{Digits}
+use Rattle.text.specs.declared.digits.Digits.the-variants.{Bad, Is}
+use Rattle.text.proofs.Read.{Finite, numbers-finite}
 use Rattle.linearize.specs.Constants.{defaultThreshold}
 use Rattle.refresh.specs.RefreshDesk.{refreshable}
-use Rattle.desk.specs.Entries.{fields, exactly, toThreshold, thresholdEntry, toStop, stopEntry, indexOf, toChange, changeEntry, editEntry, stopTag, thresholdTag, editTag, kindLinear, kindSmoothstep, entryOf}
+use Rattle.desk.specs.Entries.{exactly, toThreshold, thresholdEntry, toStop, stopEntry, indexOf, toChange, changeEntry, editEntry, stopTag, thresholdTag, editTag, kindLinear, kindSmoothstep, entryOf}
 use Rattle.desk.specs.Input.{Input, unread, input, mostBytes, ifRamp, ifThreshold, ifStop, ifChange, fromEnd, fromEdit, stopsOf, afterStops, fromStops, fromThreshold, fromKind, inputOf, channelsIn}
-use Rattle.ggr.specs.Text.{lines}
 use Rattle.desk.specs.declared.fields.Edit.{Edit}
 use Rattle.desk.specs.declared.fields.Entry.{Entry}
 use Rattle.desk.specs.declared.fields.Entry.the-variants as entry
 use Rattle.desk.specs.declared.reading.Edited.{Edited}
 use Rattle.desk.specs.declared.reading.Edited.the-variants as edit
-use Rattle.desk.proofs.Finite.{numbersFinite, numbers-finite}
 
 -- ---- entries
 
@@ -45,8 +43,8 @@ plainEntry (entry.Stop s) = finiteRgba (s .colour)
 plainEntry (entry.Change e) = finiteRgba (e .colour)
 plainEntry entry.Unread = true
 
-exactly-plain : (n : ℕ) (make : List Float → Entry) (ns : Numbers) → numbersFinite ns ≡ true → ((xs : List Float) → allFinite xs ≡ true → length xs ≡ n → plainEntry (make xs) ≡ true) → plainEntry (exactly n make ns) ≡ true
-unfolding exactly
+exactly-plain : (n : ℕ) (make : List Float → Entry) (ns : Numbers) → Finite ns → ((xs : List Float) → ((i : ℕ) → i < length xs → finite (getD xs i nan) ≡ true) → length xs ≡ n → plainEntry (make xs) ≡ true) → plainEntry (exactly n make ns) ≡ true
+unfolding exactly Finite
 exactly-plain n make none h f = refl
 exactly-plain n make (all xs) h f = go (eqb (length xs) n) refl where
   go : (t : Bool) → eqb (length xs) n ≡ t → plainEntry (cond t (make xs) entry.Unread) ≡ true
@@ -56,17 +54,17 @@ exactly-plain n make (all xs) h f = go (eqb (length xs) n) refl where
 stop-plain : (fs : List (List ℕ)) → plainEntry (stopEntry fs) ≡ true
 unfolding stopEntry
 stop-plain fs = exactly-plain 5 toStop (numbers fs) (numbers-finite fs) (λ xs h e.
-    rw (finite-each xs h 1 (omega arith), finite-each xs h 2 (omega arith), finite-each xs h 3 (omega arith), finite-each xs h 4 (omega arith)))
+    rw (h 1 (omega arith), h 2 (omega arith), h 3 (omega arith), h 4 (omega arith)))
 
 threshold-plain : (fs : List (List ℕ)) → plainEntry (thresholdEntry fs) ≡ true
 unfolding thresholdEntry
 threshold-plain fs = exactly-plain 1 toThreshold (numbers fs) (numbers-finite fs) (λ xs h e. refl)
 
-change-plain : (c : Count) (fs : List (List ℕ)) → plainEntry (changeEntry c fs) ≡ true
+change-plain : (c : Digits) (fs : List (List ℕ)) → plainEntry (changeEntry c fs) ≡ true
 unfolding changeEntry
 change-plain Bad fs = refl
 change-plain (Is k) fs = exactly-plain 4 (toChange k) (numbers fs) (numbers-finite fs) (λ xs h e.
-    rw (finite-each xs h 0 (omega arith), finite-each xs h 1 (omega arith), finite-each xs h 2 (omega arith), finite-each xs h 3 (omega arith)))
+    rw (h 0 (omega arith), h 1 (omega arith), h 2 (omega arith), h 3 (omega arith)))
 
 edit-plain : (fs : List (List ℕ)) → plainEntry (editEntry fs) ≡ true
 unfolding editEntry

@@ -11,8 +11,10 @@ use borrow.Author.Tests.{leb-true}
 use Rattle.float.proofs.Flags.{both-l, both-r, failed}
 use Rattle.blend.specs.declared.Stop.{Stop}
 use Rattle.stops.specs.declared.Kind.{Kind}
-use Rattle.ggr.specs.Text.{every, atLf, onFirst, lines}
-use Rattle.desk.specs.Entries.{fields, entryOf}
+use Rattle.text.specs.Text.{every, atLf, onFirst, lines}
+use Rattle.text.proofs.Bytes.{every-both, every-drop}
+use Rattle.text.proofs.Fields.{few-fields}
+use Rattle.desk.specs.Entries.{entryOf}
 use Rattle.desk.specs.Input.{Input, unread, input, mostBytes, ifStop, fromKind, inputOf}
 use Rattle.desk.specs.Recoloured.{toTab, afterTab, changedLine, changedLines, SameStops, inLine, textOf, unbroken}
 use Rattle.desk.specs.Tool.{deskOf}
@@ -20,7 +22,6 @@ use Rattle.desk.specs.declared.fields.Edit.{Edit}
 use Rattle.desk.specs.declared.fields.Entry.{Entry}
 use Rattle.desk.specs.declared.fields.Entry.the-variants as entry
 use Rattle.desk.specs.declared.reading.Edited.the-variants as edit
-use Rattle.desk.proofs.Heads.{every-both}
 use Rattle.desk.proofs.ChangedLines.{edit-fields}
 use Rattle.desk.proofs.EditedLines.{edited-lines}
 
@@ -45,12 +46,6 @@ lines-back (l ∷ ls) h = line-back l (textOf ls) (both-l (every inLine l) (unbr
 
 -- ---- parts of lines
 module _ (p : ℕ → Bool) where
-  every-drop : (n : ℕ) (s : List ℕ) → every p s ≡ true → every p (drop n s) ≡ true
-  unfolding every
-  every-drop zero s h = h
-  every-drop (suc n) [] h = refl
-  every-drop (suc n) (b ∷ s) h = every-drop n s (both-r (p b) (every p s) h)
-
   every-to : (s : List ℕ) → every p s ≡ true → every p (toTab s) ≡ true
   unfolding every toTab
   every-to [] h = refl
@@ -82,19 +77,6 @@ length-after (b ∷ s) = go (eqb b 9) (length-after s) where
   go : (t : Bool) → length (afterTab s) ≤ length s → length (cond t s (afterTab s)) ≤ suc (length s)
   go true r = omega arith
   go false r = omega arith
-
-on-length : (b : ℕ) (fs : List (List ℕ)) → length (onFirst b fs) ≤ suc (length fs)
-unfolding onFirst
-on-length b [] = omega arith
-on-length b (f ∷ fs) = omega arith
-
-few-fields : (s : List ℕ) → length (fields s) ≤ suc (length s)
-unfolding fields
-few-fields [] = omega arith
-few-fields (b ∷ s) = go (not (eqb b 9)) (fields s) (few-fields s) where
-  go : (t : Bool) (fs : List (List ℕ)) → length fs ≤ suc (length s) → length (cond t (onFirst b fs) ([] ∷ fs)) ≤ suc (suc (length s))
-  go true fs r = omega (arith, on-length b fs)
-  go false fs r = omega arith
 
 -- ---- the changed lines
 by-stop : {A : Type 0} (P : A → Type 0) (f : Entry) (g : Stop → A) (z : A) → ((s : Stop) → P (g s)) → P z → P (ifStop f g z)

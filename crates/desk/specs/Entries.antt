@@ -1,6 +1,6 @@
 -- A line of the input. Document 01, 'Tools read standard input ..': fields parted by tabs, a word first, then what belongs to it.
 use Prim.Native.Nat.{ℕ, _+_}
-use mathlib.Core.Bool.{Bool, not, cond}
+use mathlib.Core.Bool.{cond}
 use mathlib.Core.List.{List, [], _∷_}
 use lib.ListN.{length, drop, getD}
 use lib.Dec.{leb, eqb}
@@ -8,22 +8,13 @@ use lib.Ieee.{Float, nan}
 use Rattle.blend.specs.declared.Rgba.{Rgba}
 use Rattle.blend.specs.declared.Stop.{Stop}
 use Rattle.stops.specs.declared.Kind.the-variants.{Linear, Smoothstep}
-use Rattle.ggr.specs.Text.{onFirst, same, starts, countOf}
-use Rattle.ggr.specs.Segment.{Numbers, all, none, numbers}
-use Rattle.ggr.specs.declared.text.Count.{Count}
-use Rattle.ggr.specs.declared.text.Count.the-variants.{Bad, Is}
+use Rattle.text.specs.Text.{fields, same, starts}
+use Rattle.text.specs.Digits.{digitsOf}
+use Rattle.text.specs.Rows.{Numbers, all, none, numbers}
+use Rattle.text.specs.declared.digits.Digits.{Digits}
+use Rattle.text.specs.declared.digits.Digits.the-variants.{Bad, Is}
 use Rattle.desk.specs.declared.fields.Entry.{Entry}
 use Rattle.desk.specs.declared.fields.Entry.the-variants as entry
-
--- ---- fields
-
-abbrev pub notTab : ℕ → Bool
-notTab b = not (eqb b 9)
-
--- parted by single tabs; an empty text is one empty field
-unfoldable pub fields : List ℕ → List (List ℕ)
-fields [] = [] ∷ []
-fields (b ∷ s) = cond (notTab b) (onFirst b (fields s)) ([] ∷ fields s)
 
 -- n numbers, no more and no fewer, make an entry
 unfoldable pub exactly : ℕ → (List Float → Entry) → Numbers → Entry
@@ -53,13 +44,13 @@ stopEntry fs = exactly 5 toStop (numbers fs)
 abbrev pub indexDigits : ℕ
 indexDigits = 18
 
-unfoldable pub indexOf : List ℕ → Count
-indexOf f = cond (leb (length f) indexDigits) (countOf f) Bad
+unfoldable pub indexOf : List ℕ → Digits
+indexOf f = cond (leb (length f) indexDigits) (digitsOf f) Bad
 
 abbrev pub toChange : ℕ → List Float → Entry
 toChange k xs = entry.Change (record { index = k; colour = channelsAt xs 0 })
 
-unfoldable pub changeEntry : Count → List (List ℕ) → Entry
+unfoldable pub changeEntry : Digits → List (List ℕ) → Entry
 changeEntry Bad fs = entry.Unread
 changeEntry (Is k) fs = exactly 4 (toChange k) (numbers fs)
 

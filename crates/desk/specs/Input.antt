@@ -7,7 +7,7 @@ use lib.Dec.{leb}
 use lib.Ieee.{Float}
 use Rattle.blend.specs.declared.Stop.{Stop}
 use Rattle.stops.specs.declared.Kind.{Kind}
-use Rattle.ggr.specs.Text.{lines}
+use Rattle.text.specs.Text.{lines}
 use Rattle.linearize.specs.Constants.{defaultThreshold}
 use Rattle.linearize.specs.Kept.{channelsOf}
 use Rattle.desk.specs.Entries.{entryOf}

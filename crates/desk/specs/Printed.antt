@@ -7,6 +7,7 @@ use lib.ListN.{length, drop}
 use lib.Seq.{sets}
 use lib.Dec.{ltb}
 use lib.Ieee.{Float, binary32, toBits}
+use Rattle.refusals.specs.Limits.{mostText}
 use Rattle.blend.specs.declared.Rgba.{Rgba}
 use Rattle.blend.specs.declared.Stop.{Stop}
 use Rattle.stops.specs.Stops.{stopAt}
@@ -75,10 +76,6 @@ unfoldable pub listText : ℕ → ℕ → List Float → List Float → List ℕ
 listText n evaluations ps cs = stopsWord ++ (countText n ++ (evaluationsWord ++ (countText evaluations ++ 10 ∷ rowsText n ps cs)))
 
 -- ---- what the functions within promise
-
--- no text is longer
-abbrev pub mostText : ℕ
-mostText = 65536
 
 -- the text is written from `at` on, as far as the output goes, and the next one starts at r
 pub record Puts (out out′ : List ℕ) (at : ℕ) (text : List ℕ) (r : ℕ) : Type 0 where

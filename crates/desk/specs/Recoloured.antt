@@ -7,8 +7,8 @@ use lib.ListN.{length, take, drop}
 use lib.Dec.{eqb}
 use Rattle.blend.specs.declared.Rgba.{Rgba}
 use Rattle.blend.specs.declared.Stop.{Stop}
-use Rattle.ggr.specs.Text.{every, lines}
-use Rattle.desk.specs.Entries.{fields, stopTag, entryOf}
+use Rattle.text.specs.Text.{every, lines, fields}
+use Rattle.desk.specs.Entries.{stopTag, entryOf}
 use Rattle.desk.specs.Input.{mostBytes, ifStop}
 use Rattle.desk.specs.Printed.{refusedText}
 use Rattle.desk.specs.declared.fields.Edit.{Edit}

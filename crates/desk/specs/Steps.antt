@@ -1,20 +1,16 @@
--- What the parts of the tool promise each other.
-use Prim.Native.Nat.{ℕ, _≤_, _<_}
+-- What private functions promise each other.
+use Prim.Native.Nat.{ℕ, _≤_}
 use mathlib.Core.Path.{_≡_}
-use mathlib.Core.Bool.{cond}
 use mathlib.Core.List.{List}
-use lib.ListN.{length, take, drop}
+use lib.ListN.{length, drop}
 use lib.Seq.{sets}
-use lib.Dec.{eqb}
 use lib.Ieee.{Float}
 use Rattle.blend.specs.declared.Stop.{Stop}
 use Rattle.stops.specs.declared.Kind.{Kind}
-use Rattle.ggr.specs.Text.{lines, firstOf, restOf}
-use Rattle.ggr.specs.Segment.{numbers}
-use Rattle.desk.specs.Entries.{fields, exactly, entryOf}
+use Rattle.text.specs.Text.{lines, firstOf, restOf}
+use Rattle.desk.specs.Entries.{entryOf}
 use Rattle.desk.specs.Input.{Input, unread, input, fromThreshold, fromStops, fromEdit, stopsOf, afterStops, inputOf, positionsIn, channelsIn}
 use Rattle.desk.specs.declared.fields.Entry.{Entry}
-use Rattle.desk.specs.declared.fields.Entry.the-variants as entry
 use Rattle.desk.specs.declared.reading.Edited.{Edited}
 use Rattle.desk.specs.declared.reading.Ending.{Ending}
 use Rattle.desk.specs.declared.reading.Ending.the-variants as ending
@@ -22,16 +18,6 @@ use Rattle.desk.specs.declared.reading.Asked.{Asked}
 use Rattle.desk.specs.declared.reading.Asked.the-variants as asked
 
 -- ---- reading
-
--- the fields from `from` on are the first n numbers of d; 0 of them stands for no row that any line has
-abbrev pub longest : ℕ
-longest = 5
-
-pub record RowAt (l : List ℕ) (from : ℕ) (d : List Float) (n : ℕ) : Type 0 where
-  pub long : length d ≡ longest
-  pub is :
-      (k : ℕ) → 0 < k → k ≤ longest → (make : List Float → Entry)
-      → cond (eqb n k) (make (take k d)) entry.Unread ≡ exactly k make (numbers (fields (drop from l)))
 
 -- what the line at `at` says, and where the lines after it start
 pub record StepAt (s : List ℕ) (at : ℕ) (e : Entry) (next : ℕ) : Type 0 where

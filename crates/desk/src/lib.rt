@@ -2,7 +2,7 @@
 use calls::put_ramp;
 use reading::Asked;
 use reading::read;
-use stops::MOST_STOPS;
+use refusals::MOST_STOPS;
 use writing::put_refused;
 use writing::put_unread;
 ghost use mathlib.Core.Path.{_≡_};

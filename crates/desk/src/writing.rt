@@ -5,7 +5,8 @@ ghost use mathlib.Core.Path.{_≡_};
 ghost use mathlib.Core.List.{[], _∷_};
 ghost use Prim.Native.Nat.{_+_, _*_, _<_, _≤_};
 ghost use lib.ListN.{length};
-ghost use Rattle.desk.specs.Printed.{mostText, decimalOf, hexOf, hexDigit, fieldText, colourText, stopText, rowsText, lineText, unreadText, refusedText, listText, Puts};
+ghost use Rattle.refusals.specs.Limits.{mostText};
+ghost use Rattle.desk.specs.Printed.{decimalOf, hexOf, hexDigit, fieldText, colourText, stopText, rowsText, lineText, unreadText, refusedText, listText, Puts};
 
 const TAB: u8 = 9;
 

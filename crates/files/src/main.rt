@@ -1,12 +1,16 @@
 // The reader on files of every fault, in pairs where their order is to show. Standard input has a file to a line: what
-// it shows, a tab, the file, in which | stands for LF, ^ for CR, _ for tab, ~ for byte 11, ! for byte 200 and @ for a
-// byte-order mark. Then come files that are full, long or torn.
-ghost use Prim.Native.Nat.{_≤_};
-ghost use lib.ListN.{length};
+// it shows, a tab, the file, spelt in one line. Then come files that are full, long or torn.
 use blend::Rgba;
 use ggr::Answer;
 use libc::STDIN_FILENO;
 use libc::STDOUT_FILENO;
+use spelling::append;
+use spelling::count;
+use spelling::decode;
+use spelling::front;
+use text::Class;
+use text::line_at;
+use text::span_end;
 
 fn out(s: &[u8]) {
     io::write_all(STDOUT_FILENO, s);
@@ -55,16 +59,6 @@ fn floats(p: &[f32], x: f32) -> u64 {
     n
 }
 
-fn bytes(p: &[u8], x: u8) -> u64 {
-    let mut n: u64 = 0;
-    for i in 0..p.len() {
-        if p[i] == x {
-            n = std::num::wrapping_add_u64(n, 1);
-        }
-    }
-    n
-}
-
 // What is tried, the answer, and the zeros that the lent outputs then hold.
 fn answer(
     label: &[u8],
@@ -84,7 +78,7 @@ fn answer(
     out(b" ");
     number(floats(channels, 0.0));
     out(b" ");
-    number(bytes(codes, 0));
+    number(count(codes, 0) as u64);
 }
 
 // The answer with room for two segments: 6 positions, 16 channels and 4 codes, each 9 before. Then the name.
@@ -110,76 +104,9 @@ fn show(label: &[u8], text: &[u8]) {
     show_with(label, text, grey(0.25), grey(0.75));
 }
 
-fn plain(b: u8) -> u8 {
-    match b {
-        b'|' => 10,
-        b'^' => 13,
-        b'_' => 9,
-        b'~' => 11,
-        b'!' => 200,
-        _ => b,
-    }
-}
-
-fn put(buf: &mut [u8], at: usize, b: u8) -> usize {
-    if at < buf.len() {
-        buf[at] = b;
-        return at + 1;
-    }
-    at
-}
-
-// s put into buf from `at` on, as far as there is room; the place after it.
-fn append(buf: &mut [u8], at: usize, s: &[u8]) -> usize {
-    let mut n = at;
-    for i in 0..s.len() {
-        n = put(buf, n, s[i]);
-    }
-    n
-}
-
-// The first n bytes of s, or all that there are.
-fn front(s: &[u8], n: usize) -> &[u8] {
-    if n <= s.len() {
-        return &s[..n];
-    }
-    s
-}
-
-// What a byte of the input stands for, put into buf.
-fn put_plain(buf: &mut [u8], at: usize, b: u8) -> usize {
-    if b == b'@' {
-        return append(buf, at, b"\xef\xbb\xbf");
-    }
-    put(buf, at, plain(b))
-}
-
-// A file as it stands in the input, put into buf; its length.
-fn decode(buf: &mut [u8], s: &[u8]) -> usize {
-    let mut n = 0;
-    for i in 0..s.len() {
-        n = put_plain(buf, n, s[i]);
-    }
-    n
-}
-
-// The first place from `from` on that holds b, or the end.
-fn find(s: &[u8], from: usize, b: u8) -> usize
-    ensures { λ r. ⌜ (from ≤ r) × (from ≤ length (now (s .entry)) → r ≤ length (now (s .entry))) ⌝ }
-{
-    let mut i = from;
-    while i < s.len() {
-        if s[i] == b {
-            return i;
-        }
-        i += 1;
-    }
-    i
-}
-
 fn row(line: &[u8]) {
     let mut text = [0u8; 256];
-    let tab = find(line, 0, b'\t');
+    let tab = span_end(line, 0, Class::NotTab);
     if tab < line.len() {
         let n = decode(&mut text, &line[tab + 1..]);
         show(front(line, tab), front(&text, n));
@@ -189,12 +116,10 @@ fn row(line: &[u8]) {
 fn rows(s: &[u8]) {
     let mut at = 0;
     while at < s.len() {
-        let end = find(s, at, b'\n');
+        let l = line_at(s, at);
+        let end = l.end;
         row(&s[at..end]);
-        if s.len() <= end {
-            return;
-        }
-        at = end + 1;
+        at = l.next;
     }
 }
 

@@ -8,16 +8,17 @@ use mathlib.Core.List.{List, [], _∷_, _++_, append-nil, append-assoc}
 use lib.ListN.{length, take, drop, length-append}
 use lib.Seq.{sets, sets-eq, take-at, drop-append-add, drop-drop, length-sets}
 use lib.Ieee.{Float}
+use Rattle.refusals.specs.Refusals.{badSegment, fewLines, notCarried}
 use Rattle.float.specs.F32.{f0}
 use Rattle.blend.specs.declared.Rgba.{Rgba}
-use Rattle.ggr.specs.declared.segment.Segment.{Segment}
+use Rattle.gradient.specs.declared.gimp.Segment.{Segment}
 use Rattle.ggr.specs.declared.segment.SegmentRead.{SegmentRead}
 use Rattle.ggr.specs.declared.segment.SegmentRead.the-variants.{Valid, Invalid, NotCarried}
 use Rattle.ggr.specs.declared.Answer.the-variants.{Read, Refused}
-use Rattle.ggr.specs.Text.{lines, restOf}
+use Rattle.text.specs.Text.{lines, restOf}
 use Rattle.ggr.specs.File.{Outcome, found, refused, addSegment, segments, answerOf, positionsOf, channelsOf, codesOf, flat, written}
 use Rattle.ggr.specs.Steps.{SegmentAt, Filled}
-use Rattle.ggr.proofs.Leads.{no-lines, some-lines}
+use Rattle.text.proofs.Lines.{no-lines, some-lines}
 
 -- ---- items one after the other
 module _ {A : Type 0} (f : Segment → List A) (w : ℕ) (each : (g : Segment) → length (f g) ≡ w) where
@@ -129,7 +130,7 @@ module _ (o : Outcome) (s : List ℕ) (fg bg : Rgba) (n : ℕ) (p₀ c₀ : List
   }
 
   module _ (p c : List Float) (k : List ℕ) (at i : ℕ) (G : Going p c k at i) where
-    pub short : i < n → length s ≤ at → Filled o (Refused 13 3) p₀ c₀ k₀ p c k
+    pub short : i < n → length s ≤ at → Filled o (Refused fewLines 3) p₀ c₀ k₀ p c k
     unfolding segments
     short h e =
         let q : n - i ≡ suc (n - (i + 1)) = omega arith in
@@ -143,11 +144,11 @@ module _ (o : Outcome) (s : List ℕ) (fg bg : Rgba) (n : ℕ) (p₀ c₀ : List
           G .rest ∙ ap (prependAll (G .gs)) (ap₂ (λ (m : ℕ) (ls : List (List ℕ)). segments fg bg m (4 + i) ls) q (some-lines s at z)
           ∙ ap (λ (x : SegmentRead). addSegment (4 + i) x (segments fg bg (n - (i + 1)) (suc (4 + i)) (restOf (lines (drop at s))))) (sym (w .is)))
 
-      pub bad : l ≡ Invalid → Filled o (Refused 12 (4 + i)) p₀ c₀ k₀ p c k
+      pub bad : l ≡ Invalid → Filled o (Refused badSegment (4 + i)) p₀ c₀ k₀ p c k
       unfolding addSegment
       bad e = filled-no o 12 (4 + i) p₀ c₀ k₀ p c k (next ∙ rw e (prepend-refused (G .gs) 12 (4 + i)))
 
-      pub other : l ≡ NotCarried → Filled o (Refused 16 (4 + i)) p₀ c₀ k₀ p c k
+      pub other : l ≡ NotCarried → Filled o (Refused notCarried (4 + i)) p₀ c₀ k₀ p c k
       unfolding addSegment
       other e = filled-no o 16 (4 + i) p₀ c₀ k₀ p c k (next ∙ rw e (prepend-refused (G .gs) 16 (4 + i)))
 

@@ -8,19 +8,21 @@ use lib.ListN.{length, getD}
 use lib.Dec.{leb, eqb}
 use lib.Ieee.{Float, nan}
 use borrow.Author.Tests.{leb-true}
+use Rattle.refusals.specs.Limits.{mostSegments}
 use Rattle.float.proofs.Flags.{both-l, both-r}
 use Rattle.blend.specs.declared.Rgba.{Rgba}
 use Rattle.stops.specs.Stops.{finiteRgba}
-use Rattle.gradient.specs.Gimp.{mostSegments, carried}
-use Rattle.ggr.specs.declared.text.Count.{Count}
-use Rattle.ggr.specs.declared.text.Count.the-variants.{Bad, Is}
-use Rattle.ggr.specs.declared.segment.Segment.{Segment}
+use Rattle.gradient.specs.Gimp.{carried}
+use Rattle.text.specs.declared.digits.Digits.{Digits}
+use Rattle.text.specs.declared.digits.Digits.the-variants.{Bad, Is}
+use Rattle.gradient.specs.declared.gimp.Segment.{Segment}
 use Rattle.ggr.specs.declared.segment.SegmentRead.{SegmentRead}
 use Rattle.ggr.specs.declared.segment.SegmentRead.the-variants.{Valid, Invalid, NotCarried}
 use Rattle.ggr.specs.declared.Answer.the-variants.{Read}
-use Rattle.ggr.specs.Text.{textLines, same, starts, countOf}
-use Rattle.ggr.specs.Segment.{Numbers, all, none, codeOf, validCodes, colourOf, judge, build, fromNumbers, segmentOf}
-use Rattle.ggr.specs.File.{Outcome, found, refused, addSegment, segments, fromCount, counted, fromThird, nameTag, fromSecond, title, fromLines, fitText, fileOf, answerOf, roomOf}
+use Rattle.text.specs.Text.{same, starts}
+use Rattle.text.specs.Rows.{Numbers, all, none}
+use Rattle.ggr.specs.Segment.{codeOf, validCodes, colourOf, judge, build, fromNumbers, segmentOf}
+use Rattle.ggr.specs.File.{textLines, countOf, Outcome, found, refused, addSegment, segments, fromCount, counted, fromThird, nameTag, fromSecond, title, fromLines, fitText, fileOf, answerOf, roomOf}
 use Rattle.ggr.proofs.Finish.{room-fits}
 
 abbrev pub carriedOf : Segment → Bool
@@ -117,7 +119,7 @@ from-count fg bg (suc n) room ls gs a b e =
     let w = all-read fg bg (suc n) 4 ls gs e in
     record { some = omega (arith, w .0); most = omega (arith, w .0); fits = omega (arith, w .0); kinds = w .1 }
 
-from-counted : (fg bg : Rgba) (room : ℕ) (k : Count) (ls : List (List ℕ)) (gs : List Segment) → counted room fg bg k ls ≡ found gs → Given room gs
+from-counted : (fg bg : Rgba) (room : ℕ) (k : Digits) (ls : List (List ℕ)) (gs : List Segment) → counted room fg bg k ls ≡ found gs → Given room gs
 unfolding counted
 from-counted fg bg room Bad ls gs e = no-file e refl
 from-counted fg bg room (Is n) ls gs e =

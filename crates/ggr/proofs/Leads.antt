@@ -4,25 +4,20 @@ use native.Mathlib.Omega.{arith}
 use mathlib.Core.Path.{_≡_, refl, sym, ap, _∙_}
 use mathlib.Core.Bool.{Bool, true, false, cond}
 use mathlib.Core.List.{List, [], _∷_}
-use lib.ListN.{length, take, drop, drop-of-length-le, length-drop}
+use lib.ListN.{length, take, drop}
 use borrow.Author.Tests.{le-leb, lt-leb}
+use Rattle.refusals.specs.Refusals.{badHeader, noSegment, tooManySegments}
+use Rattle.refusals.specs.Limits.{mostSegments}
 use Rattle.blend.specs.declared.Rgba.{Rgba}
-use Rattle.ggr.specs.declared.text.Count.{Count}
-use Rattle.ggr.specs.declared.text.Count.the-variants.{Bad, Is}
+use Rattle.text.specs.declared.digits.Digits.{Digits}
+use Rattle.text.specs.declared.digits.Digits.the-variants.{Bad, Is}
 use Rattle.ggr.specs.declared.header.Lead.{Lead}
 use Rattle.ggr.specs.declared.header.Lead.the-variants.{Counted, Refuse}
-use Rattle.ggr.specs.Text.{unmark, lines, firstOf, restOf, orEmpty, textLines, same, starts, countOf}
-use Rattle.gradient.specs.Gimp.{mostSegments}
-use Rattle.ggr.specs.File.{Outcome, refused, segments, fromCount, counted, fromThird, fromSecond, fromLines, title, nameTag}
-use Rattle.ggr.specs.Steps.{leads, leadFits, LeadsTo, LineAt}
-use Rattle.ggr.proofs.Lines.{lines-some}
-
-pub no-lines : (s : List ℕ) (at : ℕ) → length s ≤ at → lines (drop at s) ≡ []
-unfolding lines
-no-lines s at h = ap lines (drop-of-length-le s h)
-
-pub some-lines : (s : List ℕ) (at : ℕ) → at < length s → lines (drop at s) ≡ firstOf (lines (drop at s)) ∷ restOf (lines (drop at s))
-some-lines s at h = lines-some (drop at s) (omega (arith, length-drop at s))
+use Rattle.text.specs.Text.{unmark, lines, firstOf, restOf, same, starts}
+use Rattle.text.specs.Places.{LineAt}
+use Rattle.ggr.specs.File.{orEmpty, textLines, countOf, Outcome, refused, segments, fromCount, counted, fromThird, fromSecond, fromLines, title, nameTag}
+use Rattle.ggr.specs.Steps.{leads, leadFits, LeadsTo}
+use Rattle.text.proofs.Lines.{no-lines, some-lines}
 
 some-count : (n : ℕ) → (n ≡ 0 → ⊥) → (fg bg : Rgba) (ls : List (List ℕ)) → fromCount fg bg n ls ≡ segments fg bg n 4 ls
 unfolding fromCount
@@ -34,29 +29,29 @@ module _ (s : List ℕ) (at room : ℕ) where
   abbrev third : Rgba → Rgba → Outcome
   third fg bg = fromThird room fg bg (lines (drop at s))
 
-  pub third-end : length s ≤ at → LeadsTo room third (Refuse 14 4) s
+  pub third-end : length s ≤ at → LeadsTo room third (Refuse noSegment 4) s
   unfolding fromThird leads leadFits
   third-end h = record { fits = tt; same = λ fg bg. ap (fromThird room fg bg) (no-lines s at h) }
 
-  module _ (h : at < length s) (end next : ℕ) (w : LineAt s at end next) (k : Count) (q : k ≡ countOf (take (end - at) (drop at s))) where
+  module _ (h : at < length s) (end next : ℕ) (w : LineAt s at end next) (k : Digits) (q : k ≡ countOf (take (end - at) (drop at s))) where
     by : (fg bg : Rgba) → third fg bg ≡ counted room fg bg k (restOf (lines (drop at s)))
     unfolding fromThird
-    by fg bg = ap (fromThird room fg bg) (some-lines s at h) ∙ ap (λ (c : Count). counted room fg bg c (restOf (lines (drop at s)))) (sym (q ∙ ap countOf (w .first)))
+    by fg bg = ap (fromThird room fg bg) (some-lines s at h) ∙ ap (λ (c : Digits). counted room fg bg c (restOf (lines (drop at s)))) (sym (q ∙ ap countOf (w .first)))
 
-    pub third-bad : k ≡ Bad → LeadsTo room third (Refuse 11 3) s
+    pub third-bad : k ≡ Bad → LeadsTo room third (Refuse badHeader 3) s
     unfolding counted leads leadFits
     third-bad e = record { fits = tt; same = λ fg bg. by fg bg ∙ rw e }
 
     module _ (n : ℕ) (e : k ≡ Is n) where
-      pub third-most : mostSegments < n → LeadsTo room third (Refuse 15 3) s
+      pub third-most : mostSegments < n → LeadsTo room third (Refuse tooManySegments 3) s
       unfolding counted leads leadFits
       third-most a = record { fits = tt; same = λ fg bg. by fg bg ∙ rw (e, lt-leb n mostSegments a) }
 
-      pub third-room : n ≤ mostSegments → room < n → LeadsTo room third (Refuse 15 3) s
+      pub third-room : n ≤ mostSegments → room < n → LeadsTo room third (Refuse tooManySegments 3) s
       unfolding counted leads leadFits
       third-room a b = record { fits = tt; same = λ fg bg. by fg bg ∙ rw (e, le-leb n mostSegments a, lt-leb n room b) }
 
-      pub third-zero : n ≤ room → n ≡ 0 → LeadsTo room third (Refuse 14 4) s
+      pub third-zero : n ≤ room → n ≡ 0 → LeadsTo room third (Refuse noSegment 4) s
       unfolding counted leads leadFits fromCount
       third-zero b f = record { fits = tt; same = λ fg bg. by fg bg ∙ rw (e, le-leb n mostSegments (omega arith), le-leb n room b, f) }
 
@@ -72,7 +67,7 @@ module _ (s : List ℕ) (at room : ℕ) where
   abbrev second : Rgba → Rgba → Outcome
   second fg bg = fromSecond room fg bg (lines (drop at s))
 
-  pub second-end : length s ≤ at → LeadsTo room second (Refuse 14 4) s
+  pub second-end : length s ≤ at → LeadsTo room second (Refuse noSegment 4) s
   unfolding fromSecond leads leadFits
   second-end h = record { fits = tt; same = λ fg bg. ap (fromSecond room fg bg) (no-lines s at h) }
 
@@ -83,7 +78,7 @@ module _ (s : List ℕ) (at room : ℕ) where
         ap (fromSecond room fg bg) (some-lines s at h)
         ∙ ap (λ (c : Bool). cond c (fromThird room fg bg (restOf (lines (drop at s)))) (refused 11 2)) (sym (q ∙ ap (starts nameTag) (w .first)))
 
-    pub second-bad : t ≡ false → LeadsTo room second (Refuse 11 2) s
+    pub second-bad : t ≡ false → LeadsTo room second (Refuse badHeader 2) s
     unfolding leads leadFits
     second-bad e = record { fits = tt; same = λ fg bg. by2 fg bg ∙ rw e }
 
@@ -110,7 +105,7 @@ module _ (s : List ℕ) (room : ℕ) where
   abbrev whole : Rgba → Rgba → Outcome
   whole fg bg = fromLines room fg bg (textLines s)
 
-  pub first-end : length s ≡ 0 → LeadsTo room whole (Refuse 14 4) s
+  pub first-end : length s ≡ 0 → LeadsTo room whole (Refuse noSegment 4) s
   unfolding fromLines leads leadFits
   first-end e = record { fits = tt; same = λ fg bg. ap (fromLines room fg bg) (no-text s e) }
 
@@ -120,7 +115,7 @@ module _ (s : List ℕ) (room : ℕ) where
         ap (fromLines room fg bg) (some-text s n ∙ ap (λ (v : List ℕ). orEmpty (lines v)) (sym u)) ∙ or-empty room fg bg (lines (drop at s))
         ∙ ap (λ (c : Bool). cond c (fromSecond room fg bg (restOf (lines (drop at s)))) (refused 11 1)) (sym (q ∙ ap (same title) (w .first)))
 
-    pub first-bad : t ≡ false → LeadsTo room whole (Refuse 11 1) s
+    pub first-bad : t ≡ false → LeadsTo room whole (Refuse badHeader 1) s
     unfolding leads leadFits
     first-bad e = record { fits = tt; same = λ fg bg. by1 fg bg ∙ rw e }
 

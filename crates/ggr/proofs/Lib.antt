@@ -1,8 +1,5 @@
 -- Laws that belong to no one function.
-mod Bytes
-mod Lines
-mod Tokens
-mod Rows
+mod Segments
 mod Codes
 mod Leads
 mod Outputs

@@ -6,26 +6,37 @@ use mathlib.Core.List.{List, [], _∷_, _++_}
 use lib.ListN.{length, drop, replicate}
 use lib.Dec.{leb}
 use lib.Ieee.{Float}
+use Rattle.refusals.specs.Refusals.{notFinite, notAText, badHeader, badSegment, fewLines, noSegment, tooManySegments, notCarried}
+use Rattle.refusals.specs.Limits.{mostSegments, mostText}
 use Rattle.float.specs.F32.{f0}
 use Rattle.blend.specs.declared.Rgba.{Rgba}
 use Rattle.stops.specs.Stops.{finiteRgba}
-use Rattle.gradient.specs.Gimp.{mostSegments}
-use Rattle.ggr.specs.declared.text.Count.{Count}
-use Rattle.ggr.specs.declared.text.Count.the-variants.{Bad, Is}
-use Rattle.ggr.specs.declared.segment.Segment.{Segment}
+use Rattle.text.specs.declared.digits.Digits.{Digits}
+use Rattle.text.specs.declared.digits.Digits.the-variants.{Bad, Is}
+use Rattle.gradient.specs.declared.gimp.Segment.{Segment}
 use Rattle.ggr.specs.declared.segment.SegmentRead.{SegmentRead}
 use Rattle.ggr.specs.declared.segment.SegmentRead.the-variants.{Valid, Invalid, NotCarried}
 use Rattle.ggr.specs.declared.Answer.{Answer}
 use Rattle.ggr.specs.declared.Answer.the-variants.{Read, Refused}
-use Rattle.ggr.specs.Text.{every, ascii, unmark, textLines, firstOf, restOf, same, starts, trim, countOf}
-use Rattle.ggr.specs.Refusals.{notFinite, notText, badHeader, badSegment, fewLines, noSegment, tooMany, notCarried}
+use Rattle.text.specs.Digits.{digitsOf}
+use Rattle.text.specs.Text.{every, ascii, unmark, lines, firstOf, restOf, same, starts, trim}
 use Rattle.ggr.specs.Segment.{segmentOf}
 
--- at most this many bytes, marks counted
-abbrev pub mostBytes : ℕ
-mostBytes = 65536
+-- ---- the lines of a file: those after its marks; marks alone leave an empty line 1
 
--- what a file holds, or the number of a refusal and its line, 0 if none
+unfoldable pub orEmpty : List (List ℕ) → List (List ℕ)
+orEmpty [] = [] ∷ []
+orEmpty (l ∷ ls) = l ∷ ls
+
+unfoldable pub textLines : List ℕ → List (List ℕ)
+textLines [] = []
+textLines (b ∷ s) = orEmpty (lines (unmark (b ∷ s)))
+
+-- the count of line 3 is digits alone, up to 2^64 - 1
+abbrev pub countOf : List ℕ → Digits
+countOf l = digitsOf l
+
+-- ---- what a file holds, or the number of a refusal and its line, 0 if none
 pub data Outcome : Type 0 where
   found : List Segment → Outcome
   refused : ℕ → ℕ → Outcome
@@ -51,9 +62,9 @@ unfoldable pub fromCount : Rgba → Rgba → ℕ → List (List ℕ) → Outcome
 fromCount fg bg zero ls = refused noSegment 4
 fromCount fg bg (suc n) ls = segments fg bg (suc n) 4 ls
 
-unfoldable pub counted : ℕ → Rgba → Rgba → Count → List (List ℕ) → Outcome
+unfoldable pub counted : ℕ → Rgba → Rgba → Digits → List (List ℕ) → Outcome
 counted room fg bg Bad ls = refused badHeader 3
-counted room fg bg (Is n) ls = cond (leb n mostSegments && leb n room) (fromCount fg bg n ls) (refused tooMany 3)
+counted room fg bg (Is n) ls = cond (leb n mostSegments && leb n room) (fromCount fg bg n ls) (refused tooManySegments 3)
 
 -- line 3 is the segment count
 unfoldable pub fromThird : ℕ → Rgba → Rgba → List (List ℕ) → Outcome
@@ -82,12 +93,12 @@ fromLines room fg bg (l ∷ ls) = cond (same title l) (fromSecond room fg bg ls)
 
 -- ASCII text of at most 65,536 bytes, marks counted
 unfoldable pub fitText : List ℕ → Bool
-fitText s = leb (length s) mostBytes && every ascii (unmark s)
+fitText s = leb (length s) mostText && every ascii (unmark s)
 
 unfoldable pub fileOf : ℕ → Rgba → Rgba → List ℕ → Outcome
 fileOf room fg bg s =
     cond (finiteRgba fg && finiteRgba bg)
-    (cond (fitText s) (fromLines room fg bg (textLines s)) (refused notText 0))
+    (cond (fitText s) (fromLines room fg bg (textLines s)) (refused notAText 0))
     (refused notFinite 0)
 
 -- ---- what is answered and written

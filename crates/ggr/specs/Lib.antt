@@ -1,6 +1,4 @@
 -- What a GIMP gradient file holds, and what reading it answers and writes.
-pub mod Text
-pub mod Refusals
 pub mod Segment
 pub mod File
 pub mod Steps

@@ -8,31 +8,13 @@ use lib.IntN.{ℤ, pos, negsuc}
 use lib.Ieee.{Float, nan}
 use Rattle.float.specs.F32.{f0}
 use Rattle.float.specs.Number.{wholeOf}
-use Rattle.decimal.specs.declared.Token.{Token}
-use Rattle.decimal.specs.declared.Token.the-variants.{Number, NoNumber}
-use Rattle.decimal.specs.Decimal.{readOf}
 use Rattle.blend.specs.declared.Rgba.{Rgba}
 use Rattle.gradient.specs.Gimp.{carried}
-use Rattle.ggr.specs.declared.segment.Segment.{Segment}
+use Rattle.gradient.specs.declared.gimp.Segment.{Segment}
 use Rattle.ggr.specs.declared.segment.SegmentRead.{SegmentRead}
 use Rattle.ggr.specs.declared.segment.SegmentRead.the-variants.{Valid, Invalid, NotCarried}
-use Rattle.ggr.specs.Text.{words}
-
--- ---- the numbers of a line
-
--- all of them, or none where a word is no number
-pub data Numbers : Type 0 where
-  all : List Float → Numbers
-  none : Numbers
-
-unfoldable pub addNumber : Token → Numbers → Numbers
-addNumber (Number x) (all xs) = all (x ∷ xs)
-addNumber (Number x) none = none
-addNumber NoNumber o = none
-
-unfoldable pub numbers : List (List ℕ) → Numbers
-numbers [] = all []
-numbers (w ∷ ws) = addNumber (readOf w) (numbers ws)
+use Rattle.text.specs.Text.{words}
+use Rattle.text.specs.Rows.{Numbers, all, none, numbers}
 
 -- ---- codes
 
@@ -89,5 +71,6 @@ fromNumbers fg bg (all xs) =
     cond (eqb (length xs) 13) (build fg bg (xs ++ f0 ∷ f0 ∷ []))
     (cond (eqb (length xs) 15) (build fg bg xs) Invalid)
 
+-- the numbers are the words of the line
 unfoldable pub segmentOf : Rgba → Rgba → List ℕ → SegmentRead
 segmentOf fg bg l = fromNumbers fg bg (numbers (words l))

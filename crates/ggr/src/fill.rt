@@ -1,33 +1,33 @@
 // A file read into the lent outputs.
 use super::Answer;
-use super::MOST_BYTES;
 use super::header::Lead;
 use super::header::header;
-use super::refusal::BAD_SEGMENT;
-use super::refusal::FEW_LINES;
-use super::refusal::NOT_CARRIED;
-use super::refusal::NOT_FINITE;
-use super::refusal::NOT_TEXT;
-use super::segment::Segment;
 use super::segment::SegmentRead;
 use super::segment::segment_at;
-use super::text::is_ascii;
-use super::text::marks;
 use blend::Rgba;
+use gradient::gimp::Segment;
+use refusals::BAD_SEGMENT;
+use refusals::FEW_LINES;
+use refusals::MOST_TEXT;
+use refusals::NOT_A_TEXT;
+use refusals::NOT_CARRIED;
+use refusals::NOT_FINITE;
+use text::is_ascii;
+use text::marks;
 ghost use mathlib.Core.Path.{_≡_};
 ghost use mathlib.Core.List.{[], _∷_};
 ghost use Prim.Native.Nat.{_+_, _*_, _≤_};
 ghost use lib.ListN.{length, drop};
 ghost use lib.Seq.{sets};
-ghost use Rattle.gradient.specs.Gimp.{mostSegments};
-ghost use Rattle.ggr.specs.Text.{lines};
+ghost use Rattle.refusals.specs.Limits.{mostSegments};
+ghost use Rattle.text.specs.Text.{lines};
 ghost use Rattle.ggr.specs.File.{segments, fitText, fileOf, positionsOf, channelsOf, codesOf, roomOf};
 ghost use Rattle.ggr.specs.Steps.{Filled};
 
 fn is_fit_text(s: &[u8]) -> bool
     ensures { λ r. ⌜ r ≡ fitText (now (s .entry)) ⌝ }
 {
-    if MOST_BYTES < s.len() {
+    if MOST_TEXT < s.len() {
         return false;
     }
     let at = marks(s);
@@ -150,7 +150,7 @@ pub(crate) fn read_into(
         return Answer::Refused(NOT_FINITE, 0);
     }
     if !is_fit_text(s) {
-        return Answer::Refused(NOT_TEXT, 0);
+        return Answer::Refused(NOT_A_TEXT, 0);
     }
     let room = room_of(p.len(), c.len(), k.len());
     let lead = header(s, room);

@@ -1,17 +1,17 @@
 // The three header lines: how many segments, or a refusal.
-use super::refusal::BAD_HEADER;
-use super::refusal::NO_SEGMENT;
-use super::refusal::TOO_MANY;
-use super::text::Count;
-use super::text::count_of;
-use super::text::is_same;
-use super::text::line_at;
-use super::text::marks;
-use super::text::starts_with;
-use gradient::gimp::MOST_SEGMENTS;
+use refusals::BAD_HEADER;
+use refusals::MOST_SEGMENTS;
+use refusals::NO_SEGMENT;
+use refusals::TOO_MANY_SEGMENTS;
+use text::digits::Digits;
+use text::digits::digits_of;
+use text::is_same;
+use text::line_at;
+use text::marks;
+use text::starts_with;
 ghost use lib.ListN.{drop};
-ghost use Rattle.ggr.specs.Text.{lines, textLines};
-ghost use Rattle.ggr.specs.File.{fromThird, fromSecond, fromLines};
+ghost use Rattle.text.specs.Text.{lines};
+ghost use Rattle.ggr.specs.File.{textLines, fromThird, fromSecond, fromLines};
 ghost use Rattle.ggr.specs.Steps.{LeadsTo};
 
 // Where the header leads: to so many segments, whose first line starts at a place, or to a refusal with its line.
@@ -30,15 +30,15 @@ fn count_line(s: &[u8], at: usize, room: usize) -> Lead
     let l = line_at(s, at);
     let end = l.end;
     let next = l.next;
-    let Count::Is(n) = count_of(&s[at..end]) else {
+    let Digits::Is(n) = digits_of(&s[at..end]) else {
         return Lead::Refuse(BAD_HEADER, 3);
     };
     let m = n as usize;
     if MOST_SEGMENTS < m {
-        return Lead::Refuse(TOO_MANY, 3);
+        return Lead::Refuse(TOO_MANY_SEGMENTS, 3);
     }
     if room < m {
-        return Lead::Refuse(TOO_MANY, 3);
+        return Lead::Refuse(TOO_MANY_SEGMENTS, 3);
     }
     if m == 0 {
         return Lead::Refuse(NO_SEGMENT, 4);

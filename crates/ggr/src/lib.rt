@@ -1,6 +1,6 @@
 // Reads GIMP gradient files: the segments, written into lent slices, and the name.
 use blend::Rgba;
-use gradient::gimp::MOST_SEGMENTS;
+use refusals::MOST_SEGMENTS;
 use text::line_at;
 use text::marks;
 use text::trimmed;
@@ -11,12 +11,7 @@ ghost use Rattle.ggr.specs.File.{Done, fileOf, roomOf, nameOf};
 
 mod fill;
 mod header;
-mod refusal;
 mod segment;
-pub mod text;
-
-// A file has at most this many bytes, marks counted.
-const MOST_BYTES: usize = 65536;
 
 // How many segments were read, or document 01's number of the refusal and its line, 0 if none.
 pub enum Answer {

@@ -1,31 +1,12 @@
 // A segment line: its numbers, and the segment that they make.
-use super::text::Class;
-use super::text::span_end;
 use blend::Rgba;
-use decimal::Token;
 use gradient::gimp;
+use gradient::gimp::Segment;
+use text::rows::Parting;
+use text::rows::row_at;
 ghost use mathlib.Core.Path.{_≡_};
-ghost use lib.ListN.{drop};
 ghost use Rattle.ggr.specs.Segment.{codeOf, validCodes, withoutAlpha, colourOf, build};
-ghost use Rattle.ggr.specs.Steps.{segmentLength, WordAt, RowAt, SegmentAt};
-
-// Blending codes that are not carried.
-const CURVED: u8 = 1;
-
-const SINUSOIDAL: u8 = 2;
-
-// The colouring code that is.
-const RGB: u8 = 0;
-
-pub struct Segment {
-    pub left: f32,
-    pub middle: f32,
-    pub right: f32,
-    pub lcolor: Rgba,
-    pub rcolor: Rgba,
-    pub blending: u8,
-    pub colouring: u8,
-}
+ghost use Rattle.ggr.specs.Steps.{segmentLength, SegmentAt};
 
 pub enum SegmentRead {
     Valid(Segment),
@@ -134,65 +115,6 @@ fn built(d: [f32; 15], fg: Rgba, bg: Rgba) -> SegmentRead
     SegmentRead::NotCarried
 }
 
-struct Word {
-    at: usize,
-    end: usize,
-}
-
-// The first word of the line that goes on at `from`. A CR is white space, so that one before the LF needs no test.
-fn word_at(s: &[u8], from: usize) -> Word
-    ensures { λ r. ⌜ WordAt (now (s .entry)) from (r .at) (r .end) ⌝ }
-{
-    let at = span_end(s, from, Class::Blank);
-    let end = span_end(s, at, Class::NotWhite);
-    Word { at, end }
-}
-
-// The place after that of an LF, or the end of the text.
-fn past(s: &[u8], at: usize) -> usize
-    ensures { λ r. ⌜ drop r (now (s .entry)) ≡ drop 1 (drop at (now (s .entry))) ⌝ }
-{
-    if at < s.len() {
-        return at + 1;
-    }
-    at
-}
-
-// The numbers of a segment line, n of them in d, and where the next line starts.
-struct Row {
-    d: [f32; 15],
-    n: usize,
-    next: usize,
-}
-
-// The numbers of the line at `at`, whose end is found word by word. A word that is no number, or one too many,
-// leaves n = 0: that is no segment either.
-fn row_at(s: &[u8], at: usize) -> Row
-    ensures { λ r. ⌜ RowAt (now (s .entry)) at (r .d) (r .n) (r .next) ⌝ }
-{
-    let mut d = [0.0f32; 15];
-    let mut n = 0;
-    let mut i = at;
-    loop {
-        let w = word_at(s, i);
-        let start = w.at;
-        let end = w.end;
-        if end <= start {
-            let next = past(s, start);
-            return Row { d, n, next };
-        }
-        if 15 <= n {
-            return Row { d, n: 0, next: end };
-        }
-        let Token::Number(x) = decimal::read(&s[start..end]) else {
-            return Row { d, n: 0, next: end };
-        };
-        d[n] = x;
-        n += 1;
-        i = end;
-    }
-}
-
 fn makes_segment(n: usize) -> bool
     ensures { λ r. ⌜ r ≡ segmentLength n ⌝ }
 {
@@ -212,7 +134,7 @@ pub struct SegmentLine {
 pub(crate) fn segment_at(s: &[u8], at: usize, fg: Rgba, bg: Rgba) -> SegmentLine
     ensures { λ r. ⌜ SegmentAt fg bg (now (s .entry)) at (r .read) (r .next) ⌝ }
 {
-    let row = row_at(s, at);
+    let row = row_at(s, at, Parting::Spaces);
     let n = row.n;
     let next = row.next;
     if !makes_segment(n) {

@@ -1,5 +1,5 @@
 -- The check and the colour of GIMP segments, by the tests that the code makes. Assumes nothing.
-use mathlib.Core.Path.{_≡_, refl, sym, _∙_, ap}
+use mathlib.Core.Path.{_≡_, refl, sym, _∙_, ap, ap₂}
 use mathlib.Core.Bool.{Bool, true, false, cond, _&&_}
 use mathlib.Core.List.{List}
 use Prim.Native.Nat.{ℕ, suc, _+_, _-_, _*_, _≤_, _<_}
@@ -9,13 +9,16 @@ use lib.Dec.{leb, eqb}
 use lib.ListN.{length, getD, List·getD-eq-default}
 use lib.Ieee.{Float, le}
 use borrow.Author.Tests.{leb-true, eqb-true, eq-eqb, ne-eqb}
+use Rattle.refusals.specs.Refusals.{misshapen, notFinite}
+use Rattle.refusals.specs.Limits.{mostSegments}
 use Rattle.float.proofs.Flags.{both-l, both-r}
 use Rattle.blend.specs.Blend.{linear, black}
 use Rattle.blend.specs.Finite.{allFinite}
 use Rattle.blend.specs.declared.Rgba.{Rgba}
 use Rattle.stops.specs.Stops.{colourAt}
 use Rattle.stops.specs.declared.Checked.the-variants.{Fine, Refused}
-use Rattle.gradient.specs.Gimp.{mostSegments, segments, leftAt, middleAt, rightAt, blendingAt, colouringAt, stepCode, increasingCode, decreasingCode, carried, allCarried, gimpShaped, gimpCheck, segmentFor, along, linearFactor, increasing, decreasing, bent, blended, segmentColour, offDomain, gimpColour}
+use Rattle.gradient.specs.Gimp.{segments, leftAt, middleAt, rightAt, blendingAt, colouringAt, stepCode, increasingCode, decreasingCode, carried, allCarried, gimpShaped, gimpCheck, segmentFor, along, linearFactor, increasing, decreasing, bent, blended, gimpSegment, segmentColour, offDomain, gimpColour}
+use Rattle.gradient.specs.declared.gimp.Segment.{Segment}
 
 -- ---- a code past the end
 pub no-code : (ks : List ℕ) (i : ℕ) → length ks ≤ i → 0 ≡ getD ks i 0
@@ -69,19 +72,19 @@ module _ (ps cs : List Float) (ks : List ℕ) where
   abbrev kinds : Bool
   kinds = allCarried (segments ps) 0 ks
 
-  pub check-shape : fits ≡ false → Refused 1 ≡ gimpCheck ps cs ks
+  pub check-shape : fits ≡ false → Refused misshapen ≡ gimpCheck ps cs ks
   unfolding gimpCheck
   check-shape a = simp a
 
-  pub check-kinds : kinds ≡ false → fits ≡ true → Refused 1 ≡ gimpCheck ps cs ks
+  pub check-kinds : kinds ≡ false → fits ≡ true → Refused misshapen ≡ gimpCheck ps cs ks
   unfolding gimpCheck
   check-kinds b a = simp (a, b)
 
-  pub check-positions : allFinite ps ≡ false → kinds ≡ true → fits ≡ true → Refused 2 ≡ gimpCheck ps cs ks
+  pub check-positions : allFinite ps ≡ false → kinds ≡ true → fits ≡ true → Refused notFinite ≡ gimpCheck ps cs ks
   unfolding gimpCheck
   check-positions d b a = simp (a, b, d)
 
-  pub check-channels : allFinite cs ≡ false → allFinite ps ≡ true → kinds ≡ true → fits ≡ true → Refused 2 ≡ gimpCheck ps cs ks
+  pub check-channels : allFinite cs ≡ false → allFinite ps ≡ true → kinds ≡ true → fits ≡ true → Refused notFinite ≡ gimpCheck ps cs ks
   unfolding gimpCheck
   check-channels e d b a = simp (a, b, d, e)
 
@@ -94,7 +97,7 @@ module _ (ps cs : List Float) (ks : List ℕ) where
   unfolding gimpCheck
   fine-shape h = shape (segments ps) (length ps) (length cs) (length ks) (go fits h)
     where
-      go : (b : Bool) → cond (b && kinds) (cond (allFinite ps && allFinite cs) Fine (Refused 2)) (Refused 1) ≡ Fine → b ≡ true
+      go : (b : Bool) → cond (b && kinds) (cond (allFinite ps && allFinite cs) Fine (Refused notFinite)) (Refused misshapen) ≡ Fine → b ≡ true
       go true e = refl
       go false e = let z : _≡_ {A = ℕ} 0 1 = cc in absurd (omega arith)
 
@@ -112,29 +115,33 @@ pub bent-not : (k : ℕ) (f : Float) → (k ≡ increasingCode → ⊥) → (k �
 unfolding bent
 bent-not k f a b = simp (ne-eqb k increasingCode a, ne-eqb k decreasingCode b)
 
-module _ (k : ℕ) (p q : Rgba) (middle place : Float) where
-  pub step-right : k ≡ stepCode → le middle place ≡ true → q ≡ blended k p q middle place
+module _ (g : Segment) (pivot place : Float) where
+  pub step-right : g .blending ≡ stepCode → le pivot place ≡ true → g .rcolor ≡ blended g pivot place
   unfolding blended
-  step-right a b = simp (eq-eqb k stepCode a, b)
+  step-right a b = simp (eq-eqb (g .blending) stepCode a, b)
 
-  pub step-left : k ≡ stepCode → le middle place ≡ false → p ≡ blended k p q middle place
+  pub step-left : g .blending ≡ stepCode → le pivot place ≡ false → g .lcolor ≡ blended g pivot place
   unfolding blended
-  step-left a b = simp (eq-eqb k stepCode a, b)
+  step-left a b = simp (eq-eqb (g .blending) stepCode a, b)
 
-  pub mixed-at : (k ≡ stepCode → ⊥) → {f g : Float} {z : Rgba} → f ≡ linearFactor middle place → g ≡ bent k f → z ≡ linear p q g → z ≡ blended k p q middle place
+  pub mixed-at : (g .blending ≡ stepCode → ⊥) → {x y : Float} {z : Rgba} → x ≡ linearFactor pivot place → y ≡ bent (g .blending) x → z ≡ linear (g .lcolor) (g .rcolor) y → z ≡ blended g pivot place
   unfolding blended
-  mixed-at a {f} e h z = z ∙ ap (λ (x : Float). linear p q x) (h ∙ ap (λ (x : Float). bent k x) e) ∙ simp (ne-eqb k stepCode a)
+  mixed-at a e h z = z ∙ ap (λ (w : Float). linear (g .lcolor) (g .rcolor) w) (h ∙ ap (λ (w : Float). bent (g .blending) w) e) ∙ simp (ne-eqb (g .blending) stepCode a)
 
-pub segment-done : (ps cs : List Float) (ks : List ℕ) (i : ℕ) (t : Float) {left right mid middle place : Float} {k : ℕ} {p q z : Rgba}
-    → left ≡ leftAt ps i → right ≡ rightAt ps i → mid ≡ middleAt ps i
-    → middle ≡ along left right mid → place ≡ along left right t
-    → k ≡ blendingAt ks i → p ≡ colourAt cs (2 * i) → q ≡ colourAt cs (2 * i + 1) → z ≡ blended k p q middle place → z ≡ segmentColour ps cs ks i t
+pub segment-coloured : (g : Segment) (t : Float) {pivot place : Float} {z : Rgba} → pivot ≡ along (g .left) (g .right) (g .middle) → place ≡ along (g .left) (g .right) t → z ≡ blended g pivot place → z ≡ segmentColour g t
 unfolding segmentColour
-segment-done ps cs ks i t l r m a b k p q z = cc
+segment-coloured g t a b z = z ∙ ap₂ (blended g) a b
 
-pub inside : (ps cs : List Float) (ks : List ℕ) (t : Float) {o : Bool} {i : ℕ} {z : Rgba} → o ≡ offDomain t → o ≡ false → i ≡ segmentFor ps t → z ≡ segmentColour ps cs ks i t → z ≡ gimpColour ps cs ks t
+-- a segment read part by part
+pub segment-is : (ps cs : List Float) (ks : List ℕ) (i : ℕ) {l m r : Float} {p q : Rgba} {b k : ℕ}
+    → l ≡ leftAt ps i → m ≡ middleAt ps i → r ≡ rightAt ps i → p ≡ colourAt cs (2 * i) → q ≡ colourAt cs (2 * i + 1) → b ≡ blendingAt ks i → k ≡ colouringAt ks i
+    → _≡_ {A = Segment} (record { left = l; middle = m; right = r; lcolor = p; rcolor = q; blending = b; colouring = k }) (gimpSegment ps cs ks i)
+unfolding gimpSegment
+segment-is ps cs ks i l m r p q b k = cc
+
+pub inside : (ps cs : List Float) (ks : List ℕ) (t : Float) {o : Bool} {i : ℕ} {g : Segment} {z : Rgba} → o ≡ offDomain t → o ≡ false → i ≡ segmentFor ps t → g ≡ gimpSegment ps cs ks i → z ≡ segmentColour g t → z ≡ gimpColour ps cs ks t
 unfolding gimpColour
-inside ps cs ks t o f e z = z ∙ ap (λ (n : ℕ). segmentColour ps cs ks n t) e ∙ simp (sym o ∙ f)
+inside ps cs ks t o f e g z = z ∙ ap (λ (x : Segment). segmentColour x t) (g ∙ ap (gimpSegment ps cs ks) e) ∙ simp (sym o ∙ f)
 
 pub beyond : (ps cs : List Float) (ks : List ℕ) (t : Float) {o : Bool} → o ≡ offDomain t → o ≡ true → black ≡ gimpColour ps cs ks t
 unfolding gimpColour

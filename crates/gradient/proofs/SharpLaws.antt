@@ -11,12 +11,14 @@ use lib.Seq.{drop-cons, take-at}
 use lib.Ieee.{Float, nan, inf, lt, eq}
 use lib.Ieee.Scale.{finite}
 use borrow.Author.Tests.{eq-eqb, ne-eqb, lt-ltb, le-ltb, leb-true, eqb-true, not-true}
+use Rattle.refusals.specs.Refusals.{misshapen, notFinite, notBuilt}
+use Rattle.refusals.specs.Limits.{mostColours}
 use Rattle.float.proofs.Flags.{both-l, both-r}
 use Rattle.float.specs.F32.{_⊕_, _⊖_, _⊗_, _⊘_, f4, tenth}
 use Rattle.float.specs.Number.{clampOf, countOf}
 use Rattle.blend.specs.Points.{linspaceAt}
 use Rattle.blend.specs.Finite.{allFinite}
-use Rattle.gradient.specs.Sharp.{mostBands, softnessOf, insetOf, bandAt, listed, sharpPositions, channelAt, sharpChannels, domainFits, steady, roomy, bands, buildOf, numberOfBuilt, stopsOfBuilt, after, Builds}
+use Rattle.gradient.specs.Sharp.{softnessOf, insetOf, bandAt, listed, sharpPositions, channelAt, sharpChannels, domainFits, steady, roomy, bands, buildOf, numberOfBuilt, stopsOfBuilt, after, Builds}
 use Rattle.gradient.specs.declared.sharp.Built.{Built}
 use Rattle.gradient.specs.declared.sharp.Built.the-variants.{Stops, Refused}
 use Rattle.gradient.proofs.Filling.{length-listed}
@@ -91,13 +93,13 @@ steady-rises max prev (p ∷ q ∷ ps) h (suc i) l = steady-rises max p (q ∷ p
 -- ---- what the tests tell
 pub record Few (n : ℕ) : Type 0 where
   pub least : 1 ≤ n
-  pub most : n ≤ mostBands
+  pub most : n ≤ mostColours
 
 pub few : (n : ℕ) (min max : Float) → domainFits n min max ≡ true → Few n
 unfolding domainFits
 few n min max h =
-    let ab = both-l (leb 1 n && leb n mostBands) (finite min) (both-l (leb 1 n && leb n mostBands && finite min) (finite max) (both-l (leb 1 n && leb n mostBands && finite min && finite max) (not (lt max min)) h)) in
-    record { least = leb-true 1 n (both-l (leb 1 n) (leb n mostBands) ab); most = leb-true n mostBands (both-r (leb 1 n) (leb n mostBands) ab) }
+    let ab = both-l (leb 1 n && leb n mostColours) (finite min) (both-l (leb 1 n && leb n mostColours && finite min) (finite max) (both-l (leb 1 n && leb n mostColours && finite min && finite max) (not (lt max min)) h)) in
+    record { least = leb-true 1 n (both-l (leb 1 n) (leb n mostColours) ab); most = leb-true n mostColours (both-r (leb 1 n) (leb n mostColours) ab) }
 
 pub record Room (m n p c : ℕ) : Type 0 where
   pub whole : m ≡ 4 * n
@@ -118,19 +120,19 @@ module _ (colours : List Float) (min max s : Float) (p c : ℕ) where
   abbrev fit : Bool
   fit = steady max (inf true) (sharpPositions min max s n)
 
-  pub build-domain : domainFits n min max ≡ false → Refused 17 ≡ buildOf colours min max s p c
+  pub build-domain : domainFits n min max ≡ false → Refused notBuilt ≡ buildOf colours min max s p c
   unfolding buildOf
   build-domain a = simp a
 
-  pub build-fit : fit ≡ false → domainFits n min max ≡ true → Refused 17 ≡ buildOf colours min max s p c
+  pub build-fit : fit ≡ false → domainFits n min max ≡ true → Refused notBuilt ≡ buildOf colours min max s p c
   unfolding buildOf
   build-fit b a = simp (a, b)
 
-  pub build-room : roomy (length colours) n p c ≡ false → fit ≡ true → domainFits n min max ≡ true → Refused 1 ≡ buildOf colours min max s p c
+  pub build-room : roomy (length colours) n p c ≡ false → fit ≡ true → domainFits n min max ≡ true → Refused misshapen ≡ buildOf colours min max s p c
   unfolding buildOf
   build-room d b a = simp (a, b, d)
 
-  pub build-finite : allFinite colours ≡ false → roomy (length colours) n p c ≡ true → fit ≡ true → domainFits n min max ≡ true → Refused 2 ≡ buildOf colours min max s p c
+  pub build-finite : allFinite colours ≡ false → roomy (length colours) n p c ≡ true → fit ≡ true → domainFits n min max ≡ true → Refused notFinite ≡ buildOf colours min max s p c
   unfolding buildOf
   build-finite e d b a = simp (a, b, d, e)
 
@@ -147,7 +149,7 @@ module _ (colours : List Float) (min max s : Float) (p c : ℕ) where
     pub many : 2 * n ≡ m
 
   cases : (m : ℕ) (a b d e : Bool) → domainFits n min max ≡ a → fit ≡ b → roomy (length colours) n p c ≡ d → allFinite colours ≡ e
-      → cond (a && b) (cond d (cond e (Stops (2 * n)) (Refused 2)) (Refused 1)) (Refused 17) ≡ Stops m → Made m
+      → cond (a && b) (cond d (cond e (Stops (2 * n)) (Refused notFinite)) (Refused misshapen)) (Refused notBuilt) ≡ Stops m → Made m
   cases m false b d e A B D E h = let z : _≡_ {A = ℕ} 0 1 = cc in absurd (omega arith)
   cases m true false d e A B D E h = let z : _≡_ {A = ℕ} 0 1 = cc in absurd (omega arith)
   cases m true true false e A B D E h = let z : _≡_ {A = ℕ} 0 1 = cc in absurd (omega arith)

@@ -8,9 +8,10 @@ use lib.ListN.{length, getD}
 use lib.Ieee.{Float, nan, inf}
 use lib.Ieee.Scale.{finite}
 use borrow.Author.Tests.{eq-eqb}
+use Rattle.refusals.specs.Limits.{mostStops}
 use Rattle.blend.specs.Finite.{allFinite}
 use Rattle.blend.proofs.FiniteLists.{finite-each}
-use Rattle.stops.specs.Stops.{colourAt, finiteRgba, mostStops}
+use Rattle.stops.specs.Stops.{colourAt, finiteRgba}
 use Rattle.stops.specs.Place.{Rising}
 use Rattle.stops.specs.declared.Kind.the-variants.{Sharp}
 use Rattle.stops.specs.declared.Checked.the-variants.{Fine}

@@ -7,6 +7,8 @@ use mathlib.Core.List.{List}
 use lib.Dec.{leb, ltb, eqb}
 use lib.ListN.{length, getD}
 use lib.Ieee.{Float, le, lt, isNan}
+use Rattle.refusals.specs.Refusals.{misshapen, notFinite}
+use Rattle.refusals.specs.Limits.{mostSegments}
 use Rattle.float.specs.F32.{_⊕_, _⊖_, _⊗_, _⊘_, f0, f1, half, epsilon}
 use Rattle.sqrt.specs.Root.{rootOf}
 use Rattle.blend.specs.Blend.{linear, black}
@@ -15,10 +17,7 @@ use Rattle.blend.specs.declared.Rgba.{Rgba}
 use Rattle.stops.specs.Stops.{posAt, colourAt}
 use Rattle.stops.specs.declared.Checked.{Checked}
 use Rattle.stops.specs.declared.Checked.the-variants.{Fine, Refused}
-
--- ---- what is lent
-abbrev pub mostSegments : ℕ
-mostSegments = 256
+use Rattle.gradient.specs.declared.gimp.Segment.{Segment}
 
 -- how many segments: three positions each
 abbrev pub segments : List Float → ℕ
@@ -38,6 +37,18 @@ blendingAt ks i = getD ks (2 * i) 0
 
 abbrev pub colouringAt : List ℕ → ℕ → ℕ
 colouringAt ks i = getD ks (2 * i + 1) 0
+
+-- segment i of the lists
+unfoldable pub gimpSegment : List Float → List Float → List ℕ → ℕ → Segment
+gimpSegment ps cs ks i = record {
+  left = leftAt ps i;
+  middle = middleAt ps i;
+  right = rightAt ps i;
+  lcolor = colourAt cs (2 * i);
+  rcolor = colourAt cs (2 * i + 1);
+  blending = blendingAt ks i;
+  colouring = colouringAt ks i;
+}
 
 -- ---- the kinds carried: blending linear, spherical increasing, spherical decreasing, step; colouring RGB
 abbrev pub linearCode : ℕ
@@ -72,8 +83,8 @@ gimpShaped n p c k = leb 1 n && leb n mostSegments && eqb p (3 * n) && eqb c (8 
 unfoldable pub gimpCheck : List Float → List Float → List ℕ → Checked
 gimpCheck ps cs ks =
     cond (gimpShaped (segments ps) (length ps) (length cs) (length ks) && allCarried (segments ps) 0 ks)
-    (cond (allFinite ps && allFinite cs) Fine (Refused 2))
-    (Refused 1)
+    (cond (allFinite ps && allFinite cs) Fine (Refused notFinite))
+    (Refused misshapen)
 
 -- ---- the search
 -- The segment tried last, of those from low to before high; `tried` is the one tried before, and at most `left` are tried.
@@ -113,17 +124,17 @@ unfoldable pub bent : ℕ → Float → Float
 bent blending f = cond (eqb blending increasingCode) (increasing f) (cond (eqb blending decreasingCode) (decreasing f) f)
 
 -- ---- the colour
--- from the colour p to the colour q; a step gives one of the two itself
-unfoldable pub blended : ℕ → Rgba → Rgba → Float → Float → Rgba
-blended blending p q middle place =
-    cond (eqb blending stepCode) (cond (le middle place) q p) (linear p q (bent blending (linearFactor middle place)))
+-- the one rule of blending: a segment's colour at a place, where `pivot` is the place of its middle. A step gives one of the two colours itself, and a colouring
+-- that is not carried is taken as RGB
+unfoldable pub blended : Segment → Float → Float → Rgba
+blended g pivot place =
+    cond (eqb (g .blending) stepCode)
+    (cond (le pivot place) (g .rcolor) (g .lcolor))
+    (linear (g .lcolor) (g .rcolor) (bent (g .blending) (linearFactor pivot place)))
 
--- segment i at t, which need not lie in it. A colouring that is not carried is taken as RGB
-unfoldable pub segmentColour : List Float → List Float → List ℕ → ℕ → Float → Rgba
-segmentColour ps cs ks i t =
-    blended (blendingAt ks i) (colourAt cs (2 * i)) (colourAt cs (2 * i + 1))
-    (along (leftAt ps i) (rightAt ps i) (middleAt ps i))
-    (along (leftAt ps i) (rightAt ps i) t)
+-- a segment at t, which need not lie in it
+unfoldable pub segmentColour : Segment → Float → Rgba
+segmentColour g t = blended g (along (g .left) (g .right) (g .middle)) (along (g .left) (g .right) t)
 
 -- the domain is 0..1
 unfoldable pub offDomain : Float → Bool
@@ -131,4 +142,4 @@ offDomain t = lt t f0 || lt f1 t || isNan t
 
 unfoldable pub gimpColour : List Float → List Float → List ℕ → Float → Rgba
 gimpColour ps cs ks t =
-    cond (offDomain t) black (segmentColour ps cs ks (segmentFor ps t) t)
+    cond (offDomain t) black (segmentColour (gimpSegment ps cs ks (segmentFor ps t)) t)

@@ -7,15 +7,14 @@ use lib.Dec.{leb, ltb, eqb}
 use lib.ListN.{length, getD, drop}
 use lib.Ieee.{Float, nan, inf, lt, eq}
 use lib.Ieee.Scale.{finite}
+use Rattle.refusals.specs.Refusals.{misshapen, notFinite, notBuilt}
+use Rattle.refusals.specs.Limits.{mostColours}
 use Rattle.float.specs.F32.{_⊕_, _⊖_, _⊗_, _⊘_, f4, tenth}
 use Rattle.float.specs.Number.{clampOf, countOf}
 use Rattle.blend.specs.Points.{linspaceAt}
 use Rattle.blend.specs.Finite.{allFinite}
 use Rattle.gradient.specs.declared.sharp.Built.{Built}
 use Rattle.gradient.specs.declared.sharp.Built.the-variants.{Stops, Refused}
-
-abbrev pub mostBands : ℕ
-mostBands = 256
 
 -- ---- the stops
 -- not finite becomes 0.1, else is clamped to 0..1
@@ -51,7 +50,7 @@ sharpChannels colours n = listed (channelAt colours) (8 * n)
 -- ---- the refusals
 -- 17: n bands over a domain
 unfoldable pub domainFits : ℕ → Float → Float → Bool
-domainFits n min max = leb 1 n && leb n mostBands && finite min && finite max && not (lt max min)
+domainFits n min max = leb 1 n && leb n mostColours && finite min && finite max && not (lt max min)
 
 -- 17: finite positions that do not fall and end at max; `prev` is the one before
 unfoldable pub steady : Float → Float → List Float → Bool
@@ -71,8 +70,8 @@ unfoldable pub buildOf : List Float → Float → Float → Float → ℕ → �
 buildOf colours min max s p c =
     let n = bands colours in
     cond (domainFits n min max && steady max (inf true) (sharpPositions min max s n))
-    (cond (roomy (length colours) n p c) (cond (allFinite colours) (Stops (2 * n)) (Refused 2)) (Refused 1))
-    (Refused 17)
+    (cond (roomy (length colours) n p c) (cond (allFinite colours) (Stops (2 * n)) (Refused notFinite)) (Refused misshapen))
+    (Refused notBuilt)
 
 -- document 01's number of each answer, 0 for none, and its value, the number of stops; it has no line
 abbrev pub numberOfBuilt : Built → ℕ

@@ -2,14 +2,16 @@
 // channels 8i.. (left r g b a, right r g b a) and codes 2i.. (blending, colouring).
 use blend::Rgba;
 use blend::utils;
+use refusals::MISSHAPEN;
+use refusals::MOST_SEGMENTS;
+use refusals::NOT_FINITE;
 use stops::Checked;
 ghost use mathlib.Core.Path.{_≡_};
 ghost use Prim.Native.Nat.{_*_, _≤_};
 ghost use lib.ListN.{length, getD};
+ghost use Rattle.refusals.specs.Limits.{mostSegments};
 ghost use Rattle.stops.specs.Answers.{Checks};
-ghost use Rattle.gradient.specs.Gimp.{mostSegments, segments, carried, allCarried, gimpShaped, gimpCheck, segmentFor, along, linearFactor, increasing, decreasing, bent, blended, segmentColour, offDomain, gimpColour};
-
-pub const MOST_SEGMENTS: usize = 256;
+ghost use Rattle.gradient.specs.Gimp.{segments, carried, allCarried, gimpShaped, gimpCheck, segmentFor, along, linearFactor, increasing, decreasing, bent, blended, gimpSegment, segmentColour, offDomain, gimpColour};
 
 // The codes carried: of blending, and of colouring.
 pub const LINEAR: u8 = 0;
@@ -21,6 +23,18 @@ pub const SPHERICAL_DECREASING: u8 = 4;
 pub const STEP: u8 = 5;
 
 pub const RGB: u8 = 0;
+
+// A segment: its ends and the point between them where the blend is half done, the colours at the ends, and the codes of
+// how one turns into the other.
+pub struct Segment {
+    pub left: f32,
+    pub middle: f32,
+    pub right: f32,
+    pub lcolor: Rgba,
+    pub rcolor: Rgba,
+    pub blending: u8,
+    pub colouring: u8,
+}
 
 // 2^-23.
 const EPSILON: f32 = 0.00000011920928955078125;
@@ -82,16 +96,16 @@ pub fn check(positions: &[f32], channels: &[f32], codes: &[u8]) -> Checked
 {
     let n = positions.len() / 3;
     if !is_shaped(n, positions.len(), channels.len(), codes.len()) {
-        return Checked::Refused(1);
+        return Checked::Refused(MISSHAPEN);
     }
     if !are_carried(codes, n) {
-        return Checked::Refused(1);
+        return Checked::Refused(MISSHAPEN);
     }
     if !utils::all_finite(positions) {
-        return Checked::Refused(2);
+        return Checked::Refused(NOT_FINITE);
     }
     if !utils::all_finite(channels) {
-        return Checked::Refused(2);
+        return Checked::Refused(NOT_FINITE);
     }
     Checked::Fine
 }
@@ -128,6 +142,29 @@ fn code(codes: &[u8], i: usize) -> u8
     0
 }
 
+// Segment i of any slices at all: past the end of a slice a number is not-a-number and a code is 0.
+fn segment_at(positions: &[f32], channels: &[f32], codes: &[u8], i: usize) -> Segment
+    requires { ⌜ i ≤ segments (now positions) ⌝ }
+    ensures { λ r. ⌜ r ≡ gimpSegment (now (positions .entry)) (now (channels .entry)) (now (codes .entry)) i ⌝ }
+{
+    let left = stops::item(positions, 3 * i);
+    let middle = stops::item(positions, 3 * i + 1);
+    let right = stops::item(positions, 3 * i + 2);
+    let lcolor = stops::colour(channels, 2 * i);
+    let rcolor = stops::colour(channels, 2 * i + 1);
+    let blending = code(codes, 2 * i);
+    let colouring = code(codes, 2 * i + 1);
+    Segment {
+        left,
+        middle,
+        right,
+        lcolor,
+        rcolor,
+        blending,
+        colouring,
+    }
+}
+
 // Where x lies from left, 0, to right, 1.
 pub fn place_along(left: f32, right: f32, x: f32) -> f32
     ensures { λ r. ⌜ r ≡ along left right x ⌝ }
@@ -139,7 +176,7 @@ pub fn place_along(left: f32, right: f32, x: f32) -> f32
     (x - left) / length
 }
 
-pub fn calc_linear_factor(middle: f32, place: f32) -> f32
+fn calc_linear_factor(middle: f32, place: f32) -> f32
     ensures { λ r. ⌜ r ≡ linearFactor middle place ⌝ }
 {
     if place <= middle {
@@ -166,7 +203,7 @@ fn spherical_decreasing(f: f32) -> f32
     1.0 - sqrt::root(1.0 - f * f)
 }
 
-pub fn bend(blending: u8, f: f32) -> f32
+fn bend(blending: u8, f: f32) -> f32
     ensures { λ r. ⌜ r ≡ bent blending f ⌝ }
 {
     if blending == SPHERICAL_INCREASING {
@@ -178,34 +215,28 @@ pub fn bend(blending: u8, f: f32) -> f32
     f
 }
 
-fn blend(blending: u8, p: Rgba, q: Rgba, middle: f32, place: f32) -> Rgba
-    ensures { λ r. ⌜ r ≡ blended blending p q middle place ⌝ }
+// The one rule of blending: the colour at a place of the segment. Both the place and the pivot, which is the place of the
+// middle, are counted from the left end, 0, to the right end, 1: painting works out the pivot once for many points.
+pub fn blend(g: Segment, pivot: f32, place: f32) -> Rgba
+    ensures { λ r. ⌜ r ≡ blended g pivot place ⌝ }
 {
-    if blending == STEP {
-        if place >= middle {
-            return q;
+    if g.blending == STEP {
+        if place >= pivot {
+            return g.rcolor;
         }
-        return p;
+        return g.lcolor;
     }
-    utils::interpolate_linear(p, q, bend(blending, calc_linear_factor(middle, place)))
+    let f = bend(g.blending, calc_linear_factor(pivot, place));
+    utils::interpolate_linear(g.lcolor, g.rcolor, f)
 }
 
-// The colour of segment i at t, which need not lie in it.
-fn segment_colour(positions: &[f32], channels: &[f32], codes: &[u8], i: usize, t: f32) -> Rgba
-    requires { ⌜ i ≤ segments (now positions) ⌝ }
-    ensures { λ r. ⌜ r ≡ segmentColour (now (positions .entry)) (now (channels .entry)) (now (codes .entry)) i t ⌝ }
+// The colour of a segment at t, which need not lie in it.
+fn segment_colour(g: Segment, t: f32) -> Rgba
+    ensures { λ r. ⌜ r ≡ segmentColour g t ⌝ }
 {
-    let left = stops::item(positions, 3 * i);
-    let right = stops::item(positions, 3 * i + 2);
-    let middle = place_along(left, right, stops::item(positions, 3 * i + 1));
-    let place = place_along(left, right, t);
-    blend(
-        code(codes, 2 * i),
-        stops::colour(channels, 2 * i),
-        stops::colour(channels, 2 * i + 1),
-        middle,
-        place,
-    )
+    let pivot = place_along(g.left, g.right, g.middle);
+    let place = place_along(g.left, g.right, t);
+    blend(g, pivot, place)
 }
 
 pub fn is_off_domain(t: f32) -> bool
@@ -232,5 +263,6 @@ pub fn colour_at(positions: &[f32], channels: &[f32], codes: &[u8], t: f32) -> R
             a: 1.0,
         };
     }
-    segment_colour(positions, channels, codes, find_segment(positions, t), t)
+    let g = segment_at(positions, channels, codes, find_segment(positions, t));
+    segment_colour(g, t)
 }

@@ -1,14 +1,17 @@
 // How a sharp ramp is built: n colours, each a band, give 2n stops.
 use blend::utils;
+use refusals::MISSHAPEN;
+use refusals::MOST_COLOURS;
+use refusals::NOT_BUILT;
+use refusals::NOT_FINITE;
 ghost use mathlib.Core.Path.{_≡_};
 ghost use mathlib.Core.Bool.{true};
 ghost use mathlib.Core.List.{_++_};
 ghost use Prim.Native.Nat.{_*_, _<_, _≤_};
 ghost use lib.ListN.{length, take, drop};
 ghost use lib.Ieee.{inf};
-ghost use Rattle.gradient.specs.Sharp.{mostBands, softnessOf, insetOf, bandAt, sharpPositions, sharpChannels, domainFits, steady, roomy, Builds};
-
-pub const MOST_BANDS: usize = 256;
+ghost use Rattle.refusals.specs.Limits.{mostColours};
+ghost use Rattle.gradient.specs.Sharp.{softnessOf, insetOf, bandAt, sharpPositions, sharpChannels, domainFits, steady, roomy, Builds};
 
 // How many stops were written, or the number of the refusal.
 pub enum Built {
@@ -34,7 +37,7 @@ fn inset_of(min: f32, max: f32, s: f32, n: usize) -> f32
 
 // The position of stop j of 2n.
 fn band(min: f32, max: f32, inset: f32, n: usize, j: usize) -> f32
-    requires { ⌜ (n ≤ mostBands) × (j < 2 * n) ⌝ }
+    requires { ⌜ (n ≤ mostColours) × (j < 2 * n) ⌝ }
     ensures { λ r. ⌜ r ≡ bandAt min max inset n j ⌝ }
 {
     let points = (n + 1) as u16;
@@ -55,7 +58,7 @@ fn band(min: f32, max: f32, inset: f32, n: usize, j: usize) -> f32
 
 // The positions of the 2n stops, in front.
 fn write_positions(min: f32, max: f32, s: f32, n: usize, positions: &mut [f32])
-    requires { ⌜ (n ≤ mostBands) × (2 * n ≤ length (now positions)) ⌝ }
+    requires { ⌜ (n ≤ mostColours) × (2 * n ≤ length (now positions)) ⌝ }
     ensures { λ _. ⌜ take (2 * n) (now (positions .exit)) ≡ sharpPositions min max s n ⌝ }
 {
     let inset = inset_of(min, max, s, n);
@@ -69,7 +72,7 @@ fn write_positions(min: f32, max: f32, s: f32, n: usize, positions: &mut [f32])
 
 // Each colour twice.
 fn write_channels(colours: &[f32], n: usize, channels: &mut [f32])
-    requires { ⌜ (n ≤ mostBands) × (length (now colours) ≡ 4 * n) × (8 * n ≤ length (now channels)) ⌝ }
+    requires { ⌜ (n ≤ mostColours) × (length (now colours) ≡ 4 * n) × (8 * n ≤ length (now channels)) ⌝ }
     ensures { λ _. ⌜ now (channels .exit) ≡ sharpChannels (now (colours .entry)) n ++ drop (8 * n) (now (channels .entry)) ⌝ }
 {
     let m = 8 * n;
@@ -118,7 +121,7 @@ fn domain_fits(n: usize, min: f32, max: f32) -> bool
     if n < 1 {
         return false;
     }
-    if n > MOST_BANDS {
+    if n > MOST_COLOURS {
         return false;
     }
     if !float::is_finite(min) {
@@ -135,7 +138,7 @@ fn domain_fits(n: usize, min: f32, max: f32) -> bool
 
 // The channels of n colours, whole ones, and room for 2n stops.
 fn is_roomy(colours: usize, n: usize, positions: usize, channels: usize) -> bool
-    requires { ⌜ n ≤ mostBands ⌝ }
+    requires { ⌜ n ≤ mostColours ⌝ }
     ensures { λ r. ⌜ r ≡ roomy colours n positions channels ⌝ }
 {
     if colours != 4 * n {
@@ -164,19 +167,19 @@ pub fn build(
 {
     let n = colours.len() / 4;
     if !domain_fits(n, min, max) {
-        return Built::Refused(17);
+        return Built::Refused(NOT_BUILT);
     }
-    let mut built = [0.0; 2 * MOST_BANDS];
+    let mut built = [0.0; 2 * MOST_COLOURS];
     let m = 2 * n;
     write_positions(min, max, softness, n, &mut built);
     if !is_steady(&built[..m], max) {
-        return Built::Refused(17);
+        return Built::Refused(NOT_BUILT);
     }
     if !is_roomy(colours.len(), n, positions.len(), channels.len()) {
-        return Built::Refused(1);
+        return Built::Refused(MISSHAPEN);
     }
     if !utils::all_finite(colours) {
-        return Built::Refused(2);
+        return Built::Refused(NOT_FINITE);
     }
     copy(&built[..m], positions);
     write_channels(colours, n, channels);

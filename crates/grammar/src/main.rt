@@ -1,11 +1,16 @@
-// The tool on texts of every fault. Standard input has a text to a line: what it shows, a tab, the text, in which | stands
-// for LF, ^ for CR, _ for tab, ! for byte 200 and @ for a byte-order mark. Then come texts that are long, and outputs that
-// are short. Of each it writes what it shows, then what the tool prints, of a long answer only its length and two sums.
-ghost use Prim.Native.Nat.{_≤_};
-ghost use lib.ListN.{length};
+// The tool on texts of every fault. Standard input has a text to a line: what it shows, a tab, the text, spelt in one
+// line. Then come texts that are long, and outputs that are short. Of each it writes what it shows, then what the tool
+// prints, of a long answer only its length and two sums.
 use desk::Desked;
 use libc::STDIN_FILENO;
 use libc::STDOUT_FILENO;
+use spelling::append;
+use spelling::count;
+use spelling::decode;
+use spelling::front;
+use text::Class;
+use text::line_at;
+use text::span_end;
 
 fn out(s: &[u8]) {
     io::write_all(STDOUT_FILENO, s);
@@ -43,14 +48,6 @@ fn show(s: &[u8]) {
     digest(s);
 }
 
-// The first n bytes of s, or all that there are.
-fn front(s: &[u8], n: usize) -> &[u8] {
-    if n <= s.len() {
-        return &s[..n];
-    }
-    s
-}
-
 fn run(label: &[u8], text: &[u8]) {
     let mut output = [0u8; desk::MOST_PRINTED];
     out(b"# ");
@@ -66,67 +63,9 @@ fn run(label: &[u8], text: &[u8]) {
     }
 }
 
-fn put(buf: &mut [u8], at: usize, b: u8) -> usize {
-    if at < buf.len() {
-        buf[at] = b;
-        return at + 1;
-    }
-    at
-}
-
-// s put into buf from `at` on, as far as there is room; the place after it.
-fn append(buf: &mut [u8], at: usize, s: &[u8]) -> usize {
-    let mut n = at;
-    for i in 0..s.len() {
-        n = put(buf, n, s[i]);
-    }
-    n
-}
-
-fn plain(b: u8) -> u8 {
-    match b {
-        b'|' => 10,
-        b'^' => 13,
-        b'_' => 9,
-        b'!' => 200,
-        _ => b,
-    }
-}
-
-// What a byte of the input stands for, put into buf.
-fn put_plain(buf: &mut [u8], at: usize, b: u8) -> usize {
-    if b == b'@' {
-        return append(buf, at, b"\xef\xbb\xbf");
-    }
-    put(buf, at, plain(b))
-}
-
-// A text as it stands in the input, put into buf; its length.
-fn decode(buf: &mut [u8], s: &[u8]) -> usize {
-    let mut n = 0;
-    for i in 0..s.len() {
-        n = put_plain(buf, n, s[i]);
-    }
-    n
-}
-
-// The first place from `from` on that holds b, or the end.
-fn find(s: &[u8], from: usize, b: u8) -> usize
-    ensures { λ r. ⌜ (from ≤ r) × (from ≤ length (now (s .entry)) → r ≤ length (now (s .entry))) ⌝ }
-{
-    let mut i = from;
-    while i < s.len() {
-        if s[i] == b {
-            return i;
-        }
-        i += 1;
-    }
-    i
-}
-
 fn row(line: &[u8]) {
     let mut text = [0u8; 4096];
-    let tab = find(line, 0, b'\t');
+    let tab = span_end(line, 0, Class::NotTab);
     if tab < line.len() {
         let n = decode(&mut text, &line[tab + 1..]);
         run(front(line, tab), front(&text, n));
@@ -136,12 +75,10 @@ fn row(line: &[u8]) {
 fn rows(s: &[u8]) {
     let mut at = 0;
     while at < s.len() {
-        let end = find(s, at, b'\n');
+        let l = line_at(s, at);
+        let end = l.end;
         row(&s[at..end]);
-        if s.len() <= end {
-            return;
-        }
-        at = end + 1;
+        at = l.next;
     }
 }
 
@@ -198,16 +135,6 @@ fn longs() {
     );
 }
 
-fn bytes(p: &[u8], x: u8) -> u64 {
-    let mut n: u64 = 0;
-    for i in 0..p.len() {
-        if p[i] == x {
-            n = std::num::wrapping_add_u64(n, 1);
-        }
-    }
-    n
-}
-
 // Black to white into an output of sevens: the answer, and the zeros and the sevens that the output then holds.
 fn hold(output: &mut [u8]) {
     let text = b"kind\tlinear\nstop\t0\t0\t0\t0\t1\nstop\t1\t1\t1\t1\t1\n";
@@ -224,9 +151,9 @@ fn hold(output: &mut [u8]) {
         }
     }
     out(b", zeros ");
-    number(bytes(output, 0));
+    number(count(output, 0) as u64);
     out(b", sevens ");
-    number(bytes(output, 7));
+    number(count(output, 7) as u64);
     out(b"\n");
 }
 

@@ -10,6 +10,7 @@ use lib.Dec.{eqb, leb}
 use lib.ListN.{length, drop, getD, drop-of-length-le}
 use lib.Seq.{drop-cons}
 use lib.Ieee.{Float, neg, lt}
+use Rattle.refusals.specs.Refusals.{farDomain, badRecord}
 use Rattle.float.proofs.Flags.{both-l, both-r}
 use Rattle.stops.specs.declared.Checked.{Checked}
 use Rattle.stops.specs.declared.Checked.the-variants as checked
@@ -29,21 +30,21 @@ unfolding beyondOf
 beyond-high x h = simp h
 
 module _ (lo hi : Float) (n m : ℕ) where
-  pub low-beyond : beyondOf lo ≡ true → checked.Refused 4 ≡ shapeCheck lo hi n m
+  pub low-beyond : beyondOf lo ≡ true → checked.Refused farDomain ≡ shapeCheck lo hi n m
   unfolding shapeCheck
   low-beyond h = simp h
 
   module _ (l : beyondOf lo ≡ false) where
-    pub high-beyond : beyondOf hi ≡ true → checked.Refused 4 ≡ shapeCheck lo hi n m
+    pub high-beyond : beyondOf hi ≡ true → checked.Refused farDomain ≡ shapeCheck lo hi n m
     unfolding shapeCheck
     high-beyond h = simp (l, h)
 
     module _ (h : beyondOf hi ≡ false) where
-      pub rows-wrong : (n ≡ 4608 → ⊥) → checked.Refused 5 ≡ shapeCheck lo hi n m
+      pub rows-wrong : (n ≡ 4608 → ⊥) → checked.Refused badRecord ≡ shapeCheck lo hi n m
       unfolding shapeCheck
       rows-wrong k = simp (l, h, ne-eqb n 4608 k)
 
-      pub counts-wrong : n ≡ 4608 → (m ≡ 36 → ⊥) → checked.Refused 5 ≡ shapeCheck lo hi n m
+      pub counts-wrong : n ≡ 4608 → (m ≡ 36 → ⊥) → checked.Refused badRecord ≡ shapeCheck lo hi n m
       unfolding shapeCheck
       counts-wrong e k = simp (l, h, eq-eqb n 4608 e, ne-eqb m 36 k)
 
@@ -65,7 +66,7 @@ pub passes-both : (a b : Checked) → andThen a b ≡ checked.Fine → (a ≡ ch
 passes-both checked.Fine b e = (refl, e)
 passes-both (checked.Refused k) b e = let z : _≡_ {A = ℕ} 0 1 = cc in absurd (omega arith)
 
-tested : (a b : Bool) → cond a (checked.Refused 4) (cond b checked.Fine (checked.Refused 5)) ≡ checked.Fine → b ≡ true
+tested : (a b : Bool) → cond a (checked.Refused farDomain) (cond b checked.Fine (checked.Refused badRecord)) ≡ checked.Fine → b ≡ true
 tested true b h = let z : _≡_ {A = ℕ} 0 1 = cc in absurd (omega arith)
 tested false true h = refl
 tested false false h = let z : _≡_ {A = ℕ} 0 1 = cc in absurd (omega arith)
@@ -107,7 +108,7 @@ unfolding countsGood
 all-seen l i h = ap countsGood (drop-of-length-le l h)
 
 module _ (l : List ℕ) where
-  pub counts-fail : countsGood l ≡ false → checked.Refused 5 ≡ countsCheck l
+  pub counts-fail : countsGood l ≡ false → checked.Refused badRecord ≡ countsCheck l
   unfolding countsCheck
   counts-fail h = simp h
 
@@ -115,7 +116,7 @@ module _ (l : List ℕ) where
   unfolding countsCheck
   counts-pass h = simp h
 
-  good-by : (b : Bool) → cond b checked.Fine (checked.Refused 5) ≡ checked.Fine → b ≡ true
+  good-by : (b : Bool) → cond b checked.Fine (checked.Refused badRecord) ≡ checked.Fine → b ≡ true
   good-by true h = refl
   good-by false h = let z : _≡_ {A = ℕ} 0 1 = cc in absurd (omega arith)
 

@@ -5,6 +5,7 @@ use Prim.Native.Nat.{ℕ, zero, suc, _+_}
 use lib.Dec.{eqb, leb}
 use lib.ListN.{length}
 use lib.Ieee.{Float, neg, lt}
+use Rattle.refusals.specs.Refusals.{farDomain, badRecord}
 use Rattle.stops.specs.declared.Kind.{Kind}
 use Rattle.stops.specs.declared.Checked.{Checked}
 use Rattle.stops.specs.declared.Checked.the-variants as checked
@@ -59,11 +60,11 @@ countsGood (n ∷ ns) = leb 1 n && (leb n rowLength && countsGood ns)
 -- 4 of a domain, then 5 of a record's lengths
 unfoldable pub shapeCheck : Float → Float → ℕ → ℕ → Checked
 shapeCheck lo hi rows counts =
-    cond (beyondOf lo || beyondOf hi) (checked.Refused 4)
-    (cond (eqb rows recordLength && eqb counts cells) checked.Fine (checked.Refused 5))
+    cond (beyondOf lo || beyondOf hi) (checked.Refused farDomain)
+    (cond (eqb rows recordLength && eqb counts cells) checked.Fine (checked.Refused badRecord))
 
 unfoldable pub countsCheck : List ℕ → Checked
-countsCheck counts = cond (countsGood counts) checked.Fine (checked.Refused 5)
+countsCheck counts = cond (countsGood counts) checked.Fine (checked.Refused badRecord)
 
 -- the answer of a list, of the first refusal among its stops
 abbrev pub listedOf : ℕ → ℕ → ℕ → Listed

@@ -1,5 +1,7 @@
 // Flattening a ramp: sampling it cell by cell into a lent record, and thinning the record to stops.
 use blend::Rgba;
+use refusals::BAD_RECORD;
+use refusals::FAR_DOMAIN;
 use stops::Checked;
 use stops::Kind;
 ghost use mathlib.Core.Path.{_≡_};
@@ -111,16 +113,16 @@ fn check_shape(min: f32, max: f32, rows: usize, counts: usize) -> Checked
     ensures { λ r. ⌜ r ≡ shapeCheck min max rows counts ⌝ }
 {
     if beyond(min) {
-        return Checked::Refused(4);
+        return Checked::Refused(FAR_DOMAIN);
     }
     if beyond(max) {
-        return Checked::Refused(4);
+        return Checked::Refused(FAR_DOMAIN);
     }
     if rows != Sampler::CELLS * Sampler::ROW {
-        return Checked::Refused(5);
+        return Checked::Refused(BAD_RECORD);
     }
     if counts != Sampler::CELLS {
-        return Checked::Refused(5);
+        return Checked::Refused(BAD_RECORD);
     }
     Checked::Fine
 }
@@ -190,10 +192,10 @@ fn check_counts(counts: &[u8]) -> Checked
     while i < counts.len() {
         let n = counts[i] as usize;
         if n < 1 {
-            return Checked::Refused(5);
+            return Checked::Refused(BAD_RECORD);
         }
         if n > Sampler::ROW {
-            return Checked::Refused(5);
+            return Checked::Refused(BAD_RECORD);
         }
         i += 1;
     }

@@ -10,6 +10,9 @@ use crate::difference::stands_out;
 use crate::segments;
 use blend::Rgba;
 use blend::utils::interpolate_linear;
+use refusals::LIST_FALLING;
+use refusals::LIST_NOT_FINITE;
+use refusals::NO_ROOM;
 use stops::Kind;
 use stops::is_finite_colour;
 ghost use mathlib.Core.Path.{_≡_};
@@ -65,16 +68,16 @@ fn stop_refusal(room: usize, n: usize, last: f32, t: f32, c: Rgba) -> u8
     ensures { λ r. ⌜ r ≡ stopRefusal room n last t c ⌝ }
 {
     if room <= n {
-        return 7;
+        return NO_ROOM;
     }
     if !float::is_finite(t) {
-        return 8;
+        return LIST_NOT_FINITE;
     }
     if !is_finite_colour(c) {
-        return 8;
+        return LIST_NOT_FINITE;
     }
     if t < last {
-        return 9;
+        return LIST_FALLING;
     }
     0
 }

@@ -3,12 +3,12 @@
 ghost use Prim.Native.Nat.{_+_, _≤_, _<_};
 ghost use lib.ListN.{length};
 use blend::Rgba;
-use colorgrad::Answer;
 use decimal::Token;
 use gradient::sharp::Built;
 use libc::STDOUT_FILENO;
 use linearize::Listed;
 use linearize::Sampler;
+use paint::Answer;
 use stops::Kind;
 
 fn out(s: &[u8]) {
@@ -66,7 +66,7 @@ fn sharp() {
     let mut positions = [9.0f32; 4];
     let mut channels = [9.0f32; 16];
     out(b"sharp, 2 colours, softness 0.5 on 0..1\tpositions");
-    match gradient::sharp::build(&colours, 0.0, 1.0, 0.5, &mut positions, &mut channels) {
+    match colorgrad::build(&colours, 0.0, 1.0, 0.5, &mut positions, &mut channels) {
         Built::Stops(_) => row(&positions),
         Built::Refused(n) => refused(n),
     }
@@ -149,7 +149,7 @@ fn pair() {
     let mut out_positions = [9.0f32; 2];
     let mut out_channels = [9.0f32; 8];
     out(b"two stops at 0.5\t");
-    match linearize::flatten(
+    match colorgrad::flatten(
         Kind::Linear,
         &positions,
         &channels,
@@ -209,7 +209,7 @@ fn read(label: &[u8], text: &[u8]) {
     let mut codes = [9u8; 514];
     out(label);
     out(b"\t");
-    match ggr::read(
+    match colorgrad::read(
         text,
         black,
         black,

@@ -2,18 +2,12 @@
 use contract.Lifetimes.{Lfts}
 use denote.Ref.{now}
 use Prim.Native.Nat.{ℕ}
-use mathlib.Core.Path.{_≡_, _∙_, ap}
-use mathlib.Core.List.{List}
-use lib.Ieee.{Float}
-use Rattle.blend.specs.declared.Rgba.{Rgba}
+use mathlib.Core.Path.{_≡_, sym, _∙_, ap}
 use Rattle.sqrt.proofs.Theorems.{cutoff-unique}
-use Rattle.colorgrad_c.specs.Kinds.{kindOf}
-use Rattle.colorgrad_c.specs.Lists.{Shows, sampledShown, listedShown, CodedSamples, CodedThins, CodedFlattens}
-use Rattle.colorgrad_c.specs.Edits.{refreshedShown, CodedRefreshes, CodedRefreshLists}
+use Rattle.stops.specs.declared.Kind.{Kind}
+use Rattle.colorgrad_c.specs.Kinds.{kindOf, onKind, Shows}
 use Rattle.colorgrad_c.specs.declared.kinds.Coded.{Coded}
 use Rattle.colorgrad_c.specs.declared.kinds.Coded.the-variants.{Of, Unknown}
-use Rattle.colorgrad_c.specs.declared.lists.SampleMade.{SampleMade}
-use Rattle.colorgrad_c.specs.declared.lists.ListMade.{ListMade}
 use Rattle.promises.specs.Law.{Coincide, coincide, answer, _with_, both}
 use Rattle.colorgrad_c.proofs.leaves.colorgrad_root.Reads as of-root
 use Rattle.colorgrad_c.proofs.leaves.colorgrad_cutoff.Reads as of-cutoff
@@ -53,19 +47,6 @@ kind-of κs a = coincide (λ r e w. w)
 pub listed-shown : (κs : Lfts 0) (a : _) → Coincide (of-listed-shown.Learnt κs a) answer
 listed-shown κs a = coincide (λ r e w. w)
 
-pub check : (κs : Lfts 3) (a : _) → Coincide (of-check.Learnt κs a) answer
-check κs a = coincide (λ r e w. w)
-
-pub domain : (κs : Lfts 3) (a : _) → Coincide (of-domain.Learnt κs a) answer
-domain κs a = coincide (λ r e w. w)
-
-pub at : (κs : Lfts 3) (a : _) → Coincide (of-at.Learnt κs a) answer
-at κs a = coincide (λ r e w. w)
-
--- with the lent output
-pub paint : (κs : Lfts 5) (a : _) → Coincide (of-paint.Learnt κs a) (λ r e. r with now (e .1 .1 .1 .1 .1 .0))
-paint κs a = coincide (λ r e w. both (w .0) (w .1))
-
 pub sharp : (κs : Lfts 3) (a : _) → Coincide (of-sharp.Learnt κs a) (λ r e. r with now (e .1 .1 .1 .1 .0) with now (e .1 .1 .1 .1 .1 .0))
 sharp κs a = coincide (λ r e w. both (w .0) (both (w .1 .0) (w .1 .1)))
 
@@ -78,44 +59,68 @@ name κs a = coincide (λ r e w. both (w .0) (w .1))
 pub desk : (κs : Lfts 2) (a : _) → Coincide (of-desk.Learnt κs a) (λ r e. r with now (e .1 .0))
 desk κs a = coincide (λ r e w. both (w .0) (w .1))
 
--- The calls on records and lists, for a code that names a kind and for one that names none. A record is rows and counts; an output is positions and channels.
-module _ (ps cs : List Float) (ks : List ℕ) (asked : Float) (rows : List Float) (counts : List ℕ) where
-  sampled : (code : Coded) → Coincide (λ (r : SampleMade) (e : List Float × List ℕ). Shows (CodedSamples code ps cs ks asked rows (e .0) counts (e .1)) sampledShown r) _with_
-  sampled (Of kind) = coincide (λ r e w. both (w .shown ∙ ap sampledShown (w .promised .is .answer)) (both (w .promised .is .written) (w .promised .is .counted)))
-  sampled Unknown = coincide (λ r e w. both (w .shown ∙ ap sampledShown (w .promised .is .0)) (both (w .promised .is .1 .0) (w .promised .is .1 .1)))
+-- ---- the calls for a kind by its code
 
-  module _ (k : ℕ) (colour : Rgba) where
-    refreshed : (code : Coded) → Coincide (λ (r : SampleMade) (e : List Float × List ℕ). Shows (CodedRefreshes code ps cs ks k colour asked rows counts (e .0) (e .1)) refreshedShown r) _with_
-    refreshed (Of kind) = coincide (λ r e w. both (w .shown ∙ ap refreshedShown (w .promised .is .answer)) (both (w .promised .is .written) (w .promised .is .counted)))
-    refreshed Unknown = coincide (λ r e w. both (w .shown ∙ ap refreshedShown (w .promised .is .0)) (both (w .promised .is .1 .0) (w .promised .is .1 .1)))
+-- An answer shown for a code coincides where the answer does: of the kind that the code names, and of a code that names none.
+module _ {A E : Type 0} {P : Kind → A → E → Type 0} {Q : A → E → Type 0} where
+  by-kind : {X : Type 0} {seen : A → E → X} → ((kind : Kind) → Coincide (P kind) seen) → Coincide Q seen
+      → (z : Coded) (a b : A) (e f : E) → onKind z (λ (kind : Kind) (x : A). P kind x e) (λ (x : A). Q x e) a → onKind z (λ (kind : Kind) (x : A). P kind x f) (λ (x : A). Q x f) b → seen a e ≡ seen b f
+  by-kind known unknown (Of kind) = known kind
+  by-kind known unknown Unknown = unknown
 
-  module _ (ops ocs : List Float) where
-    thinned : (code : Coded) → Coincide (λ (r : ListMade) (e : List Float × List Float). Shows (CodedThins code ps cs ks asked rows counts ops (e .0) ocs (e .1)) listedShown r) _with_
-    thinned (Of kind) = coincide (λ r e w. both (w .shown ∙ ap listedShown (w .promised .is .told .answer)) (both (w .promised .is .positions) (w .promised .is .channels)))
-    thinned Unknown = coincide (λ r e w. both (w .shown ∙ ap listedShown (w .promised .is .0)) (both (w .promised .is .1 .0) (w .promised .is .1 .1)))
+  module _ {B : Type 0} {show : A → B} (code : ℕ) where
+    by-code : {X : Type 0} {rest : E → X} → ((kind : Kind) → Coincide (P kind) (λ (a : A) (e : E). a with rest e)) → Coincide Q (λ (a : A) (e : E). a with rest e)
+        → Coincide (λ (b : B) (e : E). Shows code (λ (kind : Kind) (a : A). P kind a e) (λ (a : A). Q a e) show b) (λ (b : B) (e : E). b with rest e)
+    by-code {X} {rest} known unknown r s e f v w =
+        let same = by-kind known unknown (kindOf code) (v .answer) (w .answer) e f (v .promised) (w .promised) in
+        both (v .shown ∙ ap (λ (x : A × X). show (x .0)) same ∙ sym (w .shown)) (ap (λ (x : A × X). x .1) same)
 
-    flattened : (code : Coded) → Coincide (λ (r : ListMade) (e : List Float × (List ℕ × (List Float × List Float))). Shows (CodedFlattens code ps cs ks asked rows (e .0) counts (e .1 .0) ops (e .1 .1 .0) ocs (e .1 .1 .1)) listedShown r) _with_
-    flattened (Of kind) = coincide (λ r e w. both (w .shown ∙ ap listedShown (w .promised .is .told .answer)) (both (w .promised .is .written) (both (w .promised .is .counted) (both (w .promised .is .positions) (w .promised .is .channels)))))
-    flattened Unknown = coincide (λ r e w. both (w .shown ∙ ap listedShown (w .promised .is .0)) (both (w .promised .is .1 .0) (both (w .promised .is .1 .1 .0) (both (w .promised .is .1 .1 .1 .0) (w .promised .is .1 .1 .1 .1)))))
-
-    refreshed-list : (k : ℕ) (colour : Rgba) (code : Coded) → Coincide (λ (r : ListMade) (e : List Float × (List ℕ × (List Float × List Float))). Shows (CodedRefreshLists code ps cs ks k colour asked rows counts (e .0) (e .1 .0) ops (e .1 .1 .0) ocs (e .1 .1 .1)) listedShown r) _with_
-    refreshed-list k colour (Of kind) = coincide (λ r e w. both (w .shown ∙ ap listedShown (w .promised .is .told .answer)) (both (w .promised .is .written) (both (w .promised .is .counted) (both (w .promised .is .positions) (w .promised .is .channels)))))
-    refreshed-list k colour Unknown = coincide (λ r e w. both (w .shown ∙ ap listedShown (w .promised .is .0)) (both (w .promised .is .1 .0) (both (w .promised .is .1 .1 .0) (both (w .promised .is .1 .1 .1 .0) (w .promised .is .1 .1 .1 .1)))))
+    by-code-alone : ((kind : Kind) → Coincide (P kind) answer) → Coincide Q answer
+        → Coincide (λ (b : B) (e : E). Shows code (λ (kind : Kind) (a : A). P kind a e) (λ (a : A). Q a e) show b) answer
+    by-code-alone known unknown r s e f v w = v .shown ∙ ap show (by-kind known unknown (kindOf code) (v .answer) (w .answer) e f (v .promised) (w .promised)) ∙ sym (w .shown)
 
 -- with the record
 pub sample : (κs : Lfts 5) (a : _) → Coincide (of-sample.Learnt κs a) (λ r e. r with now (e .1 .1 .1 .1 .1 .0) with now (e .1 .1 .1 .1 .1 .1 .0))
-sample κs a = λ r s e f. sampled _ _ _ _ _ _ (kindOf (a .0)) r s (_, _) (_, _)
+sample κs a =
+    by-code (a .0)
+    (λ kind. coincide (λ r e w. both (w .answer) (both (w .written) (w .counted))))
+    (coincide (λ r e w. both (w .0) (both (w .1 .0) (w .1 .1))))
 
 pub refresh : (κs : Lfts 5) (a : _) → Coincide (of-refresh.Learnt κs a) (λ r e. r with now (e .1 .1 .1 .1 .1 .1 .1 .0) with now (e .1 .1 .1 .1 .1 .1 .1 .1 .0))
-refresh κs a = λ r s e f. refreshed _ _ _ _ _ _ _ _ (kindOf (a .0)) r s (_, _) (_, _)
+refresh κs a =
+    by-code (a .0)
+    (λ kind. coincide (λ r e w. both (w .answer) (both (w .written) (w .counted))))
+    (coincide (λ r e w. both (w .0) (both (w .1 .0) (w .1 .1))))
 
 -- with both outputs
 pub thin : (κs : Lfts 7) (a : _) → Coincide (of-thin.Learnt κs a) (λ r e. r with now (e .1 .1 .1 .1 .1 .1 .1 .0) with now (e .1 .1 .1 .1 .1 .1 .1 .1 .0))
-thin κs a = λ r s e f. thinned _ _ _ _ _ _ _ _ (kindOf (a .0)) r s (_, _) (_, _)
+thin κs a =
+    by-code (a .0)
+    (λ kind. coincide (λ r e w. both (w .told .answer) (both (w .positions) (w .channels))))
+    (coincide (λ r e w. both (w .0) (both (w .1 .0) (w .1 .1))))
 
 -- with the record and both outputs
 pub flatten : (κs : Lfts 7) (a : _) → Coincide (of-flatten.Learnt κs a) (λ r e. r with now (e .1 .1 .1 .1 .1 .0) with now (e .1 .1 .1 .1 .1 .1 .0) with now (e .1 .1 .1 .1 .1 .1 .1 .0) with now (e .1 .1 .1 .1 .1 .1 .1 .1 .0))
-flatten κs a = λ r s e f. flattened _ _ _ _ _ _ _ _ (kindOf (a .0)) r s (_, (_, (_, _))) (_, (_, (_, _)))
+flatten κs a =
+    by-code (a .0)
+    (λ kind. coincide (λ r e w. both (w .told .answer) (both (w .written) (both (w .counted) (both (w .positions) (w .channels))))))
+    (coincide (λ r e w. both (w .0) (both (w .1 .0) (both (w .1 .1 .0) (both (w .1 .1 .1 .0) (w .1 .1 .1 .1))))))
 
 pub refresh-list : (κs : Lfts 7) (a : _) → Coincide (of-refresh-list.Learnt κs a) (λ r e. r with now (e .1 .1 .1 .1 .1 .1 .1 .0) with now (e .1 .1 .1 .1 .1 .1 .1 .1 .0) with now (e .1 .1 .1 .1 .1 .1 .1 .1 .1 .0) with now (e .1 .1 .1 .1 .1 .1 .1 .1 .1 .1 .0))
-refresh-list κs a = λ r s e f. refreshed-list _ _ _ _ _ _ _ _ _ _ (kindOf (a .0)) r s (_, (_, (_, _))) (_, (_, (_, _)))
+refresh-list κs a =
+    by-code (a .0)
+    (λ kind. coincide (λ r e w. both (w .told .answer) (both (w .written) (both (w .counted) (both (w .positions) (w .channels))))))
+    (coincide (λ r e w. both (w .0) (both (w .1 .0) (both (w .1 .1 .0) (both (w .1 .1 .1 .0) (w .1 .1 .1 .1))))))
+
+-- with the lent output
+pub paint : (κs : Lfts 5) (a : _) → Coincide (of-paint.Learnt κs a) (λ r e. r with now (e .1 .1 .1 .1 .1 .0))
+paint κs a = by-code (a .0) (λ kind. coincide (λ r e w. both (w .answer) (w .contents))) (coincide (λ r e w. both (w .0) (w .1)))
+
+pub check : (κs : Lfts 3) (a : _) → Coincide (of-check.Learnt κs a) answer
+check κs a = by-code-alone (a .0) (λ kind. coincide (λ r e w. w .answer)) (coincide (λ r e w. w))
+
+pub domain : (κs : Lfts 3) (a : _) → Coincide (of-domain.Learnt κs a) answer
+domain κs a = by-code-alone (a .0) (λ kind. coincide (λ r e w. w)) (coincide (λ r e w. w))
+
+pub at : (κs : Lfts 3) (a : _) → Coincide (of-at.Learnt κs a) answer
+at κs a = by-code-alone (a .0) (λ kind. coincide (λ r e w. w .answer)) (coincide (λ r e w. w))

@@ -10,8 +10,7 @@ use Rattle.gradient.proofs.colour_at.Reads as of-colour-at
 use Rattle.gradient.proofs.sharp.is_steady.Reads as of-is-steady
 use Rattle.gradient.proofs.gimp.find_segment.Reads as of-find-segment
 use Rattle.gradient.proofs.gimp.place_along.Reads as of-place-along
-use Rattle.gradient.proofs.gimp.calc_linear_factor.Reads as of-calc-linear-factor
-use Rattle.gradient.proofs.gimp.bend.Reads as of-bend
+use Rattle.gradient.proofs.gimp.blend.Reads as of-blend
 use Rattle.gradient.proofs.gimp.is_off_domain.Reads as of-is-off-domain
 use Rattle.gradient.proofs.gimp.is_carried.Reads as of-is-carried
 use Rattle.gradient.proofs.gimp.check.Reads as of-check-segments
@@ -48,11 +47,8 @@ find-segment κs a = coincide (λ r e w. w)
 pub place-along : (κs : Lfts 0) (a : _) → Coincide (of-place-along.Learnt κs a) answer
 place-along κs a = coincide (λ r e w. w)
 
-pub calc-linear-factor : (κs : Lfts 0) (a : _) → Coincide (of-calc-linear-factor.Learnt κs a) answer
-calc-linear-factor κs a = coincide (λ r e w. w)
-
-pub bend : (κs : Lfts 0) (a : _) → Coincide (of-bend.Learnt κs a) answer
-bend κs a = coincide (λ r e w. w)
+pub blend : (κs : Lfts 0) (a : _) → Coincide (of-blend.Learnt κs a) answer
+blend κs a = coincide (λ r e w. w)
 
 pub is-off-domain : (κs : Lfts 0) (a : _) → Coincide (of-is-off-domain.Learnt κs a) answer
 is-off-domain κs a = coincide (λ r e w. w)

@@ -3,12 +3,14 @@
 pub mod Float
 pub mod Sqrt
 pub mod Decimal
+pub mod Text
 pub mod Blend
 pub mod Stops
 pub mod Gradient
 pub mod Ggr
 pub mod Linearize
 pub mod Refresh
-pub mod Colorgrad
+pub mod Paint
 pub mod Desk
 pub mod Face
+pub mod Spelling

@@ -8,9 +8,11 @@ use borrow.Author.Tests.{lt-ltb, le-ltb, ltb-true}
 use lib.Dec.{ltb, eqb}
 use lib.ListN.{length}
 use lib.Ieee.{Float}
+use Rattle.refusals.specs.Refusals.{farDomain, badRecord, badEdit}
+use Rattle.refusals.specs.Limits.{mostStops}
 use Rattle.float.proofs.Flags.{both-l, both-r}
 use Rattle.blend.specs.declared.Rgba.{Rgba}
-use Rattle.stops.specs.Stops.{posAt, finiteRgba, mostStops}
+use Rattle.stops.specs.Stops.{posAt, finiteRgba}
 use Rattle.stops.specs.declared.Kind.{Kind}
 use Rattle.stops.specs.declared.Kind.the-variants.{Linear, Smoothstep, Sharp, Basis, CatmullRom, Gimp}
 use Rattle.stops.specs.declared.Checked.{Checked}
@@ -30,10 +32,10 @@ refused h = let z : _≡_ {A = ℕ} 0 1 = cc in omega arith
 
 -- ---- refusal 6
 abbrev sixth : Bool → Checked
-sixth b = cond b checked.Fine (checked.Refused 6)
+sixth b = cond b checked.Fine (checked.Refused badEdit)
 
 module _ (kind : Kind) (n k : ℕ) (colour : Rgba) where
-  pub other-kind : refreshable kind ≡ false → checked.Refused 6 ≡ editCheck kind n k colour
+  pub other-kind : refreshable kind ≡ false → checked.Refused badEdit ≡ editCheck kind n k colour
   unfolding editCheck
   other-kind h = ap (λ (b : Bool). sixth (b && (ltb k n && finiteRgba colour))) (sym h)
 
@@ -42,14 +44,14 @@ module _ (kind : Kind) (n k : ℕ) (colour : Rgba) where
     unfolding editCheck
     by-kind = ap (λ (b : Bool). sixth (b && (ltb k n && finiteRgba colour))) (sym ok)
 
-    pub no-stop : n ≤ k → checked.Refused 6 ≡ editCheck kind n k colour
+    pub no-stop : n ≤ k → checked.Refused badEdit ≡ editCheck kind n k colour
     no-stop h = ap (λ (b : Bool). sixth (b && finiteRgba colour)) (sym (le-ltb k n h)) ∙ by-kind
 
     module _ (l : k < n) where
       by-stop : sixth (finiteRgba colour) ≡ editCheck kind n k colour
       by-stop = ap (λ (b : Bool). sixth (b && finiteRgba colour)) (sym (lt-ltb k n l)) ∙ by-kind
 
-      pub no-colour : finiteRgba colour ≡ false → checked.Refused 6 ≡ editCheck kind n k colour
+      pub no-colour : finiteRgba colour ≡ false → checked.Refused badEdit ≡ editCheck kind n k colour
       no-colour h = ap sixth (sym h) ∙ by-stop
 
       pub edit-fine : finiteRgba colour ≡ true → checked.Fine ≡ editCheck kind n k colour
@@ -78,7 +80,7 @@ no-gimp Basis h = refl
 no-gimp CatmullRom h = refl
 no-gimp Gimp h = sym h
 
-neither : (a b c : Bool) → cond (a || b) (checked.Refused 4) (cond c checked.Fine (checked.Refused 5)) ≡ checked.Fine → (a ≡ false) × (b ≡ false)
+neither : (a b c : Bool) → cond (a || b) (checked.Refused farDomain) (cond c checked.Fine (checked.Refused badRecord)) ≡ checked.Fine → (a ≡ false) × (b ≡ false)
 neither true b c h = absurd (refused h)
 neither false true c h = absurd (refused h)
 neither false false c h = (refl, refl)

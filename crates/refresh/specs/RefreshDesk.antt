@@ -6,6 +6,7 @@ use Prim.Native.Nat.{ℕ, _+_}
 use lib.Dec.{ltb}
 use lib.ListN.{length}
 use lib.Ieee.{Float}
+use Rattle.refusals.specs.Refusals.{badEdit}
 use Rattle.blend.specs.declared.Rgba.{Rgba}
 use Rattle.stops.specs.Stops.{finiteRgba}
 use Rattle.stops.specs.declared.Kind.{Kind}
@@ -46,7 +47,7 @@ refreshable Gimp = false
 
 -- 6 of an edit: stop k of n is given a colour
 unfoldable pub editCheck : Kind → ℕ → ℕ → Rgba → Checked
-editCheck kind n k colour = cond (refreshable kind && (ltb k n && finiteRgba colour)) checked.Fine (checked.Refused 6)
+editCheck kind n k colour = cond (refreshable kind && (ltb k n && finiteRgba colour)) checked.Fine (checked.Refused badEdit)
 
 module _ (kind : Kind) (ps cs : List Float) (ks : List ℕ) (k : ℕ) (colour : Rgba) where
   -- refusals 1, then stop by stop 2, 3; then 4, 5, 6

@@ -1,6 +1,7 @@
 // An edit: stop k is given a colour. Whether it may be made, and the ramp with it made.
 use blend::Rgba;
 use linearize::thinning::put_colour;
+use refusals::BAD_EDIT;
 use stops::Checked;
 use stops::Kind;
 ghost use mathlib.Core.Path.{_≡_};
@@ -27,13 +28,13 @@ pub(crate) fn check_edit(kind: Kind, n: usize, k: usize, colour: Rgba) -> Checke
     ensures { λ r. ⌜ r ≡ editCheck kind n k colour ⌝ }
 {
     if !is_refreshable(kind) {
-        return Checked::Refused(6);
+        return Checked::Refused(BAD_EDIT);
     }
     if n <= k {
-        return Checked::Refused(6);
+        return Checked::Refused(BAD_EDIT);
     }
     if !stops::is_finite_colour(colour) {
-        return Checked::Refused(6);
+        return Checked::Refused(BAD_EDIT);
     }
     Checked::Fine
 }

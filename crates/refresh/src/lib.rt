@@ -7,6 +7,7 @@ use blend::Rgba;
 use linearize::Listed;
 use linearize::check_thin;
 use linearize::difference::cutoff_of;
+use refusals::MOST_STOPS;
 use stops::Checked;
 use stops::Kind;
 ghost use mathlib.Core.Path.{_≡_};
@@ -64,7 +65,7 @@ pub fn refresh(
             let cutoff = cutoff_of(threshold);
             let min = gradient::min_of(kind, positions);
             let max = gradient::max_of(kind, positions);
-            let mut copy = [0.0f32; 4 * stops::MOST_STOPS];
+            let mut copy = [0.0f32; 4 * MOST_STOPS];
             change(channels, k, colour, &mut copy);
             let m = channels.len();
             let n = refresh_cells(
@@ -132,7 +133,7 @@ pub fn refresh_list(
     ) {
         Refreshed::Refused(n) => Listed::Refused(n),
         Refreshed::Done(n) => {
-            let mut copy = [0.0f32; 4 * stops::MOST_STOPS];
+            let mut copy = [0.0f32; 4 * MOST_STOPS];
             change(channels, k, colour, &mut copy);
             let m = channels.len();
             let made = linearize::thin(

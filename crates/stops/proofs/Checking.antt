@@ -10,8 +10,10 @@ use lib.ListN.{length}
 use lib.Ieee.{Float, inf, lt}
 use lib.Ieee.Scale.{finite}
 use borrow.Author.Tests.{leb-true, eqb-true, lt-leb, le-leb, eq-eqb, ne-eqb}
+use Rattle.refusals.specs.Refusals.{misshapen, notFinite, falling}
+use Rattle.refusals.specs.Limits.{mostStops}
 use Rattle.float.proofs.Flags.{both-l, both-r, parts4}
-use Rattle.stops.specs.Stops.{posAt, colourAt, finiteRgba, isSharp, mostStops, shaped, eachStop, stopsCheck}
+use Rattle.stops.specs.Stops.{posAt, colourAt, finiteRgba, isSharp, shaped, eachStop, stopsCheck}
 use Rattle.stops.specs.Answers.{numberOfChecked, Checks}
 use Rattle.stops.specs.declared.Kind.{Kind}
 use Rattle.stops.specs.declared.Checked.{Checked}
@@ -76,7 +78,7 @@ module _ (kind : Kind) (n m c : ℕ) where
           not-sharp h = simp (le-leb 2 n least, le-leb n mostStops most, eq-eqb m (4 * n) four, eq-eqb c 0 codeless, h)
 
 module _ (kind : Kind) (ps cs : List Float) (ks : List ℕ) where
-  pub not-shaped : shaped kind (length ps) (length cs) (length ks) ≡ false → Refused 1 ≡ stopsCheck kind ps cs ks
+  pub not-shaped : shaped kind (length ps) (length cs) (length ks) ≡ false → Refused misshapen ≡ stopsCheck kind ps cs ks
   unfolding stopsCheck
   not-shaped h = simp h
 
@@ -86,20 +88,20 @@ module _ (kind : Kind) (ps cs : List Float) (ks : List ℕ) where
 
 -- one stop, as the loop goes
 module _ (n i : ℕ) (prev : Float) (ps cs : List Float) where
-  step : i < n → eachStop (n - i) i prev ps cs ≡ cond (finite (posAt ps i) && finiteRgba (colourAt cs i)) (cond (lt (posAt ps i) prev) (Refused 3) (eachStop (n - (i + 1)) (i + 1) (posAt ps i) ps cs)) (Refused 2)
+  step : i < n → eachStop (n - i) i prev ps cs ≡ cond (finite (posAt ps i) && finiteRgba (colourAt cs i)) (cond (lt (posAt ps i) prev) (Refused falling) (eachStop (n - (i + 1)) (i + 1) (posAt ps i) ps cs)) (Refused notFinite)
   unfolding eachStop
   step h =
       let e : n - i ≡ suc (n - (i + 1)) = omega arith in
       ap (λ (k : ℕ). eachStop k i prev ps cs) e ∙ simp add-one
 
-  pub bad-position : i < n → finite (posAt ps i) ≡ false → eachStop (n - i) i prev ps cs ≡ Refused 2
+  pub bad-position : i < n → finite (posAt ps i) ≡ false → eachStop (n - i) i prev ps cs ≡ Refused notFinite
   bad-position h f = step h ∙ simp f
 
-  pub bad-colour : i < n → finite (posAt ps i) ≡ true → finiteRgba (colourAt cs i) ≡ false → eachStop (n - i) i prev ps cs ≡ Refused 2
+  pub bad-colour : i < n → finite (posAt ps i) ≡ true → finiteRgba (colourAt cs i) ≡ false → eachStop (n - i) i prev ps cs ≡ Refused notFinite
   bad-colour h f g = step h ∙ simp (f, g)
 
-  pub falling : i < n → finite (posAt ps i) ≡ true → finiteRgba (colourAt cs i) ≡ true → lt (posAt ps i) prev ≡ true → eachStop (n - i) i prev ps cs ≡ Refused 3
-  falling h f g l = step h ∙ simp (f, g, l)
+  pub falls : i < n → finite (posAt ps i) ≡ true → finiteRgba (colourAt cs i) ≡ true → lt (posAt ps i) prev ≡ true → eachStop (n - i) i prev ps cs ≡ Refused falling
+  falls h f g l = step h ∙ simp (f, g, l)
 
   pub next : i < n → finite (posAt ps i) ≡ true → finiteRgba (colourAt cs i) ≡ true → lt (posAt ps i) prev ≡ false → eachStop (n - i) i prev ps cs ≡ eachStop (n - (i + 1)) (i + 1) (posAt ps i) ps cs
   next h f g l = step h ∙ simp (f, g, l)

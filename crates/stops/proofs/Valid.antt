@@ -11,6 +11,7 @@ use lib.Ieee.{Float, nan, inf, fin, le, lt, isNan}
 use lib.Ieee.Scale.{finite}
 use lib.Ieee.Bits.{is-true}
 use borrow.Author.Tests.{ltb-true, ltb-false}
+use Rattle.refusals.specs.Refusals.{misshapen, notFinite, falling}
 use Rattle.float.proofs.Flags.{both-l, both-r}
 use Rattle.float.proofs.Order.{le-refl, le-trans, not-lt→le, le→not-lt, lt-is, lt→le}
 use Rattle.stops.specs.Stops.{posAt, colourAt, finiteRgba, shaped, eachStop, stopsCheck}
@@ -25,7 +26,7 @@ no-refusal : (k : ℕ) → Refused k ≡ Fine → ⊥
 no-refusal k h = let z : _≡_ {A = ℕ} 0 1 = cc in omega arith
 
 -- ---- one stop
-picked : (b d : Bool) (x : Checked) → cond b (cond d (Refused 3) x) (Refused 2) ≡ Fine → (b ≡ true) × (d ≡ false) × (x ≡ Fine)
+picked : (b d : Bool) (x : Checked) → cond b (cond d (Refused falling) x) (Refused notFinite) ≡ Fine → (b ≡ true) × (d ≡ false) × (x ≡ Fine)
 picked true true x h = absurd (no-refusal 3 h)
 picked true false x h = (refl, refl, h)
 picked false d x h = absurd (no-refusal 2 h)
@@ -74,7 +75,7 @@ pub record Valid (kind : Kind) (ps cs : List Float) (ks : List ℕ) : Type 0 whe
   pub colour-finite : (i : ℕ) → i < length ps → finiteRgba (colourAt cs i) ≡ true
   pub rising : Rising ps
 
-split-check : (b : Bool) (x : Checked) → cond b x (Refused 1) ≡ Fine → (b ≡ true) × (x ≡ Fine)
+split-check : (b : Bool) (x : Checked) → cond b x (Refused misshapen) ≡ Fine → (b ≡ true) × (x ≡ Fine)
 split-check true x h = (refl, h)
 split-check false x h = absurd (no-refusal 1 h)
 

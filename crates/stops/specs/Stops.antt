@@ -6,6 +6,8 @@ use lib.Dec.{leb, eqb}
 use lib.ListN.{length, getD}
 use lib.Ieee.{Float, nan, inf, lt}
 use lib.Ieee.Scale.{finite}
+use Rattle.refusals.specs.Refusals.{misshapen, notFinite, falling}
+use Rattle.refusals.specs.Limits.{mostStops}
 use Rattle.blend.specs.declared.Rgba.{Rgba}
 use Rattle.blend.specs.declared.Stop.{Stop}
 use Rattle.stops.specs.declared.Kind.{Kind}
@@ -34,9 +36,6 @@ isSharp Basis = false
 isSharp CatmullRom = false
 isSharp Gimp = false
 
-unfoldable pub mostStops : ℕ
-mostStops = 512
-
 -- n positions, m channels and c codes: 2 stops to the most, four channels each, no code, and for sharp an even number of stops
 unfoldable pub shaped : Kind → ℕ → ℕ → ℕ → Bool
 shaped kind n m c = leb 2 n && leb n mostStops && eqb m (4 * n) && eqb c 0 && (not (isSharp kind) || eqb (n % 2) 0)
@@ -46,9 +45,9 @@ unfoldable pub eachStop : ℕ → ℕ → Float → List Float → List Float �
 eachStop zero i prev ps cs = Fine
 eachStop (suc left) i prev ps cs =
     cond (finite (posAt ps i) && finiteRgba (colourAt cs i))
-    (cond (lt (posAt ps i) prev) (Refused 3) (eachStop left (suc i) (posAt ps i) ps cs))
-    (Refused 2)
+    (cond (lt (posAt ps i) prev) (Refused falling) (eachStop left (suc i) (posAt ps i) ps cs))
+    (Refused notFinite)
 
 -- 1, then stop by stop 2 and 3. Nothing is below the first stop's `prev`
 unfoldable pub stopsCheck : Kind → List Float → List Float → List ℕ → Checked
-stopsCheck kind ps cs ks = cond (shaped kind (length ps) (length cs) (length ks)) (eachStop (length ps) 0 (inf true) ps cs) (Refused 1)
+stopsCheck kind ps cs ks = cond (shaped kind (length ps) (length cs) (length ks)) (eachStop (length ps) 0 (inf true) ps cs) (Refused misshapen)

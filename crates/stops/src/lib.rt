@@ -7,6 +7,10 @@ use blend::catmull_rom;
 use blend::linear;
 use blend::sharp;
 use blend::smoothstep;
+use refusals::FALLING;
+use refusals::MISSHAPEN;
+use refusals::MOST_STOPS;
+use refusals::NOT_FINITE;
 ghost use mathlib.Core.Path.{_≡_};
 ghost use mathlib.Core.Bool.{cond};
 ghost use Prim.Native.Nat.{_-_, _≤_};
@@ -17,13 +21,6 @@ ghost use Rattle.stops.specs.Place.{narrowedAt, placeIn};
 ghost use Rattle.stops.specs.Pair.{beyond, leftOf, rightOf, pairOf, between, colourIn};
 
 pub mod near;
-
-// Document 01's numbers of what a ramp is refused for.
-pub const MISSHAPEN: u8 = 1;
-
-pub const NOT_FINITE: u8 = 2;
-
-pub const FALLING: u8 = 3;
 
 // The kinds of ramp. Stops are n positions and 4n channels, with no codes. GIMP segments are 3n positions
 // (left, middle, right), 8n channels (left, then right) and 2n codes (blending, colouring).
@@ -48,8 +45,6 @@ pub enum Place {
     Nowhere,
     Between(usize),
 }
-
-pub const MOST_STOPS: usize = 512;
 
 // One less, and 0 of 0.
 pub fn less(i: usize) -> usize

@@ -4,9 +4,9 @@ use Prim.Native.Nat.{_-_}
 use native.Mathlib.Omega.{arith}
 use mathlib.Core.Path.{ap, _∙_}
 use lib.ListN.{take, drop}
-use Rattle.ggr.specs.Text.{trim}
+use Rattle.text.specs.Text.{trim}
 use Rattle.ggr.specs.File.{roomOf}
-use Rattle.ggr.proofs.Bytes.{part-tail}
+use Rattle.text.proofs.Bytes.{part-tail}
 use Rattle.ggr.proofs.Finish.{name-none, name-read, name-short}
 use Rattle.ggr.proofs.name.Statement.{statement}
 use Rattle.ggr.proofs.name.Tie as tie

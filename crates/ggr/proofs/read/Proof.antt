@@ -1,7 +1,6 @@
 -- `read` meets its contract: what was read is right, or every output is zero. Assumes nothing.
 use borrow.Author.Needs.{needs}
 use Prim.Native.Nat.{_-_}
-use Rattle.ggr.proofs.Rows.{kept}
 use Rattle.ggr.proofs.Finish.{done-read, done-refused}
 use Rattle.ggr.proofs.read.Statement.{statement}
 use Rattle.ggr.proofs.read.Tie as tie

@@ -11,7 +11,7 @@ use denote.Ref.{now}
 use Rattle.float.proofs.Flags.{failed, passed}
 use Rattle.stops.specs.Stops.{posAt, colourAt, finiteRgba, eachStop, stopsCheck}
 use Rattle.stops.specs.declared.Kind.{Kind}
-use Rattle.stops.proofs.Checking.{checks, not-shaped, if-shaped, bad-position, bad-colour, falling, next, done, from-start}
+use Rattle.stops.proofs.Checking.{checks, not-shaped, if-shaped, bad-position, bad-colour, falls, next, done, from-start}
 use Rattle.stops.proofs.check.Statement.{statement}
 use Rattle.stops.proofs.check.Tie as tie
 
@@ -94,7 +94,7 @@ returns-4 : tie.Need-returns-4 Inv-loop μ-loop
 returns-4 c =
     checks
     (let l = c .before .before .before .before .before .before .before .before in
-    sym (falling _ (l .loop .i) (l .loop .prev) (ps l) (cs l) (c .before .before .before .before .before .before .before .loop-test .taken) (position-fine (c .before)) (colour-fine (c .before)) (c .if4 .taken))
+    sym (falls _ (l .loop .i) (l .loop .prev) (ps l) (cs l) (c .before .before .before .before .before .before .before .loop-test .taken) (position-fine (c .before)) (colour-fine (c .before)) (c .if4 .taken))
     ∙ answer l)
 
 add-i : tie.Need-add-i Inv-loop μ-loop

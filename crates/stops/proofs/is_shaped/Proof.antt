@@ -1,8 +1,7 @@
 -- `stops::is_shaped` meets its contract: test by test. Assumes nothing.
-use Rattle.stops.specs.Stops.{mostStops}
+use Rattle.refusals.specs.Limits.{mostStops}
 use Rattle.stops.proofs.Checking.{few, many, unlike, coded, if-sharp, not-sharp}
 use mathlib.Core.Path.{sym, _∙_}
-use Rattle.stops.specs.Stops.{mostStops}
 use borrow.Author.Needs.{needs}
 use Rattle.stops.proofs.is_shaped.Statement.{statement}
 use Rattle.stops.proofs.is_shaped.Tie as tie

@@ -1,5 +1,8 @@
--- `colorgrad_refresh` meets its contract: the call of `refresh` for the kind of the code, its answer shown. Assumes nothing.
-use Rattle.colorgrad_c.proofs.Listing.{refreshes-shown}
+-- `colorgrad_refresh` meets its contract: the call of `refresh` for the kind of the code, its answer shown; a code that names none is refused. Assumes nothing.
+use mathlib.Core.Path.{refl}
+use Rattle.refusals.specs.Refusals.{misshapen}
+use Rattle.refresh.specs.declared.Refreshed.the-variants as refreshed
+use Rattle.colorgrad_c.proofs.Coding.{of-a-kind, of-no-kind}
 use borrow.Author.Needs.{needs}
 use Rattle.colorgrad_c.proofs.edits.colorgrad_refresh.Statement.{statement}
 use Rattle.colorgrad_c.proofs.edits.colorgrad_refresh.Tie as tie
@@ -7,11 +10,23 @@ use Rattle.colorgrad_c.proofs.edits.colorgrad_refresh.Tie as tie
 kind-of-requires : tie.Need-kind-of-requires
 kind-of-requires c κs = search needs
 
-coded-refresh-requires : tie.Need-coded-refresh-requires
-coded-refresh-requires c κs = search needs
+enum-known-known : tie.Need-enum-known-known
+enum-known-known c = search needs
+
+enum-told : tie.Need-enum-told
+enum-told c = search needs
 
 refreshed-shown-requires : tie.Need-refreshed-shown-requires
 refreshed-shown-requires c κs = search needs
+
+returns : tie.Need-returns
+returns c = of-no-kind (refreshed.Refused misshapen) (c .before .before .before .kind-of .ensures) (c .before .enum-told .given .1) (refl, (refl, refl)) (c .refreshed-shown .ensures)
+
+refresh-requires : tie.Need-refresh-requires
+refresh-requires c κs = search needs
+
+refreshed-shown-requires-2 : tie.Need-refreshed-shown-requires-2
+refreshed-shown-requires-2 c κs = search needs
 
 same-length : tie.Need-same-length
 same-length c = search needs
@@ -19,16 +34,20 @@ same-length c = search needs
 same-length-2 : tie.Need-same-length-2
 same-length-2 c = search needs
 
-returns : tie.Need-returns
-returns c = refreshes-shown (c .before .before .before .before .before .before .before .before .kind-of .ensures) (c .before .before .before .before .before .coded-refresh .ensures) (c .refreshed-shown .ensures)
+returns-2 : tie.Need-returns-2
+returns-2 c = of-a-kind _ (c .before .before .before .before .before .before .before .before .before .before .before .kind-of .ensures) (c .before .before .before .before .before .before .before .before .before .known .given .1) (c .before .before .before .before .before .refresh .ensures) (c .refreshed-shown2 .ensures)
 
 pub colorgrad-refresh-spec : {M : Type 1} → statement M
 colorgrad-refresh-spec =
     tie.close
     (tie.spec
     kind-of-requires
-    coded-refresh-requires
+    enum-known-known
+    enum-told
     refreshed-shown-requires
+    returns
+    refresh-requires
+    refreshed-shown-requires-2
     same-length
     same-length-2
-    returns)
+    returns-2)

@@ -1,5 +1,8 @@
--- `colorgrad_thin` meets its contract: the call of `linearize` for the kind of the code, its answer shown. Assumes nothing.
-use Rattle.colorgrad_c.proofs.Listing.{thins-shown}
+-- `colorgrad_thin` meets its contract: the call of `linearize` for the kind of the code, its answer shown; a code that names none is refused. Assumes nothing.
+use mathlib.Core.Path.{refl}
+use Rattle.refusals.specs.Refusals.{misshapen}
+use Rattle.linearize.specs.declared.Listed.the-variants as listed
+use Rattle.colorgrad_c.proofs.Coding.{of-a-kind, of-no-kind}
 use borrow.Author.Needs.{needs}
 use Rattle.colorgrad_c.proofs.lists.colorgrad_thin.Statement.{statement}
 use Rattle.colorgrad_c.proofs.lists.colorgrad_thin.Tie as tie
@@ -7,11 +10,23 @@ use Rattle.colorgrad_c.proofs.lists.colorgrad_thin.Tie as tie
 kind-of-requires : tie.Need-kind-of-requires
 kind-of-requires c κs = search needs
 
-coded-thin-requires : tie.Need-coded-thin-requires
-coded-thin-requires c κs = search needs
+enum-known-known : tie.Need-enum-known-known
+enum-known-known c = search needs
+
+enum-told : tie.Need-enum-told
+enum-told c = search needs
 
 listed-shown-requires : tie.Need-listed-shown-requires
 listed-shown-requires c κs = search needs
+
+returns : tie.Need-returns
+returns c = of-no-kind (listed.Refused misshapen) (c .before .before .before .kind-of .ensures) (c .before .enum-told .given .1) (refl, (refl, refl)) (c .listed-shown .ensures)
+
+thin-requires : tie.Need-thin-requires
+thin-requires c κs = search needs
+
+listed-shown-requires-2 : tie.Need-listed-shown-requires-2
+listed-shown-requires-2 c κs = search needs
 
 same-length : tie.Need-same-length
 same-length c = search needs
@@ -19,16 +34,20 @@ same-length c = search needs
 same-length-2 : tie.Need-same-length-2
 same-length-2 c = search needs
 
-returns : tie.Need-returns
-returns c = thins-shown (c .before .before .before .before .before .before .before .before .kind-of .ensures) (c .before .before .before .before .before .coded-thin .ensures) (c .listed-shown .ensures)
+returns-2 : tie.Need-returns-2
+returns-2 c = of-a-kind _ (c .before .before .before .before .before .before .before .before .before .before .before .kind-of .ensures) (c .before .before .before .before .before .before .before .before .before .known .given .1) (c .before .before .before .before .before .thin .ensures) (c .listed-shown2 .ensures)
 
 pub colorgrad-thin-spec : {M : Type 1} → statement M
 colorgrad-thin-spec =
     tie.close
     (tie.spec
     kind-of-requires
-    coded-thin-requires
+    enum-known-known
+    enum-told
     listed-shown-requires
+    returns
+    thin-requires
+    listed-shown-requires-2
     same-length
     same-length-2
-    returns)
+    returns-2)

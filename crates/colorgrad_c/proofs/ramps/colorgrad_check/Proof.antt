@@ -1,9 +1,8 @@
--- `colorgrad_check` meets its contract: the check of the kind of the code, as a number. Assumes nothing.
-use denote.Ref.{now}
-use mathlib.Core.Path.{ap, _∙_}
-use Rattle.stops.specs.Answers.{numberOfChecked}
-use Rattle.colorgrad_c.specs.Ramps.{codedCheck}
-use Rattle.colorgrad_c.specs.declared.kinds.Coded.{Coded}
+-- `colorgrad_check` meets its contract: the check of the kind of the code, as a number; a code that names none is refused. Assumes nothing.
+use mathlib.Core.Path.{refl}
+use Rattle.refusals.specs.Refusals.{misshapen}
+use Rattle.stops.specs.declared.Checked.the-variants as checked
+use Rattle.colorgrad_c.proofs.Coding.{of-a-kind, of-no-kind}
 use borrow.Author.Needs.{needs}
 use Rattle.colorgrad_c.proofs.ramps.colorgrad_check.Statement.{statement}
 use Rattle.colorgrad_c.proofs.ramps.colorgrad_check.Tie as tie
@@ -11,15 +10,36 @@ use Rattle.colorgrad_c.proofs.ramps.colorgrad_check.Tie as tie
 kind-of-requires : tie.Need-kind-of-requires
 kind-of-requires c κs = search needs
 
-coded-check-requires : tie.Need-coded-check-requires
-coded-check-requires c κs = search needs
+enum-known-known : tie.Need-enum-known-known
+enum-known-known c = search needs
+
+enum-told : tie.Need-enum-told
+enum-told c = search needs
+
+cast-result : tie.Need-cast-result
+cast-result c = search needs
+
+returns : tie.Need-returns
+returns c = of-no-kind (checked.Refused misshapen) (c .before .before .kind-of .ensures) (c .enum-told .given .1) refl refl
+
+check-requires : tie.Need-check-requires
+check-requires c κs = search needs
 
 checked-number-requires : tie.Need-checked-number-requires
 checked-number-requires c κs = search needs
 
-returns : tie.Need-returns
-returns c = let s = c .before .before .before .before .before .before in c .checked-number .ensures ∙ ap numberOfChecked (c .before .coded-check .ensures ∙ ap (λ (x : Coded). codedCheck x (now (s .args .positions)) (now (s .args .channels)) (now (s .args .codes))) (c .before .before .kind-of .ensures))
+returns-2 : tie.Need-returns-2
+returns-2 c = of-a-kind _ (c .before .before .before .before .before .kind-of .ensures) (c .before .before .before .known .given .1) (c .before .check .ensures) (c .checked-number .ensures)
 
 pub colorgrad-check-spec : {M : Type 1} → statement M
 colorgrad-check-spec =
-    tie.close (tie.spec kind-of-requires coded-check-requires checked-number-requires returns)
+    tie.close
+    (tie.spec
+    kind-of-requires
+    enum-known-known
+    enum-told
+    cast-result
+    returns
+    check-requires
+    checked-number-requires
+    returns-2)

@@ -1,9 +1,8 @@
--- `colorgrad_paint` meets its contract: the call of `colorgrad` for the kind of the code. Assumes nothing.
-use denote.Ref.{now}
-use mathlib.Core.Path.{ap, _∙_}
-use Rattle.colorgrad.specs.Answers.{numberOfPainted}
-use Rattle.colorgrad_c.specs.Ramps.{codedPainted, codedCanvas}
-use Rattle.colorgrad_c.specs.declared.kinds.Coded.{Coded}
+-- `colorgrad_paint` meets its contract: the call of `paint` for the kind of the code, its answer as a number; a code that names none is refused. Assumes nothing.
+use mathlib.Core.Path.{refl}
+use Rattle.refusals.specs.Refusals.{misshapen}
+use Rattle.paint.specs.declared.Painted.the-variants as painted
+use Rattle.colorgrad_c.proofs.Coding.{of-a-kind, of-no-kind}
 use borrow.Author.Needs.{needs}
 use Rattle.colorgrad_c.proofs.ramps.colorgrad_paint.Statement.{statement}
 use Rattle.colorgrad_c.proofs.ramps.colorgrad_paint.Tie as tie
@@ -11,8 +10,20 @@ use Rattle.colorgrad_c.proofs.ramps.colorgrad_paint.Tie as tie
 kind-of-requires : tie.Need-kind-of-requires
 kind-of-requires c κs = search needs
 
-coded-paint-requires : tie.Need-coded-paint-requires
-coded-paint-requires c κs = search needs
+enum-known-known : tie.Need-enum-known-known
+enum-known-known c = search needs
+
+enum-told : tie.Need-enum-told
+enum-told c = search needs
+
+cast-result : tie.Need-cast-result
+cast-result c = search needs
+
+returns : tie.Need-returns
+returns c = of-no-kind (painted.Refused misshapen) (c .before .before .kind-of .ensures) (c .enum-told .given .1) (refl, refl) refl
+
+paint-requires : tie.Need-paint-requires
+paint-requires c κs = search needs
 
 painted-number-requires : tie.Need-painted-number-requires
 painted-number-requires c κs = search needs
@@ -20,10 +31,19 @@ painted-number-requires c κs = search needs
 same-length : tie.Need-same-length
 same-length c = search needs
 
-returns : tie.Need-returns
-returns c = let s = c .before .before .before .before .before .before .before .before .before .before .before in (c .painted-number .ensures ∙ ap numberOfPainted (c .before .before .before .coded-paint .ensures .0 ∙ ap (λ (x : Coded). codedPainted x (now (s .args .positions)) (now (s .args .channels)) (now (s .args .codes)) (now (s .args .ts)) (now (s .args .out))) (c .before .before .before .before .before .kind-of .ensures)), c .before .before .before .coded-paint .ensures .1 ∙ ap (λ (x : Coded). codedCanvas x (now (s .args .positions)) (now (s .args .channels)) (now (s .args .codes)) (now (s .args .ts)) (now (s .args .out))) (c .before .before .before .before .before .kind-of .ensures))
+returns-2 : tie.Need-returns-2
+returns-2 c = of-a-kind _ (c .before .before .before .before .before .before .before .before .kind-of .ensures) (c .before .before .before .before .before .before .known .given .1) (c .before .before .before .paint .ensures) (c .painted-number .ensures)
 
 pub colorgrad-paint-spec : {M : Type 1} → statement M
 colorgrad-paint-spec =
     tie.close
-    (tie.spec kind-of-requires coded-paint-requires painted-number-requires same-length returns)
+    (tie.spec
+    kind-of-requires
+    enum-known-known
+    enum-told
+    cast-result
+    returns
+    paint-requires
+    painted-number-requires
+    same-length
+    returns-2)

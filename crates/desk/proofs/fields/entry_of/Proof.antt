@@ -2,7 +2,8 @@
 use borrow.Author.Needs.{needs}
 use mathlib.Core.Path.{sym, _∙_}
 use Rattle.desk.specs.Entries.{stopTag, thresholdTag, editTag}
-use Rattle.desk.proofs.Rows.{starts-long, says-stop, says-linear, says-smoothstep, says-threshold, says-edit, says-nothing}
+use Rattle.text.proofs.Bytes.{starts-long}
+use Rattle.desk.proofs.Rows.{says-stop, says-linear, says-smoothstep, says-threshold, says-edit, says-nothing}
 use Rattle.desk.proofs.fields.entry_of.Statement.{statement}
 use Rattle.desk.proofs.fields.entry_of.Tie as tie
 

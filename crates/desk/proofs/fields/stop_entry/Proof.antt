@@ -8,25 +8,27 @@ row-at-requires : tie.Need-row-at-requires
 row-at-requires c κs = search needs
 
 returns : tie.Need-returns
-returns c = stop-not (c .before .before .before .before .before .args .l .now) (c .before .before .before .before .before .args .from) (c .before .before .before .row-at .result .d) (c .before .before .before .row-at .result .n) (c .before .before .before .row-at .ensures) (c .if1 .taken)
+returns c = let r = c .before .before .before in let z = r .before .before in
+    stop-not (z .args .l .now) (z .args .from) (z .pre) (r .row-at .ensures) (c .if1 .taken)
 
-array-read-t10 : tie.Need-array-read-t10
-array-read-t10 c = search needs
+array-read-t11 : tie.Need-array-read-t11
+array-read-t11 c = search needs
 
-array-read-t13 : tie.Need-array-read-t13
-array-read-t13 c = search needs
+array-read-t14 : tie.Need-array-read-t14
+array-read-t14 c = search needs
 
-array-read-t16 : tie.Need-array-read-t16
-array-read-t16 c = search needs
+array-read-t17 : tie.Need-array-read-t17
+array-read-t17 c = search needs
 
-array-read-t19 : tie.Need-array-read-t19
-array-read-t19 c = search needs
+array-read-t20 : tie.Need-array-read-t20
+array-read-t20 c = search needs
 
-array-read-t10-2 : tie.Need-array-read-t10-2
-array-read-t10-2 c = search needs
+array-read-t11-2 : tie.Need-array-read-t11-2
+array-read-t11-2 c = search needs
 
 returns-2 : tie.Need-returns-2
-returns-2 c = stop-is (c .before .before .before .before .before .args .l .now) (c .before .before .before .before .before .args .from) (c .before .before .before .row-at .result .d) (c .before .before .before .row-at .result .n) (c .before .before .before .row-at .ensures) (c .if1 .left)
+returns-2 c = let r = c .before .before .before in let z = r .before .before in
+    stop-is (z .args .l .now) (z .args .from) (z .pre) (r .row-at .ensures) (c .if1 .left)
 
 pub stop-entry-spec : {M : Type 1} → statement M
 stop-entry-spec =
@@ -34,9 +36,9 @@ stop-entry-spec =
     (tie.spec
     row-at-requires
     returns
-    array-read-t10
-    array-read-t13
-    array-read-t16
-    array-read-t19
-    array-read-t10-2
+    array-read-t11
+    array-read-t14
+    array-read-t17
+    array-read-t20
+    array-read-t11-2
     returns-2)

@@ -8,13 +8,15 @@ row-at-requires : tie.Need-row-at-requires
 row-at-requires c κs = search needs
 
 returns : tie.Need-returns
-returns c = threshold-not (c .before .before .before .before .before .args .l .now) (c .before .before .before .before .before .args .from) (c .before .before .before .row-at .result .d) (c .before .before .before .row-at .result .n) (c .before .before .before .row-at .ensures) (c .if1 .taken)
+returns c = let r = c .before .before .before in let z = r .before .before in
+    threshold-not (z .args .l .now) (z .args .from) (z .pre) (r .row-at .ensures) (c .if1 .taken)
 
-array-read-t8 : tie.Need-array-read-t8
-array-read-t8 c = search needs
+array-read-t9 : tie.Need-array-read-t9
+array-read-t9 c = search needs
 
 returns-2 : tie.Need-returns-2
-returns-2 c = threshold-is (c .before .before .before .before .before .args .l .now) (c .before .before .before .before .before .args .from) (c .before .before .before .row-at .result .d) (c .before .before .before .row-at .result .n) (c .before .before .before .row-at .ensures) (c .if1 .left)
+returns-2 c = let r = c .before .before .before in let z = r .before .before in
+    threshold-is (z .args .l .now) (z .args .from) (z .pre) (r .row-at .ensures) (c .if1 .left)
 
 pub threshold-entry-spec : {M : Type 1} → statement M
 threshold-entry-spec =
@@ -22,5 +24,5 @@ threshold-entry-spec =
     (tie.spec
     row-at-requires
     returns
-    array-read-t8
+    array-read-t9
     returns-2)

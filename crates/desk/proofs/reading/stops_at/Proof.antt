@@ -4,7 +4,7 @@ use native.Mathlib.Omega.{arith}
 use mathlib.Core.Path.{_∙_}
 use denote.Ref.{now}
 use lib.ListN.{length, drop}
-use Rattle.ggr.specs.Text.{lines}
+use Rattle.text.specs.Text.{lines}
 use Rattle.desk.proofs.Inputs.{shorter, Taken, taken-none, taken-few, taken-next, block-other, block-done}
 use Rattle.desk.proofs.reading.stops_at.Statement.{statement}
 use Rattle.desk.proofs.reading.stops_at.Tie as tie

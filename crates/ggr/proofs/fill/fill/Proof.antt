@@ -4,7 +4,7 @@ use Prim.Native.Nat.{_-_}
 use native.Mathlib.Omega.{arith}
 use mathlib.Core.Path.{refl}
 use lib.ListN.{drop}
-use Rattle.ggr.specs.Text.{lines}
+use Rattle.text.specs.Text.{lines}
 use Rattle.ggr.specs.File.{segments}
 use Rattle.ggr.proofs.Filling.{Going, going-start, short, bad, other, room-for, going-on, full}
 use Rattle.ggr.proofs.fill.fill.Statement.{statement}

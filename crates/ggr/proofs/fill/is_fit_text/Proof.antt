@@ -3,9 +3,9 @@ use borrow.Author.Needs.{needs}
 use borrow.Author.Tests.{le-leb, lt-leb}
 use Prim.Native.Nat.{_-_}
 use mathlib.Core.Path.{ap, _∙_}
-use Rattle.ggr.specs.Text.{every, ascii}
+use Rattle.text.specs.Text.{every, ascii}
 use Rattle.ggr.specs.File.{fitText}
-use Rattle.ggr.proofs.Bytes.{part-tail}
+use Rattle.text.proofs.Bytes.{part-tail}
 use Rattle.ggr.proofs.fill.is_fit_text.Statement.{statement}
 use Rattle.ggr.proofs.fill.is_fit_text.Tie as tie
 

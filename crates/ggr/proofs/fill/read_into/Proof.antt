@@ -5,8 +5,7 @@ use native.Mathlib.Omega.{arith}
 use mathlib.Core.Path.{sym, ap, _∙_}
 use lib.ListN.{length}
 use Rattle.float.proofs.Flags.{failed, passed}
-use Rattle.ggr.specs.Text.{textLines}
-use Rattle.ggr.specs.File.{fromLines, roomOf}
+use Rattle.ggr.specs.File.{textLines, fromLines, roomOf}
 use Rattle.ggr.proofs.Filling.{filled-no}
 use Rattle.ggr.proofs.Finish.{file-fg, file-bg, file-text, file-lines, filled-as, lead-refuse, lead-fits, lead-counted, room-fits}
 use Rattle.ggr.proofs.fill.read_into.Statement.{statement}

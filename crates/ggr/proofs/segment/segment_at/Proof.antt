@@ -2,7 +2,7 @@
 use borrow.Author.Needs.{needs}
 use borrow.Author.Tests.{not-true, not-false}
 use Prim.Native.Nat.{_-_}
-use Rattle.ggr.proofs.Rows.{segment-none, segment-some}
+use Rattle.ggr.proofs.Segments.{segment-none, segment-some}
 use Rattle.ggr.proofs.segment.segment_at.Statement.{statement}
 use Rattle.ggr.proofs.segment.segment_at.Tie as tie
 
@@ -14,14 +14,14 @@ makes-segment-requires c κs = search needs
 
 returns : tie.Need-returns
 returns c = let m = c .before in let r = m .before in let a = r .before .before .args in
-    segment-none (a .fg) (a .bg) (a .s .now) (a .at) (r .row-at .result .d) (r .row-at .result .n) (r .row-at .result .next) (r .row-at .ensures) _ (m .makes-segment .ensures) (not-true _ (c .if1 .taken))
+    segment-none (a .fg) (a .bg) (r .row-at .ensures) (m .makes-segment .ensures) (not-true _ (c .if1 .taken))
 
 built-requires : tie.Need-built-requires
 built-requires c κs = search needs
 
 returns-2 : tie.Need-returns-2
 returns-2 c = let e = c .before .before in let m = e .before in let r = m .before in let a = r .before .before .args in
-    segment-some (a .fg) (a .bg) (a .s .now) (a .at) (r .row-at .result .d) (r .row-at .result .n) (r .row-at .result .next) (r .row-at .ensures) _ (m .makes-segment .ensures) (not-false _ (e .if1 .left)) _ (c .built .ensures)
+    segment-some (a .fg) (a .bg) (r .row-at .ensures) (m .makes-segment .ensures) (not-false _ (e .if1 .left)) _ (c .built .ensures)
 
 pub segment-at-spec : {M : Type 1} → statement M
 segment-at-spec =

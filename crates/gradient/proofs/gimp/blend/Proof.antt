@@ -5,10 +5,10 @@ use Rattle.gradient.proofs.gimp.blend.Statement.{statement}
 use Rattle.gradient.proofs.gimp.blend.Tie as tie
 
 returns : tie.Need-returns
-returns c = let a = c .before .before .args in step-right (a .blending) (a .p) (a .q) (a .middle) (a .place) (c .before .if1 .taken) (c .if2 .taken)
+returns c = let t = c .before in let a = t .before .before .before .args in step-right (a .g) (a .pivot) (a .place) (t .before .if1 .taken) (t .if2 .taken)
 
 returns-2 : tie.Need-returns-2
-returns-2 c = let a = c .before .before .args in step-left (a .blending) (a .p) (a .q) (a .middle) (a .place) (c .before .if1 .taken) (c .if2 .left)
+returns-2 c = let t = c .before in let a = t .before .before .before .args in step-left (a .g) (a .pivot) (a .place) (t .before .if1 .taken) (t .if2 .left)
 
 calc-linear-factor-requires : tie.Need-calc-linear-factor-requires
 calc-linear-factor-requires c κs = search needs
@@ -20,7 +20,7 @@ interpolate-linear-requires : tie.Need-interpolate-linear-requires
 interpolate-linear-requires c κs = search needs
 
 returns-3 : tie.Need-returns-3
-returns-3 c = let a = c .before .before .before .before .args in mixed-at (a .blending) (a .p) (a .q) (a .middle) (a .place) (c .before .before .before .if1 .left) (c .before .before .calc-linear-factor .ensures) (c .before .bend .ensures) (c .interpolate-linear .ensures)
+returns-3 c = let f = c .before .before in let a = f .before .before .before .args in mixed-at (a .g) (a .pivot) (a .place) (f .before .if1 .left) (f .calc-linear-factor .ensures) (c .before .bend .ensures) (c .interpolate-linear .ensures)
 
 pub blend-spec : {M : Type 1} → statement M
 blend-spec =

@@ -15,13 +15,26 @@ returns c = let a = c .before .before .before .before .before .args in beyond (n
 find-segment-requires : tie.Need-find-segment-requires
 find-segment-requires c κs = search needs
 
+segment-at-requires : tie.Need-segment-at-requires
+segment-at-requires c κs = let a = c .before .before .before .before .before .before .args in rw (c .find-segment .ensures) (found-within (now (a .positions)) (a .t))
+
 segment-colour-requires : tie.Need-segment-colour-requires
-segment-colour-requires c κs = let a = c .before .before .before .before .before .before .args in rw (c .find-segment .ensures) (found-within (now (a .positions)) (a .t))
+segment-colour-requires c κs = search needs
 
 returns-2 : tie.Need-returns-2
-returns-2 c = let f = c .before in let a = f .before .before .before .before .before .before .args in inside (now (a .positions)) (now (a .channels)) (now (a .codes)) (a .t) (f .before .before .is-off-domain .ensures) (f .before .if1 .left) (f .find-segment .ensures) (c .segment-colour .ensures)
+returns-2 c =
+    let g = c .before in
+    let f = g .before in
+    let a = f .before .before .before .before .before .before .args in
+    inside (now (a .positions)) (now (a .channels)) (now (a .codes)) (a .t) (f .before .before .is-off-domain .ensures) (f .before .if1 .left) (f .find-segment .ensures) (g .segment-at .ensures) (c .segment-colour .ensures)
 
 pub colour-at-spec : {M : Type 1} → statement M
 colour-at-spec =
     tie.close
-    (tie.spec is-off-domain-requires returns find-segment-requires segment-colour-requires returns-2)
+    (tie.spec
+    is-off-domain-requires
+    returns
+    find-segment-requires
+    segment-at-requires
+    segment-colour-requires
+    returns-2)

@@ -7,8 +7,9 @@ use native.Mathlib.Omega.{arith}
 use lib.ListN.{length, take}
 use lib.Ieee.{Float, inf}
 use denote.Ref.{now}
+use Rattle.refusals.specs.Limits.{mostColours}
 use Rattle.float.proofs.Flags.{failed, passed}
-use Rattle.gradient.specs.Sharp.{mostBands, sharpPositions, sharpChannels, domainFits, steady, bands}
+use Rattle.gradient.specs.Sharp.{sharpPositions, sharpChannels, domainFits, steady, bands}
 use Rattle.gradient.proofs.SharpLaws.{builds, few, Room, room, build-domain, build-fit, build-room, build-finite, build-stops, length-positions, length-channels, longer, after-refused, after-stops, after-copy}
 use borrow.Author.Needs.{needs}
 use Rattle.gradient.proofs.sharp.build.Statement.{statement}
@@ -31,7 +32,7 @@ s1 c = c .before .before .before .before .before
 on : (c : tie.Else1) → domainFits (bands (colours (s1 c))) (s1 c .args .min) (s1 c .args .max) ≡ true
 on c = passed (c .if1 .left) (c .before .domain-fits .ensures)
 
-most : (c : tie.Else1) → bands (colours (s1 c)) ≤ mostBands
+most : (c : tie.Else1) → bands (colours (s1 c)) ≤ mostColours
 most c = few (bands (colours (s1 c))) (s1 c .args .min) (s1 c .args .max) (on c) .most
 
 -- where the positions are built aside

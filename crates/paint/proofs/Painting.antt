@@ -1,0 +1,104 @@
+-- The answers of `at` and `paint`, from what the check gave. Assumes nothing.
+use mathlib.Core.Path.{_≡_, sym, _∙_, ap, fun-ext}
+use mathlib.Core.Bool.{false}
+use mathlib.Core.List.{List, _∷_, []}
+use Prim.Native.Nat.{ℕ, _*_, _≤_, _<_}
+use lib.ListN.{length, replicate}
+use lib.Ieee.{Float}
+use borrow.Author.Tests.{lt-ltb, le-ltb}
+use Rattle.refusals.specs.Refusals.{noRoom}
+use Rattle.float.specs.F32.{f0}
+use Rattle.blend.specs.declared.Rgba.{Rgba}
+use Rattle.stops.specs.Place.{Rising}
+use Rattle.stops.specs.Pair.{colourIn}
+use Rattle.stops.specs.Near.{placeNear, pairOr, segmentFor, segmentIn}
+use Rattle.stops.specs.declared.Kind.the-variants.{CatmullRom, Gimp}
+use Rattle.stops.specs.declared.Place.{Place}
+use Rattle.stops.specs.declared.Kind.{Kind}
+use Rattle.stops.specs.declared.Checked.{Checked}
+use Rattle.stops.specs.declared.Checked.the-variants as checked
+use Rattle.stops.proofs.Nearby.{near-same, segment-colour}
+use Rattle.gradient.specs.Gimp.{gimpColour}
+use Rattle.gradient.specs.Ramp.{isGimp, checkOf, colourOf, anyColour}
+use Rattle.stops.specs.Answers.{onFine, numberOfChecked}
+use Rattle.gradient.proofs.Same.{same-colour}
+use Rattle.gradient.proofs.Valid.{valid}
+use Rattle.gradient.proofs.GimpLaws.{fine-shape}
+use Rattle.paint.specs.Answers.{atAnswer, paintCheck, paintAnswer}
+use Rattle.paint.specs.Canvas.{paintedOver, roomOf, canvas}
+use Rattle.paint.specs.Promises.{AtIs, PaintIs}
+use Rattle.paint.specs.Unchecked.{Cut, stopColour, Ready}
+use Rattle.paint.specs.declared.Answer.the-variants as answer
+use Rattle.paint.specs.declared.Painted.the-variants as painted
+
+module _ (kind : Kind) (ps cs : List Float) (ks : List ℕ) where
+  module _ {n : ℕ} (no : checkOf kind ps cs ks ≡ checked.Refused n) where
+    pub at-refused : (t : Float) → AtIs kind ps cs ks t (answer.Refused n)
+    unfolding atAnswer
+    at-refused t = record { number = ap numberOfChecked (sym no); colours = simp no; answer = ap (λ (k : Checked). onFine k (answer.Colour (colourOf kind ps cs ks t)) answer.Refused) (sym no) }
+
+    pub paint-refused : (ts out : List Float) → PaintIs kind ps cs ks ts out out (painted.Refused n)
+    unfolding paintCheck paintAnswer canvas
+    paint-refused ts out = record { number = simp no; answer = simp no; contents = simp no }
+
+  module _ (yes : checkOf kind ps cs ks ≡ checked.Fine) where
+    pub at-coloured : (t : Float) {c : Rgba} → c ≡ anyColour kind ps cs ks t → AtIs kind ps cs ks t (answer.Colour c)
+    unfolding atAnswer
+    at-coloured t e =
+        record {
+          number = ap numberOfChecked (sym yes);
+          colours = ap (λ (x : Rgba). x ∷ []) (e ∙ same-colour kind ps cs ks yes t) ∙ simp yes;
+          answer = ap answer.Colour (e ∙ same-colour kind ps cs ks yes t) ∙ ap (λ (k : Checked). onFine k (answer.Colour (colourOf kind ps cs ks t)) answer.Refused) (sym yes);
+        }
+
+    module _ (ts out : List Float) {out′ : List Float} where
+      pub no-room : roomOf out < length ts → out′ ≡ replicate (length out) f0 → PaintIs kind ps cs ks ts out out′ (painted.Refused noRoom)
+      unfolding paintCheck paintAnswer canvas
+      no-room l e = let b = lt-ltb (roomOf out) (length ts) l in record { number = simp (yes, b); answer = simp (yes, b); contents = e ∙ simp (yes, b) }
+
+      pub done : length ts ≤ roomOf out → out′ ≡ paintedOver (colourOf kind ps cs ks) ts out → PaintIs kind ps cs ks ts out out′ painted.Done
+      unfolding paintCheck paintAnswer canvas
+      done l e =
+          let b = le-ltb (roomOf out) (length ts) l in
+          record {
+            number = simp (yes, b);
+            answer = simp (yes, b);
+            contents = e ∙ simp (yes, b);
+          }
+
+-- ---- each kind's colours
+module _ (kind : Kind) (ps cs : List Float) (two : 2 ≤ length ps) (rising : Rising ps) (t : Float) {c : Rgba} {w : Place} where
+  pub near-colour : (k : ℕ) → w ≡ placeNear ps t k → c ≡ colourIn kind ps cs t w → c ≡ stopColour kind ps cs t
+  near-colour k p e = e ∙ ap (λ (u : Place). colourIn kind ps cs t u) (p ∙ near-same ps two rising t k)
+
+pub kept-colour : (ps cs : List Float) (two : 2 ≤ length ps) (rising : Rising ps) (t : Float) (k : ℕ) {c : Rgba} {w : Place} {s : List (List Float)} {j : ℕ}
+    → w ≡ placeNear ps t k → j ≡ pairOr w k → s ≡ segmentFor cs (length ps) j → c ≡ segmentIn ps cs s t w → c ≡ stopColour CatmullRom ps cs t
+kept-colour ps cs two rising t k {w = w} {s = s} p q r e =
+    near-colour CatmullRom ps cs two rising t k p (e ∙ segment-colour ps cs t w k (r ∙ ap (λ (i : ℕ). segmentFor cs (length ps) i) q))
+
+module _ (kind : Kind) (ps cs : List Float) (ks : List ℕ) (ts out : List Float) where
+  -- stops of the kind v
+  module _ (v : Kind) (stops : isGimp v ≡ false) (h : kind ≡ v) where
+    not-gimp : (t : Float) → stopColour kind ps cs t ≡ colourOf kind ps cs ks t
+    unfolding colourOf
+    not-gimp t = simp (ap isGimp h ∙ stops)
+
+    pub as-stops : {out′ : List Float} → out′ ≡ paintedOver (stopColour kind ps cs) ts out → out′ ≡ paintedOver (colourOf kind ps cs ks) ts out
+    as-stops e = e ∙ ap (λ (g : Float → Rgba). paintedOver g ts out) (fun-ext not-gimp)
+
+    pub as-kept : {out′ : List Float} → out′ ≡ paintedOver (stopColour v ps cs) ts out → out′ ≡ paintedOver (colourOf kind ps cs ks) ts out
+    as-kept e = as-stops (e ∙ ap (λ (u : Kind). paintedOver (stopColour u ps cs) ts out) (sym h))
+
+    pub ready : checkOf kind ps cs ks ≡ checked.Fine → 4 * length ts ≤ length out → Ready ps cs ts out
+    ready fine l = let ok = valid kind ps cs ks (ap isGimp h ∙ stops) fine in record { two = ok .sized .least; rising = ok .rising; four = ok .sized .four; room = l }
+
+  pub cut : kind ≡ Gimp → checkOf kind ps cs ks ≡ checked.Fine → Cut ps cs ks
+  unfolding checkOf
+  cut h fine = let s = fine-shape ps cs ks (sym (simp (ap isGimp h)) ∙ fine) in record { least = s .least; channels = s .channels; codes = s .codes }
+
+  is-gimp : kind ≡ Gimp → (t : Float) → gimpColour ps cs ks t ≡ colourOf kind ps cs ks t
+  unfolding colourOf
+  is-gimp h t = simp (ap isGimp h)
+
+  pub as-gimp : {out′ : List Float} → kind ≡ Gimp → out′ ≡ paintedOver (gimpColour ps cs ks) ts out → out′ ≡ paintedOver (colourOf kind ps cs ks) ts out
+  as-gimp h e = e ∙ ap (λ (g : Float → Rgba). paintedOver g ts out) (fun-ext (is-gimp h))

@@ -1,0 +1,29 @@
+-- `at` meets its contract: the check, then the colour or the refusal. Assumes nothing.
+use denote.Ref.{now}
+use mathlib.Core.Path.{sym, _∙_}
+use Rattle.paint.proofs.Painting.{at-coloured, at-refused}
+use borrow.Author.Needs.{needs}
+use Rattle.paint.proofs.at.Statement.{statement}
+use Rattle.paint.proofs.at.Tie as tie
+
+check-requires : tie.Need-check-requires
+check-requires c κs = search needs
+
+enum-told : tie.Need-enum-told
+enum-told c = search needs
+
+colour-at-requires : tie.Need-colour-at-requires
+colour-at-requires c κs = search needs
+
+enum-known-n : tie.Need-enum-known-n
+enum-known-n c = search needs
+
+returns : tie.Need-returns
+returns c = let s = c .before .before .before .before .before .before .before in at-coloured (s .args .kind) (now (s .args .positions)) (now (s .args .channels)) (now (s .args .codes)) (sym (c .before .before .before .check .ensures .answer) ∙ c .before .enum-told .given .1) (s .args .t) (c .colour-at .ensures)
+
+returns-2 : tie.Need-returns-2
+returns-2 c = let s = c .before .before .before .before .before .before .before in at-refused (s .args .kind) (now (s .args .positions)) (now (s .args .channels)) (now (s .args .codes)) (sym (c .before .before .before .check .ensures .answer) ∙ c .before .n .given .1) (s .args .t)
+
+pub at-spec : {M : Type 1} → statement M
+at-spec =
+    tie.close (tie.spec check-requires enum-told colour-at-requires enum-known-n returns returns-2)

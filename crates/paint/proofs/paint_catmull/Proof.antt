@@ -1,0 +1,104 @@
+-- `paint_catmull` meets its contract. The invariant: the colours of the first i points, the rest as it was, and the segment of the pair. Assumes nothing.
+use borrow.Author.Needs.{needs}
+use mathlib.Core.Path.{_≡_, refl, _∙_, ap}
+use mathlib.Core.List.{List, _++_}
+use Prim.Native.Nat.{_-_, _*_, _≤_}
+use native.Mathlib.Omega.{arith}
+use denote.Ref.{now}
+use lib.ListN.{length, take, drop}
+use lib.Seq.{sets, length-sets}
+use lib.Ieee.{Float}
+use Rattle.paint.proofs.Filling.{colours-next, colours-done}
+use Rattle.stops.specs.Near.{segmentFor}
+use Rattle.stops.specs.declared.Kind.the-variants.{CatmullRom}
+use Rattle.paint.specs.Canvas.{channelsOf, colours}
+use Rattle.paint.specs.Unchecked.{stopColour}
+use Rattle.paint.proofs.Painting.{kept-colour}
+use Rattle.paint.proofs.paint_catmull.Statement.{statement}
+use Rattle.paint.proofs.paint_catmull.Tie as tie
+
+abbrev Inv-loop : tie.InvT-loop
+Inv-loop positions channels ts out₀ n k₀ s₀ i₀ out k s i = (i ≤ length ts) × (length out ≡ length out₀) × (out ≡ colours (stopColour CatmullRom positions channels) (take i ts) ++ drop (4 * i) out₀) × (s ≡ segmentFor channels (length positions) k)
+
+abbrev μ-loop : tie.MeasureT-loop
+μ-loop positions channels ts out₀ n k₀ s₀ i₀ out k s i = length ts - i
+
+segment-for-requires : tie.Need-segment-for-requires Inv-loop μ-loop
+segment-for-requires c κs = search needs
+
+loop-holds : tie.Need-loop-holds Inv-loop μ-loop
+unfolding colours
+loop-holds c = (omega arith, refl, refl, c .segment-for .ensures)
+
+mul-t : tie.Need-mul-t Inv-loop μ-loop
+mul-t c = search needs
+
+shared-slice-read-t : tie.Need-shared-slice-read-t Inv-loop μ-loop
+shared-slice-read-t c = search needs
+
+find-place-requires : tie.Need-find-place-requires Inv-loop μ-loop
+find-place-requires c κs = search needs
+
+pair-or-requires : tie.Need-pair-or-requires Inv-loop μ-loop
+pair-or-requires c κs = search needs
+
+renewed-requires : tie.Need-renewed-requires Inv-loop μ-loop
+renewed-requires c κs = c .before .before .before .before .loop .inv .3
+
+segment-colour-requires : tie.Need-segment-colour-requires Inv-loop μ-loop
+segment-colour-requires c κs = search needs
+
+mul-put : tie.Need-mul-put Inv-loop μ-loop
+mul-put c = search needs
+
+put-requires : tie.Need-put-requires Inv-loop μ-loop
+put-requires c κs = search needs
+
+add-i : tie.Need-add-i Inv-loop μ-loop
+add-i c = search needs
+
+loop-less : tie.Need-loop-less Inv-loop μ-loop
+loop-less c = omega arith
+
+loop-again : tie.Need-loop-again Inv-loop μ-loop
+loop-again c =
+    let p = c .before .before in
+    let l = p .before .before .before .before .before .before .before .before in
+    let s = l .before .before .before .before .before .before in
+    let test = p .before .before .before .before .before .before .before .loop-test .taken in
+    let i = l .loop .i in (
+      omega arith,
+      ap length (p .put .ensures) ∙ simp length-sets (l .loop .inv .1),
+      p .put .ensures
+          ∙ ap (λ (r : List Float). sets r (4 * i) (channelsOf (p .before .before .segment-colour .result))) (l .loop .inv .2)
+          ∙ colours-next (stopColour CatmullRom (now (s .args .positions)) (now (s .args .channels))) (now (s .args .ts)) (now (s .args .out)) (s .pre .room) i (omega arith) (kept-colour (now (s .args .positions)) (now (s .args .channels)) (s .pre .two) (s .pre .rising) _ (l .loop .k) (p .before .before .before .before .before .find-place .ensures) (p .before .before .before .before .pair-or .ensures) (p .before .before .before .renewed .ensures) (p .before .before .segment-colour .ensures)),
+      p .before .before .before .renewed .ensures,
+    )
+
+same-length : tie.Need-same-length Inv-loop μ-loop
+same-length c = c .before .loop .inv .1
+
+returns : tie.Need-returns Inv-loop μ-loop
+returns c = let l = c .before in let s = l .before .before .before .before .before .before in l .loop .inv .2 ∙ colours-done (stopColour CatmullRom (now (s .args .positions)) (now (s .args .channels))) (now (s .args .ts)) (now (s .args .out)) (s .pre .room) (l .loop .i) (omega arith) (omega arith)
+
+pub paint-catmull-spec : {M : Type 1} → statement M
+paint-catmull-spec =
+    tie.close
+    (tie.spec
+    Inv-loop
+    μ-loop
+    segment-for-requires
+    loop-holds
+    mul-t
+    shared-slice-read-t
+    find-place-requires
+    pair-or-requires
+    renewed-requires
+    segment-colour-requires
+    mul-put
+    put-requires
+    add-i
+    loop-less
+    loop-again
+    same-length
+    returns)

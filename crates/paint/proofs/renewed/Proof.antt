@@ -1,0 +1,20 @@
+-- `renewed` meets its contract: the same pair has the same segment. Assumes nothing.
+use mathlib.Core.Path.{sym, _∙_, ap}
+use Prim.Native.Nat.{ℕ}
+use denote.Ref.{now}
+use Rattle.stops.specs.Near.{segmentFor}
+use borrow.Author.Needs.{needs}
+use Rattle.paint.proofs.renewed.Statement.{statement}
+use Rattle.paint.proofs.renewed.Tie as tie
+
+returns : tie.Need-returns
+returns c = let s = c .before .before in s .pre ∙ ap (λ (i : ℕ). segmentFor (now (s .args .channels)) (s .args .n) i) (sym (c .if1 .taken))
+
+segment-for-requires : tie.Need-segment-for-requires
+segment-for-requires c κs = search needs
+
+returns-2 : tie.Need-returns-2
+returns-2 c = search needs
+
+pub renewed-spec : {M : Type 1} → statement M
+renewed-spec = tie.close (tie.spec returns segment-for-requires returns-2)

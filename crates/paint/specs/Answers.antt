@@ -1,0 +1,42 @@
+-- What the calls answer, and document 01's number of each answer, 0 for no refusal.
+use mathlib.Core.Bool.{cond}
+use mathlib.Core.List.{List, [], _∷_}
+use Prim.Native.Nat.{ℕ}
+use lib.Dec.{ltb}
+use lib.Ieee.{Float}
+use Rattle.refusals.specs.Refusals.{noRoom}
+use Rattle.blend.specs.declared.Rgba.{Rgba}
+use Rattle.stops.specs.declared.Kind.{Kind}
+use Rattle.stops.specs.declared.Checked.{Checked}
+use Rattle.stops.specs.declared.Checked.the-variants as checked
+use Rattle.gradient.specs.Ramp.{checkOf, colourOf}
+use Rattle.stops.specs.Answers.{onFine}
+use Rattle.paint.specs.declared.Answer.{Answer}
+use Rattle.paint.specs.declared.Answer.the-variants as answer
+use Rattle.paint.specs.declared.Painted.{Painted}
+use Rattle.paint.specs.declared.Painted.the-variants as painted
+
+abbrev pub numberOfAnswer : Answer → ℕ
+numberOfAnswer (answer.Colour c) = 0
+numberOfAnswer (answer.Refused n) = n
+
+-- the value beside it: a colour, or none; no answer has a line
+abbrev pub coloursOfAnswer : Answer → List Rgba
+coloursOfAnswer (answer.Colour c) = c ∷ []
+coloursOfAnswer (answer.Refused n) = []
+
+abbrev pub numberOfPainted : Painted → ℕ
+numberOfPainted painted.Done = 0
+numberOfPainted (painted.Refused n) = n
+
+module _ (kind : Kind) (ps cs : List Float) (ks : List ℕ) where
+  -- the colour at t, or the refusal
+  unfoldable pub atAnswer : Float → Answer
+  atAnswer t = onFine (checkOf kind ps cs ks) (answer.Colour (colourOf kind ps cs ks t)) answer.Refused
+
+  -- painting n colours where there is room for so many: 1 to 3, then 7
+  unfoldable pub paintCheck : ℕ → ℕ → Checked
+  paintCheck n room = onFine (checkOf kind ps cs ks) (cond (ltb room n) (checked.Refused noRoom) checked.Fine) checked.Refused
+
+  unfoldable pub paintAnswer : ℕ → ℕ → Painted
+  paintAnswer n room = onFine (paintCheck n room) painted.Done painted.Refused

@@ -1,0 +1,4 @@
+pub mod Answers
+pub mod Canvas
+pub mod Unchecked
+pub mod Promises

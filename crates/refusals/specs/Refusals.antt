@@ -1,0 +1,70 @@
+-- The numbers of refusals, each with when it is given. Document 01, 'When the desk says no'; the names are those of include/colorgrad.h.
+use Prim.Native.Nat.{ℕ}
+
+-- stops fewer than 2, more than 512, or odd in number for sharp; lent GIMP segments 0, above 256 or of a kind not carried; building sharp, room below 2n; or lent lengths disagree
+abbrev pub misshapen : ℕ
+misshapen = 1
+
+-- a position or channel of the input is not finite
+abbrev pub notFinite : ℕ
+notFinite = 2
+
+-- a stop's position is below the one before (not asked of GIMP segments)
+abbrev pub falling : ℕ
+falling = 3
+
+-- sampling, thinning, refreshing: min or max beyond plus or minus 1e38
+abbrev pub farDomain : ℕ
+farDomain = 4
+
+-- record length is not 4,608 and 36, or, to thin or refresh, a count is 0 or above 128
+abbrev pub badRecord : ℕ
+badRecord = 5
+
+-- edit: ramp neither linear nor smoothstep, no such stop, or a new channel is not finite
+abbrev pub badEdit : ℕ
+badEdit = 6
+
+-- one more stop is kept than the output has room for
+abbrev pub noRoom : ℕ
+noRoom = 7
+
+-- an emitted position or colour is not finite
+abbrev pub listNotFinite : ℕ
+listNotFinite = 8
+
+-- an emitted position is below the one before
+abbrev pub listFalling : ℕ
+listFalling = 9
+
+-- GIMP text too long, or a byte above 127 after the leading marks
+abbrev pub notAText : ℕ
+notAText = 10
+
+-- line 1, 2 or 3 invalid (that line); a count above 2^64 - 1 too
+abbrev pub badHeader : ℕ
+badHeader = 11
+
+-- invalid segment (its line)
+abbrev pub badSegment : ℕ
+badSegment = 12
+
+-- fewer segment lines than counted (line 3)
+abbrev pub fewLines : ℕ
+fewLines = 13
+
+-- no segment (line 4)
+abbrev pub noSegment : ℕ
+noSegment = 14
+
+-- count above 256 or above the lent room (line 3)
+abbrev pub tooManySegments : ℕ
+tooManySegments = 15
+
+-- segment valid but curved, sinusoidal or HSV (its line)
+abbrev pub notCarried : ℕ
+notCarried = 16
+
+-- building sharp: n outside 1 to 256, domain not finite, min above max, or built positions not finite, falling, or not ending at max
+abbrev pub notBuilt : ℕ
+notBuilt = 17

@@ -1,0 +1,65 @@
+// Document 01's numbers of refusals and its limits, each once, under the names of include/colorgrad.h. The sampler's own
+// numbers are constants of its type.
+
+// A ramp whose stops or segments are too few, too many, odd for sharp or of a kind not carried; lengths that disagree.
+pub const MISSHAPEN: u8 = 1;
+
+// A position or channel of the input is not finite.
+pub const NOT_FINITE: u8 = 2;
+
+// A stop's position is below the one before.
+pub const FALLING: u8 = 3;
+
+// The domain reaches beyond plus or minus 1e38.
+pub const FAR_DOMAIN: u8 = 4;
+
+// A record of other lengths, or a count that is 0 or above 128.
+pub const BAD_RECORD: u8 = 5;
+
+// An edit of a ramp that cannot be refreshed, of no stop, or with a channel that is not finite.
+pub const BAD_EDIT: u8 = 6;
+
+// One more stop is kept than the output has room for.
+pub const NO_ROOM: u8 = 7;
+
+// An emitted position or colour is not finite.
+pub const LIST_NOT_FINITE: u8 = 8;
+
+// An emitted position is below the one before.
+pub const LIST_FALLING: u8 = 9;
+
+// A GIMP text is too long, or has a byte above 127 after the leading marks.
+pub const NOT_A_TEXT: u8 = 10;
+
+// Line 1, 2 or 3 is invalid.
+pub const BAD_HEADER: u8 = 11;
+
+// A segment line is invalid.
+pub const BAD_SEGMENT: u8 = 12;
+
+// There are fewer segment lines than counted.
+pub const FEW_LINES: u8 = 13;
+
+// There is no segment.
+pub const NO_SEGMENT: u8 = 14;
+
+// The count is above 256, or above the lent room.
+pub const TOO_MANY_SEGMENTS: u8 = 15;
+
+// A segment is valid, and curved, sinusoidal or HSV.
+pub const NOT_CARRIED: u8 = 16;
+
+// A sharp ramp cannot be built of these colours on this domain.
+pub const NOT_BUILT: u8 = 17;
+
+// Stops of a ramp.
+pub const MOST_STOPS: usize = 512;
+
+// Segments of a GIMP ramp.
+pub const MOST_SEGMENTS: usize = 256;
+
+// Colours of a sharp ramp to build, which gets two stops for each.
+pub const MOST_COLOURS: usize = 256;
+
+// Bytes of a GIMP text, marks counted.
+pub const MOST_TEXT: usize = 65536;

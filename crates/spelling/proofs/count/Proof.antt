@@ -1,0 +1,56 @@
+-- `count` meets its contract: the bytes so far and those left. Assumes nothing.
+use borrow.Author.Needs.{needs}
+use Prim.Native.Nat.{_+_, _-_, _≤_}
+use native.Mathlib.Omega.{arith}
+use mathlib.Core.Path.{_≡_}
+use mathlib.Core.Logic.{⊎-elim}
+use lib.ListN.{length, drop}
+use Rattle.spelling.specs.Spelling.{hits}
+use Rattle.spelling.proofs.Puts.{hits-yes, hits-no, hits-end}
+use Rattle.spelling.proofs.count.Statement.{statement}
+use Rattle.spelling.proofs.count.Tie as tie
+
+abbrev Inv-loop : tie.InvT-loop
+Inv-loop s b n₀ i₀ n i = (n ≤ i) × (i ≤ length s) × (n + hits b (drop i s) ≡ hits b s)
+
+abbrev μ-loop : tie.MeasureT-loop
+μ-loop s b n₀ i₀ n i = length s - i
+
+loop-holds : tie.Need-loop-holds Inv-loop μ-loop
+loop-holds c = search needs
+
+shared-slice-read-if1 : tie.Need-shared-slice-read-if1 Inv-loop μ-loop
+shared-slice-read-if1 c = search needs
+
+add-n : tie.Need-add-n Inv-loop μ-loop
+add-n c = search needs
+
+add-i : tie.Need-add-i Inv-loop μ-loop
+add-i c = search needs
+
+loop-less : tie.Need-loop-less Inv-loop μ-loop
+loop-less c = search needs
+
+loop-again : tie.Need-loop-again Inv-loop μ-loop
+loop-again c = let l = c .before .before .before in let a = l .before .args in
+    ⊎-elim
+    (λ w. rw (w .1) (omega arith, omega arith, omega (arith, hits-yes (a .b) (a .s .now) (l .loop .i) (search needs) (w .0 .taken))))
+    (λ w. rw (w .1) (omega arith, omega arith, omega (arith, hits-no (a .b) (a .s .now) (l .loop .i) (search needs) (w .0 .left))))
+    (c .if1 .came)
+
+returns : tie.Need-returns Inv-loop μ-loop
+returns c = let l = c .before in let a = l .before .args in omega (arith, hits-end (a .b) (a .s .now) (l .loop .i) (search needs))
+
+pub count-spec : {M : Type 1} → statement M
+count-spec =
+    tie.close
+    (tie.spec
+    Inv-loop
+    μ-loop
+    loop-holds
+    shared-slice-read-if1
+    add-n
+    add-i
+    loop-less
+    loop-again
+    returns)

@@ -1,0 +1,2 @@
+-- What the lines of the gate's inputs stand for.
+pub mod Spelling

@@ -1,0 +1,73 @@
+-- `belongs` meets its contract: a case for each class. Assumes nothing.
+use borrow.Author.Needs.{needs}
+use Prim.Native.Nat.{_-_}
+use Rattle.text.specs.Places.{inClass}
+use Rattle.text.proofs.belongs.Statement.{statement}
+use Rattle.text.proofs.belongs.Tie as tie
+
+enum-told : tie.Need-enum-told
+enum-told c = search needs
+
+enum-told-2 : tie.Need-enum-told-2
+enum-told-2 c = search needs
+
+is-white-requires : tie.Need-is-white-requires
+is-white-requires c κs = search needs
+
+enum-told-3 : tie.Need-enum-told-3
+enum-told-3 c = search needs
+
+is-white-requires-2 : tie.Need-is-white-requires-2
+is-white-requires-2 c κs = search needs
+
+enum-told-4 : tie.Need-enum-told-4
+enum-told-4 c = search needs
+
+is-white-requires-3 : tie.Need-is-white-requires-3
+is-white-requires-3 c κs = search needs
+
+enum-told-5 : tie.Need-enum-told-5
+enum-told-5 c = search needs
+
+returns : tie.Need-returns
+unfolding inClass
+returns c = rw (c .enum-told .given .1)
+
+returns-2 : tie.Need-returns-2
+unfolding inClass
+returns-2 c = rw (c .before .enum-told2 .given .1, c .is-white .ensures)
+
+returns-3 : tie.Need-returns-3
+unfolding inClass
+returns-3 c = rw (c .before .before .enum-told3 .given .1, ← c .before .is-white2 .ensures, c .if1 .taken)
+
+returns-4 : tie.Need-returns-4
+unfolding inClass
+returns-4 c = rw (c .before .before .enum-told3 .given .1, ← c .before .is-white2 .ensures, c .if1 .left)
+
+returns-5 : tie.Need-returns-5
+unfolding inClass
+returns-5 c = rw (c .before .enum-told4 .given .1, c .is-white3 .ensures)
+
+returns-6 : tie.Need-returns-6
+unfolding inClass
+returns-6 c = rw (c .enum-told5 .given .1)
+
+pub belongs-spec : {M : Type 1} → statement M
+belongs-spec =
+    tie.close
+    (tie.spec
+    enum-told
+    enum-told-2
+    is-white-requires
+    enum-told-3
+    is-white-requires-2
+    enum-told-4
+    is-white-requires-3
+    enum-told-5
+    returns
+    returns-2
+    returns-3
+    returns-4
+    returns-5
+    returns-6)
