@@ -22,7 +22,7 @@ use Rattle.gradient.specs.Ramp.{isGimp, checkOf, colourOf}
 use Rattle.linearize.specs.Midpoints.{Gradient, Far}
 use Rattle.linearize.specs.Kept.{keptOf, refusalOf, roomOf, coloursOf, writtenOf, positionsWritten, channelsWritten, listEvaluations}
 use Rattle.linearize.specs.Lent.{Held, Output, outputOf}
-use Rattle.linearize.specs.Desk.{farOf, answerBy, withSampling, stopsOfListed, evaluationsOfSampled, sampleCheck, sampleAnswer, written, flattenOutput}
+use Rattle.linearize.specs.Desk.{farOf, answerBy, heldCheck, pointsIn, fresh, flattenEvaluations, withSampling, stopsOfListed, evaluationsOfSampled, sampleCheck, sampleAnswer, written, flattenOutput}
 use Rattle.linearize.specs.Promises.{Samples, Flattens}
 use Rattle.linearize.specs.declared.Listed.{Listed}
 use Rattle.linearize.specs.declared.Listed.the-variants as listed
@@ -117,7 +117,7 @@ abbrev pub Answers : Ramp → Float → Checked → List Float → ℕ → Outpu
 Answers ramp asked check ts spent out r =
     r ≡ answerBy check (refusalOf (colourOf ramp) (farOf asked) (roomOf (out .positions) (out .channels)) ts) (length (keptIn ramp asked ts)) spent
 
-module _ {ramp : Ramp} {asked : Float} {check : Checked} {ts : List Float} {spent : ℕ} {out : Change Output} {r : Listed} (v : Room (out .entry .positions) (out .entry .channels)) (a : Answers ramp asked check ts spent (out .entry) r) where
+module _ (ramp : Ramp) (asked : Float) (check : Checked) (ts : List Float) (spent : ℕ) (out : Change Output) (r : Listed) (v : Room (out .entry .positions) (out .entry .channels)) (a : Answers ramp asked check ts spent (out .entry) r) where
   pub made-fits : stopsOfListed r ≤ room
   made-fits = rw a (stops-few check (refusalOf (colourOf ramp) (farOf asked) (roomOf (out .entry .positions) (out .entry .channels)) ts) (length (keptIn ramp asked ts)) room spent (fits-in (colourOf ramp) (farOf asked) v ts))
 
@@ -134,11 +134,11 @@ module _ {ramp : Ramp} {asked : Float} {check : Checked} {ts : List Float} {spen
 -- ---- flattening
 module _ {ramp : Ramp} {asked : Float} {held : Change Held} {out : Change Output} {r : Listed} (v : Room (out .entry .positions) (out .entry .channels)) (w : Flattens ramp asked held out r) where
   pub fresh-fits : stopsOfListed r ≤ room
-  fresh-fits = made-fits v (w .told .answer)
+  fresh-fits = made-fits ramp asked (heldCheck ramp (held .entry)) (pointsIn ramp (fresh ramp asked)) (flattenEvaluations ramp asked) out r v (w .told .answer)
 
   pub fresh-same : listedText r (out .exit .positions) (out .exit .channels) ≡ freshText ramp asked (held .entry)
   unfolding freshText flattenOutput
-  fresh-same = made-text v (w .told .answer) (w .output)
+  fresh-same = made-text ramp asked (heldCheck ramp (held .entry)) (pointsIn ramp (fresh ramp asked)) (flattenEvaluations ramp asked) out r v (w .told .answer) (w .output)
 
 -- ---- sampling, and then the list after a refresh
 module _ {ramp : Ramp} (e : Edit) {asked : Float} {held : Change Held} {r : Sampled} (w : Samples ramp asked held r) where
@@ -151,18 +151,23 @@ module _ {ramp : Ramp} (e : Edit) {asked : Float} {held : Change Held} {r : Samp
     sample-few = omega (arith, ap evaluationsOfSampled i, sample-most ramp asked (held .entry) (held .exit) r w)
 
     module _ {all : Held} {out : Change Output} {l made : Listed} (v : Room (out .entry .positions) (out .entry .channels)) (u : RefreshLists ramp e asked (change (held .exit) all) out l) (b : made ≡ withSampling n l) where
-      answers : Answers (edited ramp e) asked (refreshCheck ramp e (held .exit)) (newPoints ramp e asked (held .exit))
-          (n + (newEvaluations ramp e asked + listEvaluations (colourOf (edited ramp e)) (farOf asked) (newPoints ramp e asked (held .exit)))) (out .entry) made
-      answers = b ∙ ap (withSampling n) (u .told .answer) ∙ with-answer (refreshCheck ramp e (held .exit)) _ _ _ n
+      abbrev spent : ℕ
+      spent = newEvaluations ramp e asked + listEvaluations (colourOf (edited ramp e)) (farOf asked) (newPoints ramp e asked (held .exit))
+
+      answers : Answers (edited ramp e) asked (refreshCheck ramp e (held .exit)) (newPoints ramp e asked (held .exit)) (n + spent) (out .entry) made
+      answers =
+          b ∙ ap (withSampling n) (u .told .answer)
+          ∙ with-answer (refreshCheck ramp e (held .exit)) (refusalOf (colourOf (edited ramp e)) (farOf asked) (roomOf (out .entry .positions) (out .entry .channels)) (newPoints ramp e asked (held .exit)))
+          (length (keptIn (edited ramp e) asked (newPoints ramp e asked (held .exit)))) spent n
 
       pub relist-fits : stopsOfListed made ≤ room
-      relist-fits = made-fits v answers
+      relist-fits = made-fits (edited ramp e) asked (refreshCheck ramp e (held .exit)) (newPoints ramp e asked (held .exit)) (n + spent) out made v answers
 
       pub relist-same : listedText made (out .exit .positions) (out .exit .channels) ≡ editText ramp e asked (held .entry)
       unfolding editText relistText refreshOutput
       relist-same =
-          made-text v answers (u .output)
-          ∙ (rw (sym (w .answer) ∙ i) (ap (λ (h : Held). relistText ramp e asked h n) (w .left)))
+          made-text (edited ramp e) asked (refreshCheck ramp e (held .exit)) (newPoints ramp e asked (held .exit)) (n + spent) out made v answers (u .output)
+          ∙ rw (sym (w .answer) ∙ i) (ap (λ (h : Held). relistText ramp e asked h n) (w .left))
 
 -- ---- more stops than a ramp may have
 and-false : (t : Bool) → (t && false) ≡ false
