@@ -4,6 +4,8 @@ use mathlib.Core.Path.{_≡_}
 use mathlib.Core.Bool.{cond}
 use lib.Dec.{eqb}
 use Rattle.stops.specs.declared.Kind.the-variants.{Linear, Smoothstep, Sharp, Basis, CatmullRom, Gimp}
+use lib.Ieee.{Float}
+use Rattle.stops.specs.Lent.{Lent, Ramp, lentRamp}
 use Rattle.stops.specs.declared.Kind.{Kind}
 use Rattle.colorgrad_c.specs.declared.kinds.Coded.{Coded}
 use Rattle.colorgrad_c.specs.declared.kinds.Coded.the-variants.{Of, Unknown}
@@ -27,3 +29,7 @@ pub record Shows {A B : Type 0} (code : ℕ) (known : Kind → A → Type 0) (un
   pub answer : A
   pub promised : onKind (kindOf code) known unknown answer
   pub shown : b ≡ show answer
+
+-- a lent ramp, for any kind
+abbrev pub codedRamp : Lent Float → Lent Float → Lent ℕ → Kind → Ramp
+codedRamp ps cs ks kind = lentRamp kind ps cs ks

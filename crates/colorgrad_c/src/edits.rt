@@ -7,8 +7,11 @@ use crate::lists::SampleMade;
 use blend::Rgba;
 use linearize::Listed;
 use refresh::Refreshed;
+use refresh::edit::Edit;
 use refusals::MISSHAPEN;
 ghost use mathlib.Core.Path.{_≡_};
+ghost use Rattle.linearize.specs.Lent.{lentHeld, lentOutput};
+ghost use Rattle.colorgrad_c.specs.Kinds.{codedRamp};
 ghost use Rattle.colorgrad_c.specs.Edits.{refreshedShown, CodedRefreshes, CodedRefreshLists};
 
 fn refreshed_shown(refreshed: Refreshed) -> SampleMade
@@ -38,18 +41,18 @@ pub extern "C" fn colorgrad_refresh(
     rows: &mut [f32],
     counts: &mut [u8],
 ) -> SampleMade
-    ensures { λ r. ⌜ CodedRefreshes kind (now (positions .entry)) (now (channels .entry)) (now (codes .entry)) stop colour threshold (now (rows .entry)) (now (counts .entry)) (now (rows .exit)) (now (counts .exit)) r ⌝ }
+    ensures { λ r. ⌜ CodedRefreshes kind (codedRamp positions channels codes) (record { stop = stop; colour = colour }) threshold (lentHeld rows counts) r ⌝ }
 {
     let Coded::Of(known) = kinds::kind_of(kind) else {
         return refreshed_shown(Refreshed::Refused(MISSHAPEN));
     };
+    let edit = Edit { stop, colour };
     refreshed_shown(refresh::refresh(
         known,
         positions,
         channels,
         codes,
-        stop,
-        colour,
+        edit,
         threshold,
         rows,
         counts,
@@ -70,18 +73,18 @@ pub extern "C" fn colorgrad_refresh_list(
     places: &mut [f32],
     colours: &mut [f32],
 ) -> ListMade
-    ensures { λ r. ⌜ CodedRefreshLists kind (now (positions .entry)) (now (channels .entry)) (now (codes .entry)) stop colour threshold (now (rows .entry)) (now (counts .entry)) (now (rows .exit)) (now (counts .exit)) (now (places .entry)) (now (places .exit)) (now (colours .entry)) (now (colours .exit)) r ⌝ }
+    ensures { λ r. ⌜ CodedRefreshLists kind (codedRamp positions channels codes) (record { stop = stop; colour = colour }) threshold (lentHeld rows counts) (lentOutput places colours) r ⌝ }
 {
     let Coded::Of(known) = kinds::kind_of(kind) else {
         return lists::listed_shown(Listed::Refused(MISSHAPEN));
     };
+    let edit = Edit { stop, colour };
     lists::listed_shown(refresh::refresh_list(
         known,
         positions,
         channels,
         codes,
-        stop,
-        colour,
+        edit,
         threshold,
         rows,
         counts,

@@ -5,6 +5,8 @@ use linearize::Listed;
 use linearize::Sampled;
 use refusals::MISSHAPEN;
 ghost use mathlib.Core.Path.{_≡_};
+ghost use Rattle.linearize.specs.Lent.{lentHeld, lentOutput};
+ghost use Rattle.colorgrad_c.specs.Kinds.{codedRamp};
 ghost use Rattle.colorgrad_c.specs.Lists.{sampledShown, listedShown, CodedSamples, CodedThins, CodedFlattens};
 
 // The refusal, or 0 and the evaluations.
@@ -64,7 +66,7 @@ pub extern "C" fn colorgrad_sample(
     rows: &mut [f32],
     counts: &mut [u8],
 ) -> SampleMade
-    ensures { λ r. ⌜ CodedSamples kind (now (positions .entry)) (now (channels .entry)) (now (codes .entry)) threshold (now (rows .entry)) (now (rows .exit)) (now (counts .entry)) (now (counts .exit)) r ⌝ }
+    ensures { λ r. ⌜ CodedSamples kind (codedRamp positions channels codes) threshold (lentHeld rows counts) r ⌝ }
 {
     let Coded::Of(known) = kinds::kind_of(kind) else {
         return sampled_shown(Sampled::Refused(MISSHAPEN));
@@ -84,7 +86,7 @@ pub extern "C" fn colorgrad_thin(
     places: &mut [f32],
     colours: &mut [f32],
 ) -> ListMade
-    ensures { λ r. ⌜ CodedThins kind (now (positions .entry)) (now (channels .entry)) (now (codes .entry)) threshold (now (rows .entry)) (now (counts .entry)) (now (places .entry)) (now (places .exit)) (now (colours .entry)) (now (colours .exit)) r ⌝ }
+    ensures { λ r. ⌜ CodedThins kind (codedRamp positions channels codes) threshold (lentHeld rows counts .entry) (lentOutput places colours) r ⌝ }
 {
     let Coded::Of(known) = kinds::kind_of(kind) else {
         return listed_shown(Listed::Refused(MISSHAPEN));
@@ -114,7 +116,7 @@ pub extern "C" fn colorgrad_flatten(
     places: &mut [f32],
     colours: &mut [f32],
 ) -> ListMade
-    ensures { λ r. ⌜ CodedFlattens kind (now (positions .entry)) (now (channels .entry)) (now (codes .entry)) threshold (now (rows .entry)) (now (rows .exit)) (now (counts .entry)) (now (counts .exit)) (now (places .entry)) (now (places .exit)) (now (colours .entry)) (now (colours .exit)) r ⌝ }
+    ensures { λ r. ⌜ CodedFlattens kind (codedRamp positions channels codes) threshold (lentHeld rows counts) (lentOutput places colours) r ⌝ }
 {
     let Coded::Of(known) = kinds::kind_of(kind) else {
         return listed_shown(Listed::Refused(MISSHAPEN));

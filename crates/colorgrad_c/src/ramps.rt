@@ -12,6 +12,7 @@ ghost use lib.ListN.{length};
 ghost use Rattle.stops.specs.Answers.{numberOfChecked};
 ghost use Rattle.gradient.specs.Sharp.{buildOf, after, bands, sharpPositions, sharpChannels};
 ghost use Rattle.paint.specs.Answers.{numberOfPainted};
+ghost use Rattle.colorgrad_c.specs.Kinds.{codedRamp};
 ghost use Rattle.colorgrad_c.specs.Ramps.{domainBy, answerShown, builtShown, CodedChecks, CodedDomain, CodedAt, CodedPaints};
 
 // The refusal, or 0 and the ends of the domain.
@@ -53,7 +54,7 @@ pub extern "C" fn colorgrad_check(
     channels: &[f32],
     codes: &[u8],
 ) -> u32
-    ensures { λ r. ⌜ CodedChecks kind (now (positions .entry)) (now (channels .entry)) (now (codes .entry)) r ⌝ }
+    ensures { λ r. ⌜ CodedChecks kind (codedRamp positions channels codes) r ⌝ }
 {
     let Coded::Of(known) = kinds::kind_of(kind) else {
         return MISSHAPEN as u32;
@@ -85,7 +86,7 @@ pub extern "C" fn colorgrad_domain(
     channels: &[f32],
     codes: &[u8],
 ) -> Domain
-    ensures { λ r. ⌜ CodedDomain kind (now (positions .entry)) (now (channels .entry)) (now (codes .entry)) r ⌝ }
+    ensures { λ r. ⌜ CodedDomain kind (codedRamp positions channels codes) r ⌝ }
 {
     let Coded::Of(known) = kinds::kind_of(kind) else {
         return domain_by(Checked::Refused(MISSHAPEN), 0.0, 0.0);
@@ -122,7 +123,7 @@ pub extern "C" fn colorgrad_at(
     codes: &[u8],
     t: f32,
 ) -> Shown
-    ensures { λ r. ⌜ CodedAt kind (now (positions .entry)) (now (channels .entry)) (now (codes .entry)) t r ⌝ }
+    ensures { λ r. ⌜ CodedAt kind (codedRamp positions channels codes) t r ⌝ }
 {
     let Coded::Of(known) = kinds::kind_of(kind) else {
         return answer_shown(Answer::Refused(MISSHAPEN));
@@ -149,7 +150,7 @@ pub extern "C" fn colorgrad_paint(
     ts: &[f32],
     out: &mut [f32],
 ) -> u32
-    ensures { λ r. ⌜ CodedPaints kind (now (positions .entry)) (now (channels .entry)) (now (codes .entry)) (now (ts .entry)) (now (out .entry)) (now (out .exit)) r ⌝ }
+    ensures { λ r. ⌜ CodedPaints kind (codedRamp positions channels codes) (now (ts .entry)) (now (out .entry)) (now (out .exit)) r ⌝ }
 {
     let Coded::Of(known) = kinds::kind_of(kind) else {
         return MISSHAPEN as u32;

@@ -15,7 +15,7 @@ use Rattle.stops.specs.declared.Kind.{Kind}
 use Rattle.desk.specs.Input.{input, inputOf}
 use Rattle.desk.specs.Recoloured.{recoloured, SameStops}
 use Rattle.desk.specs.Tool.{deskOf, deskAnswer, deskOutput, mostPrinted, Desks, Prints}
-use Rattle.desk.specs.declared.fields.Edit.{Edit}
+use Rattle.refresh.specs.declared.edit.Edit.{Edit}
 use Rattle.desk.specs.declared.reading.Edited.the-variants as edit
 use Rattle.desk.specs.declared.Desked.{Desked}
 use Rattle.desk.specs.declared.Desked.the-variants as desked
@@ -46,7 +46,7 @@ never-short {s} {out} h w = w .answer ∙ rw (le-ltb (length out) (length (deskO
 
 -- ---- two calls: s has an edit of a stop that is there; s′ has the same stops with that one changed, and no edit
 module _ {s s′ : List ℕ} {kind : Kind} {asked : Float} {stops : List Stop} {e : Edit}
-    (with-edit : inputOf s ≡ input kind asked stops (edit.By e)) (there : e .index < length stops) (without : inputOf s′ ≡ input kind asked (recoloured stops (e .index) (e .colour)) edit.Not)
+    (with-edit : inputOf s ≡ input kind asked stops (edit.By e)) (there : e .stop < length stops) (without : inputOf s′ ≡ input kind asked (recoloured stops (e .stop) (e .colour)) edit.Not)
     {out out′ : List ℕ} {n : ℕ} {other other′ : List ℕ} {m : ℕ} where
   pub desks-same : Desks s out out′ (desked.Printed n) → Desks s′ other other′ (desked.Printed m) → SameStops (take n out′) (take m other′)
   desks-same w v = rw (desk-holds w, desk-holds v) (edited-text s s′ with-edit there without)

@@ -18,7 +18,7 @@ use Rattle.desk.specs.Entries.{exactly, thresholdEntry, stopEntry, index
 use Rattle.desk.specs.Input.{input, fromEnd, fromEdit, stopsOf, afterStops, fromStops, fromThreshold, fromKind, inputOf}
 use Rattle.desk.specs.Recoloured.{toTab, afterTab, changedLine, changedLines, SameStops, EditMade}
 use Rattle.desk.specs.Tool.{deskOf}
-use Rattle.desk.specs.declared.fields.Edit.{Edit}
+use Rattle.refresh.specs.declared.edit.Edit.{Edit}
 use Rattle.desk.specs.declared.reading.Edited.the-variants as edit
 use Rattle.desk.proofs.EditedLines.{edited-lines}
 
@@ -33,7 +33,7 @@ pub byHand : List ℕ
 byHand = bytes "kind\tlinear\nstop\t0\t0\t0\t0\t1\nstop\t1\t0\t1\t0\t1\n"
 
 green : Edit
-green = record { index = 1; colour = record { r = f0; g = f1; b = f0; a = f1 } }
+green = record { stop = 1; colour = record { r = f0; g = f1; b = f0; a = f1 } }
 
 both : List Stop
 both = record { position = f0; colour = record { r = f0; g = f0; b = f0; a = f1 } } ∷ record { position = f1; colour = record { r = f1; g = f1; b = f1; a = f1 } } ∷ []

@@ -17,7 +17,7 @@ use Rattle.desk.specs.Entries.{entryOf}
 use Rattle.desk.specs.Input.{Input, unread, input, mostBytes, ifStop, ifChange, fromEnd, fromEdit, stopsOf, afterStops, fromStops, fromThreshold, fromKind, inputOf}
 use Rattle.desk.specs.Recoloured.{recoloured, changedLine, changedLines, SameStops, EditMade}
 use Rattle.desk.specs.Tool.{deskOf}
-use Rattle.desk.specs.declared.fields.Edit.{Edit}
+use Rattle.refresh.specs.declared.edit.Edit.{Edit}
 use Rattle.desk.specs.declared.fields.Entry.{Entry}
 use Rattle.desk.specs.declared.fields.Entry.the-variants as entry
 use Rattle.desk.specs.declared.reading.Edited.the-variants as edit
@@ -191,7 +191,7 @@ module _ (d : List ℕ) (e : Edit) (last : entryOf d ≡ entry.Change e) where
     go entry.Unread g = absurd (let none : manyStops (fromKind (l ∷ (ls ++ d ∷ []))) ≡ 0 = rw g in omega arith)
 
 -- ---- the texts
-module _ (s s′ : List ℕ) {kind : Kind} {asked : Float} {stops : List Stop} {e : Edit} (with-edit : inputOf s ≡ input kind asked stops (edit.By e)) (there : e .index < length stops) (w : EditMade s s′ e) where
+module _ (s s′ : List ℕ) {kind : Kind} {asked : Float} {stops : List Stop} {e : Edit} (with-edit : inputOf s ≡ input kind asked stops (edit.By e)) (there : e .stop < length stops) (w : EditMade s s′ e) where
   whole : fromKind (w .body ++ w .last ∷ []) ≡ input kind asked stops (edit.By e)
   unfolding inputOf
   whole = go (leb (length s) mostBytes) with-edit where
@@ -199,11 +199,11 @@ module _ (s s′ : List ℕ) {kind : Kind} {asked : Float} {stops : List Stop} {
     go true h = ap fromKind (sym (w .before)) ∙ h
     go false h = absurd (omega (arith, ap manyStops h, there))
 
-  pub lines-read : inputOf s′ ≡ input kind asked (recoloured stops (e .index) (e .colour)) edit.Not
+  pub lines-read : inputOf s′ ≡ input kind asked (recoloured stops (e .stop) (e .colour)) edit.Not
   unfolding inputOf
   lines-read =
       rw (le-leb (length s′) mostBytes (w .fits))
-      (ap fromKind (w .after) ∙ from-kind (w .last) e (w .says) (e .index) (w .body) (omega (arith, ap manyStops whole, there)) ∙ ap (redone (e .index) (e .colour)) whole)
+      (ap fromKind (w .after) ∙ from-kind (w .last) e (w .says) (e .stop) (w .body) (omega (arith, ap manyStops whole, there)) ∙ ap (redone (e .stop) (e .colour)) whole)
 
   pub edited-lines : SameStops (deskOf s) (deskOf s′)
   edited-lines = edited-text s s′ with-edit there lines-read

@@ -2,37 +2,35 @@
 use Prim.Native.Nat.{ℕ, zero, suc, _+_, _-_, _*_, _≤_, _<_}
 use native.Mathlib.Decide.{decLe}
 use native.Mathlib.Omega.{arith}
-use mathlib.Core.Path.{_≡_, refl, sym, ap, ap₂, subst, _∙_}
+use mathlib.Core.Path.{_≡_, refl, sym, ap, ap₂, _∙_}
 use mathlib.Core.Bool.{Bool, true, false, cond, _&&_}
 use mathlib.Core.List.{List, [], _∷_}
-use lib.ListN.{length, replicate, getD}
+use lib.ListN.{length, getD}
 use lib.Ieee.{Float, nan, inf, lt}
 use lib.Ieee.Scale.{finite}
 use Rattle.refusals.specs.Refusals.{notFinite, falling}
-use Rattle.float.specs.F32.{f0}
 use Rattle.blend.specs.declared.Rgba.{Rgba}
 use Rattle.blend.specs.declared.Stop.{Stop}
 use Rattle.blend.proofs.FiniteLists.{finite-each}
+use Rattle.stops.specs.Lent.{Ramp, rampOf}
 use Rattle.stops.specs.Stops.{posAt, colourAt, finiteRgba, eachStop, stopsCheck}
 use Rattle.stops.specs.declared.Kind.{Kind}
 use Rattle.stops.specs.declared.Checked.{Checked}
 use Rattle.stops.specs.declared.Checked.the-variants as checked
 use Rattle.gradient.specs.Ramp.{isGimp, checkOf, minOf, maxOf, colourOf}
-use Rattle.linearize.specs.Constants.{cells, recordLength}
-use Rattle.linearize.specs.Cells.{rowsOf, countsOf, samplingEvaluations}
 use Rattle.linearize.specs.Kept.{keptOf, refusalOf, coloursOf, listEvaluations}
-use Rattle.linearize.specs.Desk.{andThen, farOf, shapeCheck, sampleCheck, thinCheck, sampleAnswer, sampleRows, sampleCounts, freshList, flattenEvaluations}
-use Rattle.linearize.proofs.Checks.{record-lengths, ready-counts}
-use Rattle.linearize.proofs.Filling.{sampled-ready}
-use Rattle.refresh.specs.Edit.{changed}
-use Rattle.refresh.specs.RefreshDesk.{editCheck, newEvaluations, refreshAnswer}
+use Rattle.linearize.specs.Lent.{Held}
+use Rattle.linearize.specs.Desk.{andThen, farOf, shapeCheck, sampleCheck, heldCheck, pointsIn, fresh, freshEvaluations, sampleAnswer, sampleHeld, flattenEvaluations}
+use Rattle.linearize.proofs.Checks.{ramp-fine}
+use Rattle.refresh.specs.Edit.{changed, edited}
+use Rattle.refresh.specs.RefreshDesk.{editCheck, newEvaluations}
+use Rattle.refresh.specs.declared.edit.Edit.{Edit}
 use Rattle.refresh.proofs.Edits.{colour-other, colour-new, changed-length}
-use Rattle.refresh.proofs.EditChecks.{edit-fine}
-use Rattle.refresh.proofs.Theorem.{refresh-passes, refreshed-rows-fresh, refreshed-counts-fresh}
+use Rattle.refresh.proofs.EditChecks.{edit-fine, edit-allowed}
+use Rattle.refresh.proofs.Theorem.{refresh-passes, fresh-renewed}
 use Rattle.desk.specs.Input.{input, positionsIn, channelsIn, inputOf}
 use Rattle.desk.specs.Recoloured.{recoloured, SameStops}
-use Rattle.desk.specs.Tool.{room, freshText, thinText, refreshText, editText, inputText, deskOf}
-use Rattle.desk.specs.declared.fields.Edit.{Edit}
+use Rattle.desk.specs.Tool.{room, madeText, freshText, relistText, editText, blank, inputText, deskOf}
 use Rattle.desk.specs.declared.reading.Edited.the-variants as edit
 use Rattle.desk.proofs.Inputs.{length-positions, length-channels}
 use Rattle.desk.proofs.Plain.{read-finite}
@@ -72,83 +70,51 @@ module _ (cs : List Float) (k : ℕ) (c : Rgba) (there : 4 * k + 4 ≤ length cs
       ap₂ (λ (t : Bool) (x : Checked). cond (finite (posAt ps i) && t) (cond (lt (posAt ps i) prev) (checked.Refused falling) x) (checked.Refused notFinite))
       (finite-same i) (each-same left (suc i) (posAt ps i) ps)
 
-  check-same : (kind : Kind) (ps : List Float) (ks : List ℕ) → isGimp kind ≡ false → checkOf kind ps (changed cs k c) ks ≡ checkOf kind ps cs ks
+module _ (ramp : Ramp) (e : Edit) (there : 4 * e .stop + 4 ≤ length (ramp .channels)) (old : finiteRgba (colourAt (ramp .channels) (e .stop)) ≡ true) (new : finiteRgba (e .colour) ≡ true) (g : isGimp (ramp .kind) ≡ false) where
+  check-same : checkOf (edited ramp e) ≡ checkOf ramp
   unfolding checkOf stopsCheck
-  check-same kind ps ks g = rw (g, changed-length cs k c, each-same (length ps) 0 (inf true) ps)
+  check-same = rw (g, changed-length (ramp .channels) (e .stop) (e .colour), each-same (ramp .channels) (e .stop) (e .colour) there old new (length (ramp .positions)) 0 (inf true) (ramp .positions))
 
-  sampling-same : (kind : Kind) (ps : List Float) (ks : List ℕ) (n m : ℕ) → isGimp kind ≡ false → sampleCheck kind ps (changed cs k c) ks n m ≡ sampleCheck kind ps cs ks n m
+  sampling-same : (was : Held) → heldCheck (edited ramp e) was ≡ heldCheck ramp was
   unfolding sampleCheck
-  sampling-same kind ps ks n m g = ap (λ (x : Checked). andThen x (shapeCheck (minOf kind ps) (maxOf kind ps) n m)) (check-same kind ps ks g)
-
--- ---- a record that a sampling left is thinned as flattening thins it
-module _ (kind : Kind) (ps cs : List Float) (ks : List ℕ) (asked : Float) (rows : List Float) (counts : List ℕ) where
-  module _ (fine : sampleCheck kind ps cs ks (length rows) (length counts) ≡ checked.Fine) where
-    abbrev made : List Float
-    made = rowsOf (colourOf kind ps cs ks) (farOf asked) (minOf kind ps) (maxOf kind ps)
-
-    abbrev counted : List ℕ
-    counted = countsOf (colourOf kind ps cs ks) (farOf asked) (minOf kind ps) (maxOf kind ps)
-
-    thins-made : thinCheck kind ps cs ks made counted ≡ checked.Fine
-    unfolding thinCheck
-    thins-made =
-        let r = sampled-ready (colourOf kind ps cs ks) (farOf asked) (minOf kind ps) (maxOf kind ps) in
-        let l = record-lengths kind ps cs ks (length rows) (length counts) fine in
-        rw (r .long ∙ sym (l .0), r .many ∙ sym (l .1), fine) (ready-counts made counted r)
-
-    thinned-fresh : (spent : ℕ) → SameStops (thinText kind ps cs ks asked (sampleRows kind ps cs ks asked rows counts) (sampleCounts kind ps cs ks asked rows counts) spent) (freshText kind ps cs ks asked rows counts)
-    unfolding thinText freshText sampleRows sampleCounts freshList
-    thinned-fresh spent =
-        let g = colourOf kind ps cs ks in
-        let far = farOf asked in
-        let ts = freshList kind ps cs ks asked in
-        rw (fine, thins-made)
-        (same-answers (refusalOf g far room ts) (length (keptOf g far ts)) (spent + listEvaluations g far ts) (flattenEvaluations kind ps cs ks asked) (keptOf g far ts) (coloursOf g (keptOf g far ts)))
+  sampling-same was = ap (λ (x : Checked). andThen x (shapeCheck (minOf ramp) (maxOf ramp) (length (was .rows)) (length (was .counts)))) check-same
 
 -- ---- the edit
-module _ (kind : Kind) (ps cs : List Float) (ks : List ℕ) (asked : Float) (e : Edit) (rows : List Float) (counts : List ℕ)
-    (same : sampleCheck kind ps (changed cs (e .index) (e .colour)) ks (length rows) (length counts) ≡ sampleCheck kind ps cs ks (length rows) (length counts))
-    (allowed : editCheck kind (length ps) (e .index) (e .colour) ≡ checked.Fine) where
-  edit-refused : {n : ℕ} → sampleCheck kind ps cs ks (length rows) (length counts) ≡ checked.Refused n
-      → editText kind ps cs ks asked e rows counts ≡ freshText kind ps (changed cs (e .index) (e .colour)) ks asked rows counts
-  unfolding editText sampleAnswer freshText
+module _ (ramp : Ramp) (e : Edit) (asked : Float) (was : Held) (same : heldCheck (edited ramp e) was ≡ heldCheck ramp was) (allowed : editCheck ramp e ≡ checked.Fine) where
+  edit-refused : {n : ℕ} → heldCheck ramp was ≡ checked.Refused n → editText ramp e asked was ≡ freshText (edited ramp e) asked was
+  unfolding editText sampleAnswer freshText madeText
   edit-refused h = rw (same ∙ h, h)
 
-  edit-thins : (fine : sampleCheck kind ps cs ks (length rows) (length counts) ≡ checked.Fine)
-      → editText kind ps cs ks asked e rows counts
-      ≡ thinText kind ps (changed cs (e .index) (e .colour)) ks asked
-      (sampleRows kind ps (changed cs (e .index) (e .colour)) ks asked rows counts)
-      (sampleCounts kind ps (changed cs (e .index) (e .colour)) ks asked rows counts)
-      (samplingEvaluations (colourOf kind ps cs ks) (farOf asked) (minOf kind ps) (maxOf kind ps) + newEvaluations kind ps cs ks (e .index) (e .colour) asked)
-  unfolding editText sampleAnswer refreshText refreshAnswer
-  edit-thins fine =
-      rw (fine, refresh-passes kind ps cs ks (e .index) (e .colour) asked rows counts fine allowed)
-      (ap₂ (λ (x : List Float) (y : List ℕ). thinText kind ps (changed cs (e .index) (e .colour)) ks asked x y
-      (samplingEvaluations (colourOf kind ps cs ks) (farOf asked) (minOf kind ps) (maxOf kind ps) + newEvaluations kind ps cs ks (e .index) (e .colour) asked))
-      (refreshed-rows-fresh kind ps cs ks (e .index) (e .colour) asked rows counts fine allowed)
-      (refreshed-counts-fresh kind ps cs ks (e .index) (e .colour) asked rows counts fine allowed))
+  edit-done : heldCheck ramp was ≡ checked.Fine → SameStops (editText ramp e asked was) (freshText (edited ramp e) asked was)
+  unfolding editText sampleAnswer sampleHeld relistText freshText madeText
+  edit-done fine =
+      let g = colourOf (edited ramp e) in
+      let far = farOf asked in
+      let ts = pointsIn (edited ramp e) (fresh (edited ramp e) asked) in
+      let ok = edit-allowed ramp e (ramp-fine ramp _ _ fine) allowed in
+      rw (same ∙ fine, fine, refresh-passes ramp e asked was fine allowed, fresh-renewed ramp e ok asked)
+      (same-answers (refusalOf g far room ts) (length (keptOf g far ts)) (freshEvaluations ramp asked + (newEvaluations ramp e asked + listEvaluations g far ts)) (flattenEvaluations (edited ramp e) asked) (keptOf g far ts) (coloursOf g (keptOf g far ts)))
 
-  pub edit-fresh : SameStops (editText kind ps cs ks asked e rows counts) (freshText kind ps (changed cs (e .index) (e .colour)) ks asked rows counts)
-  edit-fresh = go (sampleCheck kind ps cs ks (length rows) (length counts)) refl where
-    go : (x : Checked) → sampleCheck kind ps cs ks (length rows) (length counts) ≡ x → SameStops (editText kind ps cs ks asked e rows counts) (freshText kind ps (changed cs (e .index) (e .colour)) ks asked rows counts)
+  pub edit-fresh : SameStops (editText ramp e asked was) (freshText (edited ramp e) asked was)
+  edit-fresh = go (heldCheck ramp was) refl where
+    go : (x : Checked) → heldCheck ramp was ≡ x → SameStops (editText ramp e asked was) (freshText (edited ramp e) asked was)
     go (checked.Refused n) h = same-text (edit-refused h)
-    go checked.Fine h = subst (λ (t : List ℕ). SameStops t (freshText kind ps (changed cs (e .index) (e .colour)) ks asked rows counts)) (sym (edit-thins h)) (thinned-fresh kind ps (changed cs (e .index) (e .colour)) ks asked rows counts (same ∙ h) _)
+    go checked.Fine h = edit-done h
 
 -- ---- the tool
 -- s has an edit of a stop that is there; s′ has the same stops with that one changed, and no edit
-pub edited-text : (s s′ : List ℕ) {kind : Kind} {asked : Float} {stops : List Stop} {e : Edit} → inputOf s ≡ input kind asked stops (edit.By e) → e .index < length stops → inputOf s′ ≡ input kind asked (recoloured stops (e .index) (e .colour)) edit.Not → SameStops (deskOf s) (deskOf s′)
+pub edited-text : (s s′ : List ℕ) {kind : Kind} {asked : Float} {stops : List Stop} {e : Edit} → inputOf s ≡ input kind asked stops (edit.By e) → e .stop < length stops → inputOf s′ ≡ input kind asked (recoloured stops (e .stop) (e .colour)) edit.Not → SameStops (deskOf s) (deskOf s′)
 unfolding deskOf inputText
 edited-text s s′ {kind} {asked} {stops} {e} i h j =
     let f = read-finite s i in
     let ps = positionsIn stops in
     let cs = channelsIn stops in
-    let k = e .index in
+    let k = e .stop in
     let wide = length-channels stops in
     let each : (n : ℕ) → n < 4 * length stops → finite (getD cs n nan) ≡ true = λ n l. finite-each cs (f .channels-fine) n (omega arith) in
     let there : 4 * k + 4 ≤ length cs = omega arith in
     let old : finiteRgba (colourAt cs k) ≡ true = rw (each (4 * k) (omega arith), each (4 * k + 1) (omega arith), each (4 * k + 2) (omega arith), each (4 * k + 3) (omega arith)) in
     let short : k < length ps = omega (arith, length-positions stops) in
+    let ramp = rampOf kind ps cs [] in
     rw (i, j, same-positions stops k (e .colour), changed-channels stops k (e .colour) h)
-    (edit-fresh kind ps cs [] asked e (replicate recordLength f0) (replicate cells 0)
-    (sampling-same cs k (e .colour) there old (f .colour-fine) kind ps [] recordLength cells (f .kind-stops))
-    (sym (edit-fine kind (length ps) k (e .colour) (f .kind-fine) short (f .colour-fine))))
+    (edit-fresh ramp e asked blank (sampling-same ramp e there old (f .colour-fine) (f .kind-stops) blank) (sym (edit-fine kind (length ps) e (f .kind-fine) short (f .colour-fine))))

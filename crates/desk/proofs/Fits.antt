@@ -5,37 +5,31 @@ use native.Mathlib.Omega.{arith}
 use mathlib.Core.Path.{_≡_, refl, ap, _∙_}
 use mathlib.Core.Bool.{Bool, true, false, cond}
 use mathlib.Core.List.{List, [], _∷_, _++_}
-use lib.ListN.{length, drop, replicate, length-append}
+use lib.ListN.{length, drop, length-append}
 use lib.Dec.{ltb}
 use lib.Ieee.{Float}
 use borrow.Author.Tests.{ltb-false}
-use Rattle.float.specs.F32.{f0}
+use Rattle.stops.specs.Lent.{Ramp, rampOf}
 use Rattle.stops.specs.Stops.{stopAt}
-use Rattle.stops.specs.declared.Kind.{Kind}
+use Rattle.stops.specs.Answers.{onFine}
 use Rattle.stops.specs.declared.Checked.{Checked}
 use Rattle.stops.specs.declared.Checked.the-variants as checked
-use Rattle.stops.specs.Answers.{onFine}
-use Rattle.gradient.specs.Ramp.{minOf, maxOf, colourOf}
-use Rattle.linearize.specs.Constants.{cells, recordLength}
-use Rattle.linearize.specs.Cells.{rowsOf, countsOf, samplingEvaluations}
+use Rattle.gradient.specs.Ramp.{maxOf, colourOf}
 use Rattle.linearize.specs.Places.{listOf}
-use Rattle.linearize.specs.Kept.{listEvaluations}
-use Rattle.linearize.specs.Desk.{farOf, answerBy, sampleCheck, thinCheck, sampleAnswer, freshList, flattenEvaluations}
+use Rattle.linearize.specs.Lent.{Held}
+use Rattle.linearize.specs.Desk.{farOf, answerBy, heldCheck, sampleAnswer, fresh, freshEvaluations, flattenEvaluations}
 use Rattle.linearize.specs.declared.Sampled.the-variants as sampled
-use Rattle.linearize.proofs.Bounds.{summed-most, sampling-bound, list-bound}
+use Rattle.linearize.proofs.Answers.{fresh-ready, fresh-bound}
+use Rattle.linearize.proofs.Bounds.{list-bound}
 use Rattle.linearize.proofs.Calls.{kept-room}
-use Rattle.linearize.proofs.Checks.{ready}
-use Rattle.linearize.proofs.Filling.{sampled-ready}
 use Rattle.linearize.proofs.Following.{list-some, list-most}
-use Rattle.refresh.specs.Anew.{anewTries, anewEvaluations}
-use Rattle.refresh.specs.Edit.{changed}
-use Rattle.refresh.specs.RefreshDesk.{newColour, away, newEvaluations, refreshCheck, refreshAnswer}
-use Rattle.refresh.specs.declared.Refreshed.the-variants as refreshed
-use Rattle.refresh.proofs.Renewing.{anew-tries-most}
+use Rattle.refresh.specs.Edit.{edited}
+use Rattle.refresh.specs.RefreshDesk.{refreshCheck}
+use Rattle.refresh.specs.declared.edit.Edit.{Edit}
+use Rattle.refresh.proofs.RefreshAnswers.{relist-most}
 use Rattle.desk.specs.Input.{Input, unread, input, positionsIn, channelsIn, inputOf}
 use Rattle.desk.specs.Printed.{decimalOf, countText, stopText, rowsText, lineText, unreadText, refusedText, evaluationsWord, listText, Puts}
-use Rattle.desk.specs.Tool.{room, listedText, onSampled, onRefreshed, freshText, thinText, refreshText, editText, inputText, deskOf, mostPrinted, Prints}
-use Rattle.desk.specs.declared.fields.Edit.{Edit}
+use Rattle.desk.specs.Tool.{room, listedText, madeText, onSampled, freshText, relistText, editText, blank, inputText, deskOf, mostPrinted, Prints}
 use Rattle.desk.specs.declared.reading.Edited.the-variants as edit
 use Rattle.desk.proofs.Texts.{length-decimal, length-stop}
 use Rattle.desk.proofs.Making.{sets-front}
@@ -94,74 +88,44 @@ answer-fits checked.Fine (suc r) n e ps cs h l = refused-most (suc r)
 answer-fits checked.Fine zero n e ps cs h l = list-fits n e ps cs (h refl) (l refl)
 
 -- ---- the calls
-module _ (kind : Kind) (ps cs : List Float) (ks : List ℕ) (asked : Float) where
+module _ (ramp : Ramp) (asked : Float) where
   -- 13,716 to sample, 18,430 to thin
-  flattening-few : flattenEvaluations kind ps cs ks asked ≤ 32146
-  unfolding flattenEvaluations freshList
+  flattening-few : flattenEvaluations ramp asked ≤ 32146
+  unfolding flattenEvaluations
   flattening-few =
-      let g = colourOf kind ps cs ks in
-      let far = farOf asked in
-      let lo = minOf kind ps in
-      let hi = maxOf kind ps in
-      let ok = sampled-ready g far lo hi in
-      let rows = rowsOf g far lo hi in
-      let counts = countsOf g far lo hi in
-      omega (arith, sampling-bound g far lo hi, list-bound g far (listOf rows counts hi) (omega (arith, list-some rows counts hi ok)) (list-most rows counts hi ok))
+      let is = fresh ramp asked in
+      let ok = fresh-ready ramp asked is refl in
+      let hi = maxOf ramp in
+      omega (arith, fresh-bound ramp asked (freshEvaluations ramp asked) refl, list-bound (colourOf ramp) (farOf asked) (listOf (is .rows) (is .counts) hi) (omega (arith, list-some (is .rows) (is .counts) hi ok)) (list-most (is .rows) (is .counts) hi ok))
 
-  thinning-few : (rows : List Float) (counts : List ℕ) → thinCheck kind ps cs ks rows counts ≡ checked.Fine → listEvaluations (colourOf kind ps cs ks) (farOf asked) (listOf rows counts (maxOf kind ps)) ≤ 18430
-  thinning-few rows counts h =
-      let ok = ready kind ps cs ks rows counts h in
-      list-bound (colourOf kind ps cs ks) (farOf asked) (listOf rows counts (maxOf kind ps)) (omega (arith, list-some rows counts (maxOf kind ps) ok)) (list-most rows counts (maxOf kind ps) ok)
+  made-most : (check : Checked) (ts : List Float) (spent : ℕ) → (check ≡ checked.Fine → spent ≤ 45862) → length (madeText ramp asked check ts spent) ≤ mostPrinted
+  unfolding madeText
+  made-most check ts spent h = answer-fits check _ _ spent _ _ (kept-room (colourOf ramp) (farOf asked) room ts) h
 
-  fresh-most : (rows : List Float) (counts : List ℕ) → length (freshText kind ps cs ks asked rows counts) ≤ mostPrinted
+  fresh-most : (was : Held) → length (freshText ramp asked was) ≤ mostPrinted
   unfolding freshText
-  fresh-most rows counts =
-      answer-fits (sampleCheck kind ps cs ks (length rows) (length counts)) _ _ _ _ _
-      (kept-room (colourOf kind ps cs ks) (farOf asked) room (freshList kind ps cs ks asked))
-      (λ e. omega (arith, flattening-few))
-
-  thin-most : (rows : List Float) (counts : List ℕ) (spent : ℕ) → spent ≤ 27432 → length (thinText kind ps cs ks asked rows counts spent) ≤ mostPrinted
-  unfolding thinText
-  thin-most rows counts spent h =
-      answer-fits (thinCheck kind ps cs ks rows counts) _ _ _ _ _
-      (kept-room (colourOf kind ps cs ks) (farOf asked) room (listOf rows counts (maxOf kind ps)))
-      (λ e. omega (arith, thinning-few rows counts e))
+  fresh-most was = made-most (heldCheck ramp was) _ _ (λ e. omega (arith, flattening-few))
 
 -- what follows a call fits where it does for as many evaluations as the call may make
 sampled-most : (check : Checked) (n : ℕ) (f : ℕ → List ℕ) → length (f n) ≤ mostPrinted → length (onSampled (onFine check (sampled.Done n) sampled.Refused) f) ≤ mostPrinted
 sampled-most checked.Fine n f h = h
 sampled-most (checked.Refused k) n f h = refused-most k
 
-refreshed-most : (check : Checked) (n : ℕ) (f : ℕ → List ℕ) → length (f n) ≤ mostPrinted → length (onRefreshed (onFine check (refreshed.Done n) refreshed.Refused) f) ≤ mostPrinted
-refreshed-most checked.Fine n f h = h
-refreshed-most (checked.Refused k) n f h = refused-most k
+module _ (ramp : Ramp) (e : Edit) (asked : Float) where
+  relisted-most : (was : Held) (spent : ℕ) → spent ≤ 13716 → length (relistText ramp e asked was spent) ≤ mostPrinted
+  unfolding relistText
+  relisted-most was spent h = made-most (edited ramp e) asked (refreshCheck ramp e was) _ _ (λ f. omega (arith, relist-most ramp e asked was f))
 
-module _ (kind : Kind) (ps cs : List Float) (ks : List ℕ) (asked : Float) (e : Edit) where
-  refreshing-few : newEvaluations kind ps cs ks (e .index) (e .colour) asked ≤ 13716
-  unfolding newEvaluations anewEvaluations
-  refreshing-few =
-      let g = newColour kind ps cs ks (e .index) (e .colour) in
-      let out = away kind ps cs ks (e .index) (e .colour) in
-      omega (arith, summed-most (anewTries g (farOf asked) out (minOf kind ps) (maxOf kind ps)) cells (anew-tries-most g (farOf asked) out (minOf kind ps) (maxOf kind ps)))
-
-  refresh-most : (rows : List Float) (counts : List ℕ) (spent : ℕ) → spent ≤ 13716 → length (refreshText kind ps cs ks asked e rows counts spent) ≤ mostPrinted
-  unfolding refreshText refreshAnswer
-  refresh-most rows counts spent h =
-      refreshed-most (refreshCheck kind ps cs ks (e .index) (e .colour) rows counts) (newEvaluations kind ps cs ks (e .index) (e .colour) asked) _
-      (thin-most kind ps (changed cs (e .index) (e .colour)) ks asked _ _ _ (omega (arith, refreshing-few)))
-
-  edit-most : (rows : List Float) (counts : List ℕ) → length (editText kind ps cs ks asked e rows counts) ≤ mostPrinted
+  edit-most : (was : Held) → length (editText ramp e asked was) ≤ mostPrinted
   unfolding editText sampleAnswer
-  edit-most rows counts =
-      sampled-most (sampleCheck kind ps cs ks (length rows) (length counts)) (samplingEvaluations (colourOf kind ps cs ks) (farOf asked) (minOf kind ps) (maxOf kind ps)) _
-      (refresh-most _ _ _ (sampling-bound (colourOf kind ps cs ks) (farOf asked) (minOf kind ps) (maxOf kind ps)))
+  edit-most was = sampled-most (heldCheck ramp was) (freshEvaluations ramp asked) _ (relisted-most _ _ (fresh-bound ramp asked (freshEvaluations ramp asked) refl))
 
 -- ---- the tool
 input-most : (i : Input) → length (inputText i) ≤ mostPrinted
 unfolding inputText
 input-most (unread line) = unread-most line
-input-most (input kind asked stops edit.Not) = fresh-most kind (positionsIn stops) (channelsIn stops) [] asked (replicate recordLength f0) (replicate cells 0)
-input-most (input kind asked stops (edit.By e)) = edit-most kind (positionsIn stops) (channelsIn stops) [] asked e (replicate recordLength f0) (replicate cells 0)
+input-most (input kind asked stops edit.Not) = fresh-most (rampOf kind (positionsIn stops) (channelsIn stops) []) asked blank
+input-most (input kind asked stops (edit.By e)) = edit-most (rampOf kind (positionsIn stops) (channelsIn stops) []) e asked blank
 
 -- the theorem: no input prints more
 pub desk-most : (s : List ℕ) → length (deskOf s) ≤ mostPrinted

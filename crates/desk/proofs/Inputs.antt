@@ -20,7 +20,7 @@ use Rattle.linearize.proofs.Stores.{sets-append}
 use Rattle.desk.specs.Entries.{entryOf}
 use Rattle.desk.specs.Input.{unread, mostBytes, ifRamp, ifThreshold, ifStop, ifChange, fromEnd, fromEdit, stopsOf, afterStops, fromStops, fromThreshold, fromKind, inputOf, positionsIn, channelsIn}
 use Rattle.desk.specs.Steps.{StepAt, StartAt, BlockAt, endingOf, EndsAs, Ready}
-use Rattle.desk.specs.declared.fields.Edit.{Edit}
+use Rattle.refresh.specs.declared.edit.Edit.{Edit}
 use Rattle.desk.specs.declared.fields.Entry.{Entry}
 use Rattle.desk.specs.declared.fields.Entry.the-variants as entry
 use Rattle.desk.proofs.fields.Entry.{the-type}

@@ -7,7 +7,7 @@ use denote.Enum.Declared.{tagOf}
 use Rattle.blend.specs.declared.Stop.{Stop}
 use Rattle.stops.specs.declared.Kind.{Kind}
 use Rattle.desk.specs.Input.{ifRamp, ifThreshold, ifStop, ifChange}
-use Rattle.desk.specs.declared.fields.Edit.{Edit}
+use Rattle.refresh.specs.declared.edit.Edit.{Edit}
 use Rattle.desk.specs.declared.fields.Entry.{Entry}
 use Rattle.desk.specs.declared.fields.Entry.the-variants as entry
 use Rattle.desk.proofs.fields.Entry.{the-type}

@@ -24,7 +24,7 @@ use Rattle.linearize.specs.Constants.{defaultThreshold}
 use Rattle.refresh.specs.RefreshDesk.{refreshable}
 use Rattle.desk.specs.Entries.{exactly, toThreshold, thresholdEntry, toStop, stopEntry, indexOf, toChange, changeEntry, editEntry, stopTag, thresholdTag, editTag, kindLinear, kindSmoothstep, entryOf}
 use Rattle.desk.specs.Input.{Input, unread, input, mostBytes, ifRamp, ifThreshold, ifStop, ifChange, fromEnd, fromEdit, stopsOf, afterStops, fromStops, fromThreshold, fromKind, inputOf, channelsIn}
-use Rattle.desk.specs.declared.fields.Edit.{Edit}
+use Rattle.refresh.specs.declared.edit.Edit.{Edit}
 use Rattle.desk.specs.declared.fields.Entry.{Entry}
 use Rattle.desk.specs.declared.fields.Entry.the-variants as entry
 use Rattle.desk.specs.declared.reading.Edited.{Edited}

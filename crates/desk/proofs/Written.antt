@@ -18,7 +18,7 @@ use Rattle.desk.specs.Entries.{entryOf}
 use Rattle.desk.specs.Input.{Input, unread, input, mostBytes, ifStop, fromKind, inputOf}
 use Rattle.desk.specs.Recoloured.{toTab, afterTab, changedLine, changedLines, SameStops, inLine, textOf, unbroken}
 use Rattle.desk.specs.Tool.{deskOf}
-use Rattle.desk.specs.declared.fields.Edit.{Edit}
+use Rattle.refresh.specs.declared.edit.Edit.{Edit}
 use Rattle.desk.specs.declared.fields.Entry.{Entry}
 use Rattle.desk.specs.declared.fields.Entry.the-variants as entry
 use Rattle.desk.specs.declared.reading.Edited.the-variants as edit
@@ -167,16 +167,16 @@ few-bytes s {kind} {asked} {stops} {e} i = go (leb (length s) mostBytes) refl i 
 
 -- of the lines `body` and the edit's line d: the text with both, and the text with the stop's line changed and without d
 pub edited-writing : (body : List (List ℕ)) (d : List ℕ) {kind : Kind} {asked : Float} {stops : List Stop} {e : Edit}
-    → unbroken (body ++ d ∷ []) ≡ true → entryOf d ≡ entry.Change e → inputOf (textOf (body ++ d ∷ [])) ≡ input kind asked stops (edit.By e) → e .index < length stops
-    → SameStops (deskOf (textOf (body ++ d ∷ []))) (deskOf (textOf (changedLines (e .index) d body)))
+    → unbroken (body ++ d ∷ []) ≡ true → entryOf d ≡ entry.Change e → inputOf (textOf (body ++ d ∷ [])) ≡ input kind asked stops (edit.By e) → e .stop < length stops
+    → SameStops (deskOf (textOf (body ++ d ∷ []))) (deskOf (textOf (changedLines (e .stop) d body)))
 edited-writing body d {kind} {asked} {stops} {e} whole says i h =
     let w = unbroken-parts body d whole in
-    edited-lines (textOf (body ++ d ∷ [])) (textOf (changedLines (e .index) d body)) i h
+    edited-lines (textOf (body ++ d ∷ [])) (textOf (changedLines (e .stop) d body)) i h
     (record {
       body = body;
       last = d;
       says = says;
       before = lines-back (body ++ d ∷ []) whole;
-      after = lines-back (changedLines (e .index) d body) (still-unbroken d e says (w .1) (e .index) body (w .0));
-      fits = omega (arith, few-bytes (textOf (body ++ d ∷ [])) i, length-text body d, shorter d e says (e .index) body);
+      after = lines-back (changedLines (e .stop) d body) (still-unbroken d e says (w .1) (e .stop) body (w .0));
+      fits = omega (arith, few-bytes (textOf (body ++ d ∷ [])) i, length-text body d, shorter d e says (e .stop) body);
     })

@@ -48,7 +48,7 @@ unfoldable pub indexOf : List ℕ → Digits
 indexOf f = cond (leb (length f) indexDigits) (digitsOf f) Bad
 
 abbrev pub toChange : ℕ → List Float → Entry
-toChange k xs = entry.Change (record { index = k; colour = channelsAt xs 0 })
+toChange k xs = entry.Change (record { stop = k; colour = channelsAt xs 0 })
 
 unfoldable pub changeEntry : Digits → List (List ℕ) → Entry
 changeEntry Bad fs = entry.Unread

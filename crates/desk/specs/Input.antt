@@ -11,7 +11,7 @@ use Rattle.text.specs.Text.{lines}
 use Rattle.linearize.specs.Constants.{defaultThreshold}
 use Rattle.linearize.specs.Kept.{channelsOf}
 use Rattle.desk.specs.Entries.{entryOf}
-use Rattle.desk.specs.declared.fields.Edit.{Edit}
+use Rattle.refresh.specs.declared.edit.Edit.{Edit}
 use Rattle.desk.specs.declared.fields.Entry.{Entry}
 use Rattle.desk.specs.declared.fields.Entry.the-variants as entry
 use Rattle.desk.specs.declared.reading.Edited.{Edited}

@@ -7,7 +7,6 @@ use lib.ListN.{length, drop}
 use lib.Seq.{sets}
 use lib.Dec.{ltb}
 use lib.Ieee.{Float, binary32, toBits}
-use Rattle.refusals.specs.Limits.{mostText}
 use Rattle.blend.specs.declared.Rgba.{Rgba}
 use Rattle.blend.specs.declared.Stop.{Stop}
 use Rattle.stops.specs.Stops.{stopAt}

@@ -11,7 +11,7 @@ use Rattle.text.specs.Text.{every, lines, fields}
 use Rattle.desk.specs.Entries.{stopTag, entryOf}
 use Rattle.desk.specs.Input.{mostBytes, ifStop}
 use Rattle.desk.specs.Printed.{refusedText}
-use Rattle.desk.specs.declared.fields.Edit.{Edit}
+use Rattle.refresh.specs.declared.edit.Edit.{Edit}
 use Rattle.desk.specs.declared.fields.Entry.the-variants as entry
 
 -- the stops with another colour at stop k
@@ -63,7 +63,7 @@ pub record EditMade (s s′ : List ℕ) (e : Edit) : Type 0 where
   pub last : List ℕ
   pub says : entryOf last ≡ entry.Change e
   pub before : lines s ≡ body ++ last ∷ []
-  pub after : lines s′ ≡ changedLines (e .index) last body
+  pub after : lines s′ ≡ changedLines (e .stop) last body
   pub fits : length s′ ≤ mostBytes
 
 -- lines written one after the other, each ended by LF; and that no byte of them is LF or CR

@@ -1,19 +1,19 @@
 // The calls that make a list, and what is printed of it.
-use crate::fields::Edit;
 use crate::reading::Edited;
 use crate::writing::put_list;
 use crate::writing::put_refused;
 use linearize::Listed;
 use linearize::Sampled;
 use linearize::Sampler;
-use linearize::thinning::put_colour;
-use refresh::Refreshed;
+use refresh::edit::Edit;
 use stops::Kind;
 ghost use mathlib.Core.Path.{_≡_};
 ghost use Prim.Native.Nat.{_≤_};
+ghost use Rattle.stops.specs.Lent.{lentRamp};
+ghost use Rattle.linearize.specs.Lent.{lentHeld};
 ghost use Rattle.linearize.specs.Desk.{evaluationsOfListed, stopsOfListed, withSampling};
 ghost use Rattle.desk.specs.Printed.{Puts};
-ghost use Rattle.desk.specs.Tool.{room, listedText, freshText, thinText, refreshText, editText, rampText};
+ghost use Rattle.desk.specs.Tool.{room, listedText, freshText, editText, rampText};
 ghost use Rattle.desk.specs.Steps.{Room};
 
 // The stops that a list has room for.
@@ -31,9 +31,9 @@ fn put_listed(out: &mut [u8], made: Listed, positions: &[f32], channels: &[f32])
     }
 }
 
-// The answer of a list with the evaluations of the calls before it added.
+// The answer of a list with the evaluations of the sampling before it added.
 fn with_before(spent: usize, made: Listed) -> Listed
-    requires { ⌜ (spent ≤ 27432) × (evaluationsOfListed made ≤ 18430) ⌝ }
+    requires { ⌜ (spent ≤ 13716) × (evaluationsOfListed made ≤ 32146) ⌝ }
     ensures { λ r. ⌜ r ≡ withSampling spent made ⌝ }
 {
     match made {
@@ -62,7 +62,7 @@ fn put_fresh(
     out_channels: &mut [f32],
 ) -> usize
     requires { ⌜ Room (now «out_positions») (now «out_channels») ⌝ }
-    ensures { λ r. ⌜ Puts (now (out .entry)) (now (out .exit)) 0 (freshText kind (now (positions .entry)) (now (channels .entry)) (now (codes .entry)) threshold (now (rows .entry)) (now (counts .entry))) r ⌝ }
+    ensures { λ r. ⌜ Puts (now (out .entry)) (now (out .exit)) 0 (freshText (lentRamp kind positions channels codes) threshold (lentHeld rows counts .entry)) r ⌝ }
 {
     let made = linearize::flatten(
         kind,
@@ -78,94 +78,12 @@ fn put_fresh(
     put_listed(out, made, out_positions, out_channels)
 }
 
-// The list of a record, after calls with so many evaluations.
-fn put_thinned(
-    out: &mut [u8],
-    kind: Kind,
-    positions: &[f32],
-    channels: &[f32],
-    codes: &[u8],
-    threshold: f32,
-    rows: &[f32],
-    counts: &[u8],
-    spent: usize,
-    out_positions: &mut [f32],
-    out_channels: &mut [f32],
-) -> usize
-    requires { ⌜ Room (now «out_positions») (now «out_channels») × (spent ≤ 27432) ⌝ }
-    ensures { λ r. ⌜ Puts (now (out .entry)) (now (out .exit)) 0 (thinText kind (now (positions .entry)) (now (channels .entry)) (now (codes .entry)) threshold (now (rows .entry)) (now (counts .entry)) spent) r ⌝ }
-{
-    let made = linearize::thin(
-        kind,
-        positions,
-        channels,
-        codes,
-        threshold,
-        rows,
-        counts,
-        out_positions,
-        out_channels,
-    );
-    put_listed(out, with_before(spent, made), out_positions, out_channels)
-}
-
-// A record refreshed, then the list of the changed ramp.
-fn put_refreshed(
-    out: &mut [u8],
-    kind: Kind,
-    positions: &[f32],
-    channels: &mut [f32],
-    codes: &[u8],
-    threshold: f32,
-    edit: Edit,
-    rows: &mut [f32],
-    counts: &mut [u8],
-    spent: usize,
-    out_positions: &mut [f32],
-    out_channels: &mut [f32],
-) -> usize
-    requires { ⌜ Room (now «out_positions») (now «out_channels») × (spent ≤ 13716) ⌝ }
-    ensures { λ r. ⌜ Puts (now (out .entry)) (now (out .exit)) 0 (refreshText kind (now (positions .entry)) (now (channels .entry)) (now (codes .entry)) threshold edit (now (rows .entry)) (now (counts .entry)) spent) r ⌝ }
-{
-    let k = edit.index;
-    let colour = edit.colour;
-    match refresh::refresh(
-        kind,
-        positions,
-        channels,
-        codes,
-        k,
-        colour,
-        threshold,
-        rows,
-        counts,
-    ) {
-        Refreshed::Refused(number) => put_refused(out, number as usize),
-        Refreshed::Done(n) => {
-            put_colour(channels, 4 * k, colour);
-            put_thinned(
-                out,
-                kind,
-                positions,
-                channels,
-                codes,
-                threshold,
-                rows,
-                counts,
-                spent + n,
-                out_positions,
-                out_channels,
-            )
-        }
-    }
-}
-
 // With an edit: the ramp as it was is sampled first.
 fn put_edited(
     out: &mut [u8],
     kind: Kind,
     positions: &[f32],
-    channels: &mut [f32],
+    channels: &[f32],
     codes: &[u8],
     threshold: f32,
     edit: Edit,
@@ -175,24 +93,25 @@ fn put_edited(
     out_channels: &mut [f32],
 ) -> usize
     requires { ⌜ Room (now «out_positions») (now «out_channels») ⌝ }
-    ensures { λ r. ⌜ Puts (now (out .entry)) (now (out .exit)) 0 (editText kind (now (positions .entry)) (now (channels .entry)) (now (codes .entry)) threshold edit (now (rows .entry)) (now (counts .entry))) r ⌝ }
+    ensures { λ r. ⌜ Puts (now (out .entry)) (now (out .exit)) 0 (editText (lentRamp kind positions channels codes) edit threshold (lentHeld rows counts .entry)) r ⌝ }
 {
     match linearize::sample(kind, positions, channels, codes, threshold, rows, counts) {
         Sampled::Refused(number) => put_refused(out, number as usize),
-        Sampled::Done(n) => put_refreshed(
-            out,
-            kind,
-            positions,
-            channels,
-            codes,
-            threshold,
-            edit,
-            rows,
-            counts,
-            n,
-            out_positions,
-            out_channels,
-        ),
+        Sampled::Done(n) => {
+            let made = refresh::refresh_list(
+                kind,
+                positions,
+                channels,
+                codes,
+                edit,
+                threshold,
+                rows,
+                counts,
+                out_positions,
+                out_channels,
+            );
+            put_listed(out, with_before(n, made), out_positions, out_channels)
+        }
     }
 }
 
@@ -203,10 +122,10 @@ pub(crate) fn put_ramp(
     threshold: f32,
     edited: Edited,
     positions: &[f32],
-    channels: &mut [f32],
+    channels: &[f32],
     codes: &[u8],
 ) -> usize
-    ensures { λ r. ⌜ Puts (now (out .entry)) (now (out .exit)) 0 (rampText kind (now (positions .entry)) (now (channels .entry)) (now (codes .entry)) threshold edited) r ⌝ }
+    ensures { λ r. ⌜ Puts (now (out .entry)) (now (out .exit)) 0 (rampText (lentRamp kind positions channels codes) threshold edited) r ⌝ }
 {
     let mut rows = [0.0f32; Sampler::CELLS * Sampler::ROW];
     let mut counts = [0u8; Sampler::CELLS];

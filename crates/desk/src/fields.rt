@@ -1,6 +1,7 @@
 // A line of the input: its fields, parted by single tabs, and what it says.
 use blend::Rgba;
 use blend::Stop;
+use refresh::edit::Edit;
 use stops::Kind;
 use text::Class;
 use text::digits::Digits;
@@ -18,12 +19,6 @@ ghost use Rattle.desk.specs.Entries.{entryOf, thresholdEntry, stopEntry,
 
 // An index has at most this many digits.
 const INDEX_DIGITS: usize = 18;
-
-// A stop is given a colour.
-pub struct Edit {
-    pub index: usize,
-    pub colour: Rgba,
-}
 
 // What a line says.
 pub enum Entry {
@@ -94,7 +89,7 @@ fn edit_entry(l: &[u8], from: usize) -> Entry
         a: d[3],
     };
     let edit = Edit {
-        index: k as usize,
+        stop: k as usize,
         colour,
     };
     Entry::Change(edit)

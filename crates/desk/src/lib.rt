@@ -2,6 +2,7 @@
 use calls::put_ramp;
 use reading::Asked;
 use reading::read;
+use refusals::MISSHAPEN;
 use refusals::MOST_STOPS;
 use writing::put_refused;
 use writing::put_unread;
@@ -50,7 +51,7 @@ fn answer(input: &[u8], output: &mut [u8]) -> usize
         } => {
             // Those beyond were read and not kept: such a ramp is refused for their number.
             if MOST_STOPS < stops {
-                return put_refused(output, 1);
+                return put_refused(output, MISSHAPEN as usize);
             }
             let m = 4 * stops;
             put_ramp(
@@ -59,7 +60,7 @@ fn answer(input: &[u8], output: &mut [u8]) -> usize
                 threshold,
                 edited,
                 &positions[..stops],
-                &mut channels[..m],
+                &channels[..m],
                 &input[..0],
             )
         }

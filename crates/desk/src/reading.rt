@@ -1,10 +1,10 @@
 // The input as a whole: the kind, the threshold, the stops, the edit, in this order.
-use crate::fields::Edit;
 use crate::fields::Entry;
 use crate::fields::entry_of;
 use blend::Stop;
 use linearize::Sampler;
 use linearize::thinning::put_colour;
+use refresh::edit::Edit;
 use refusals::MOST_STOPS;
 use stops::Kind;
 use text::line_at;

@@ -1,12 +1,11 @@
 -- On a ramp that passes the check, the colour found by narrowing is the document's. Assumes nothing.
 use mathlib.Core.Path.{_≡_, refl, ap, fun-ext}
 use mathlib.Core.Bool.{Bool, true, false, cond}
-use mathlib.Core.List.{List}
-use Prim.Native.Nat.{ℕ}
 use lib.Ieee.{Float}
+use Rattle.blend.specs.declared.Rgba.{Rgba}
+use Rattle.stops.specs.Lent.{Ramp}
 use Rattle.stops.specs.Place.{placeOf, placeIn}
 use Rattle.stops.specs.Pair.{colourIn}
-use Rattle.stops.specs.declared.Kind.{Kind}
 use Rattle.stops.specs.declared.Checked.the-variants.{Fine}
 use Rattle.stops.specs.declared.Place.{Place}
 use Rattle.stops.proofs.Same.{same-place}
@@ -14,15 +13,18 @@ use Rattle.gradient.specs.Gimp.{gimpColour}
 use Rattle.gradient.specs.Ramp.{isGimp, checkOf, colourOf, anyColour}
 use Rattle.gradient.proofs.Valid.{valid}
 
-module _ (kind : Kind) (ps cs : List Float) (ks : List ℕ) (fine : checkOf kind ps cs ks ≡ Fine) where
-  pub same-colour : (t : Float) → anyColour kind ps cs ks t ≡ colourOf kind ps cs ks t
+module _ (ramp : Ramp) (fine : checkOf ramp ≡ Fine) where
+  pub same-colour : (t : Float) → anyColour ramp t ≡ colourOf ramp t
   unfolding anyColour colourOf
-  same-colour t = go (isGimp kind) refl
+  same-colour t = go (isGimp (ramp .kind)) refl
     where
-      go : (g : Bool) → isGimp kind ≡ g → cond g (gimpColour ps cs ks t) (colourIn kind ps cs t (placeIn ps t)) ≡ cond g (gimpColour ps cs ks t) (colourIn kind ps cs t (placeOf ps t))
+      either : Bool → Place → Rgba
+      either g w = cond g (gimpColour (ramp .positions) (ramp .channels) (ramp .codes) t) (colourIn (ramp .kind) (ramp .positions) (ramp .channels) t w)
+
+      go : (g : Bool) → isGimp (ramp .kind) ≡ g → either g (placeIn (ramp .positions) t) ≡ either g (placeOf (ramp .positions) t)
       go true e = refl
-      go false e = let v = valid kind ps cs ks e fine in ap (λ (w : Place). colourIn kind ps cs t w) (same-place ps (v .sized .least) (v .rising) t)
+      go false e = let v = valid ramp e fine in ap (either false) (same-place (ramp .positions) (v .sized .least) (v .rising) t)
 
   -- as functions of t
-  pub same-function : anyColour kind ps cs ks ≡ colourOf kind ps cs ks
+  pub same-function : anyColour ramp ≡ colourOf ramp
   same-function = fun-ext same-colour

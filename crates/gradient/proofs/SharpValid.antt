@@ -11,6 +11,7 @@ use borrow.Author.Tests.{eq-eqb}
 use Rattle.refusals.specs.Limits.{mostStops}
 use Rattle.blend.specs.Finite.{allFinite}
 use Rattle.blend.proofs.FiniteLists.{finite-each}
+use Rattle.stops.specs.Lent.{Ramp, rampOf}
 use Rattle.stops.specs.Stops.{colourAt, finiteRgba}
 use Rattle.stops.specs.Place.{Rising}
 use Rattle.stops.specs.declared.Kind.the-variants.{Sharp}
@@ -51,7 +52,10 @@ module _ (colours : List Float) (min max s : Float) (p c m : ℕ) (built : build
   abbrev positions : List Float
   positions = sharpPositions min max s n
 
-  pub built-valid : Valid Sharp positions (sharpChannels colours n) []
+  abbrev pub built-ramp : Ramp
+  built-ramp = rampOf Sharp positions (sharpChannels colours n) []
+
+  pub built-valid : Valid built-ramp
   built-valid =
       let w = made colours min max s p c m built in
       let k = few n min max (w .fits) in
@@ -65,5 +69,5 @@ module _ (colours : List Float) (min max s : Float) (p c m : ℕ) (built : build
         rising = steady-rising max (inf true) positions (w .steadily);
       }
 
-  pub built-passes : checkOf Sharp positions (sharpChannels colours n) [] ≡ Fine
-  built-passes = passes Sharp positions (sharpChannels colours n) [] refl built-valid
+  pub built-passes : checkOf built-ramp ≡ Fine
+  built-passes = passes built-ramp refl built-valid

@@ -3,8 +3,9 @@ use blend::Rgba;
 use stops::Checked;
 use stops::Kind;
 ghost use mathlib.Core.Path.{_≡_};
+ghost use Rattle.stops.specs.Lent.{lentRamp};
 ghost use Rattle.stops.specs.Answers.{Checks};
-ghost use Rattle.gradient.specs.Ramp.{isGimp, checkOf, anyColour, minOf, maxOf};
+ghost use Rattle.gradient.specs.Ramp.{isGimp, checkOf, anyColour, minIn, maxIn};
 
 pub mod gimp;
 pub mod sharp;
@@ -24,7 +25,7 @@ pub fn is_gimp(kind: Kind) -> bool
 
 // Refusals 1, then stop by stop 2 and 3.
 pub fn check(kind: Kind, positions: &[f32], channels: &[f32], codes: &[u8]) -> Checked
-    ensures { λ r. ⌜ Checks (checkOf kind (now (positions .entry)) (now (channels .entry)) (now (codes .entry))) r ⌝ }
+    ensures { λ r. ⌜ Checks (checkOf (lentRamp kind positions channels codes)) r ⌝ }
 {
     if is_gimp(kind) {
         return gimp::check(positions, channels, codes);
@@ -34,7 +35,7 @@ pub fn check(kind: Kind, positions: &[f32], channels: &[f32], codes: &[u8]) -> C
 
 // The ends of a ramp's domain.
 pub fn min_of(kind: Kind, positions: &[f32]) -> f32
-    ensures { λ r. ⌜ r ≡ minOf kind (now (positions .entry)) ⌝ }
+    ensures { λ r. ⌜ r ≡ minIn kind (now (positions .entry)) ⌝ }
 {
     if is_gimp(kind) {
         return 0.0;
@@ -43,7 +44,7 @@ pub fn min_of(kind: Kind, positions: &[f32]) -> f32
 }
 
 pub fn max_of(kind: Kind, positions: &[f32]) -> f32
-    ensures { λ r. ⌜ r ≡ maxOf kind (now (positions .entry)) ⌝ }
+    ensures { λ r. ⌜ r ≡ maxIn kind (now (positions .entry)) ⌝ }
 {
     if is_gimp(kind) {
         return 1.0;
@@ -53,7 +54,7 @@ pub fn max_of(kind: Kind, positions: &[f32]) -> f32
 
 // The colour at t of any slices at all; of a ramp that passes the check, the document's colour.
 pub fn colour_at(kind: Kind, positions: &[f32], channels: &[f32], codes: &[u8], t: f32) -> Rgba
-    ensures { λ r. ⌜ r ≡ anyColour kind (now (positions .entry)) (now (channels .entry)) (now (codes .entry)) t ⌝ }
+    ensures { λ r. ⌜ r ≡ anyColour (lentRamp kind positions channels codes) t ⌝ }
 {
     if is_gimp(kind) {
         return gimp::colour_at(positions, channels, codes, t);

@@ -6,15 +6,16 @@ use native.Mathlib.Omega.{arith}
 use lib.ListN.{length, getD}
 use lib.Ieee.{Float}
 use Rattle.float.specs.F32.{f0}
-use Rattle.stops.specs.declared.Kind.{Kind}
 use Rattle.stops.specs.declared.Checked.{Checked}
 use Rattle.stops.specs.declared.Checked.the-variants as checked
+use Rattle.stops.specs.Lent.{Ramp, change}
 use Rattle.gradient.specs.Ramp.{minOf, maxOf, colourOf}
+use Rattle.linearize.specs.Lent.{Held, Output}
 use Rattle.linearize.specs.Cells.{rowsOf, countsOf}
 use Rattle.linearize.specs.Places.{listOf}
 use Rattle.linearize.specs.Midpoints.{Gradient, Far}
-use Rattle.linearize.specs.Kept.{keptOf, stopRefusal, firstRefusal, refusalFrom, refusalOf, roomOf, listEvaluations}
-use Rattle.linearize.specs.Desk.{evaluationsOfSampled, evaluationsOfListed, stopsOfListed, farOf, valueBy, sampleCheck, thinCheck, sampleEvaluations, freshList, flattenEvaluations}
+use Rattle.linearize.specs.Kept.{keptOf, stopRefusal, firstRefusal, refusalFrom, refusalOf, listEvaluations}
+use Rattle.linearize.specs.Desk.{evaluationsOfSampled, evaluationsOfListed, stopsOfListed, farOf, valueBy, heldCheck, thinCheck, pointsIn, room, fresh, freshEvaluations, sampleEvaluations, flattenEvaluations}
 use Rattle.linearize.specs.Promises.{Samples, Thins, Flattens}
 use Rattle.linearize.specs.declared.Sampled.{Sampled}
 use Rattle.linearize.specs.declared.Listed.{Listed}
@@ -51,49 +52,49 @@ value-room checked.Fine zero n room h = h refl
 value-room checked.Fine (suc k) n room h = omega arith
 value-room (checked.Refused r) k n room h = omega arith
 
-module _ (kind : Kind) (ps cs : List Float) (ks : List ℕ) (asked : Float) (rows : List Float) (counts : List ℕ) where
+module _ (ramp : Ramp) (asked : Float) (was : Held) where
   -- ---- sampling: 13,716 at most
-  sampling-most : sampleEvaluations kind ps cs ks asked rows counts ≤ 13716
-  unfolding sampleEvaluations
-  sampling-most = value-most (sampleCheck kind ps cs ks (length rows) (length counts)) 0 _ 13716 (λ e. sampling-bound (colourOf kind ps cs ks) (farOf asked) (minOf kind ps) (maxOf kind ps))
+  sampling-most : sampleEvaluations ramp asked was ≤ 13716
+  unfolding sampleEvaluations freshEvaluations
+  sampling-most = value-most (heldCheck ramp was) 0 _ 13716 (λ e. sampling-bound (colourOf ramp) (farOf asked) (minOf ramp) (maxOf ramp))
 
-  module _ (rows′ : List Float) (counts′ : List ℕ) (r : Sampled) (w : Samples kind ps cs ks asked rows rows′ counts counts′ r) where
+  module _ (is : Held) (r : Sampled) (w : Samples ramp asked (change was is) r) where
     pub sample-most : evaluationsOfSampled r ≤ 13716
     sample-most = omega (arith, w .evaluations, sampling-most)
 
-  module _ (ops ops′ ocs ocs′ : List Float) (r : Listed) where
+  module _ (out out′ : Output) (r : Listed) where
     -- ---- thinning: 13,821 + 4,609 at most
-    module _ (w : Thins kind ps cs ks asked rows counts ops ops′ ocs ocs′ r) where
+    module _ (w : Thins ramp asked was (change out out′) r) where
       pub thin-most : evaluationsOfListed r ≤ 18430
       thin-most =
           omega (
             arith,
             w .told .evaluations,
-            value-most (thinCheck kind ps cs ks rows counts) (refusalOf (colourOf kind ps cs ks) (farOf asked) (roomOf ops ocs) (listOf rows counts (maxOf kind ps)))
-                (listEvaluations (colourOf kind ps cs ks) (farOf asked) (listOf rows counts (maxOf kind ps))) 18430
-                (λ e. let ok = ready kind ps cs ks rows counts e in
-                list-bound (colourOf kind ps cs ks) (farOf asked) (listOf rows counts (maxOf kind ps)) (omega (arith, list-some rows counts (maxOf kind ps) ok)) (list-most rows counts (maxOf kind ps) ok)),
+            value-most (thinCheck ramp was) (refusalOf (colourOf ramp) (farOf asked) (room out) (pointsIn ramp was))
+                (listEvaluations (colourOf ramp) (farOf asked) (pointsIn ramp was)) 18430
+                (λ e. let ok = ready ramp was e in
+                list-bound (colourOf ramp) (farOf asked) (pointsIn ramp was) (omega (arith, list-some (was .rows) (was .counts) (maxOf ramp) ok)) (list-most (was .rows) (was .counts) (maxOf ramp) ok)),
           )
 
-      pub thin-room : stopsOfListed r ≤ roomOf ops ocs
+      pub thin-room : stopsOfListed r ≤ room out
       thin-room =
-          let ts = listOf rows counts (maxOf kind ps) in
+          let ts = pointsIn ramp was in
           omega (
             arith,
             w .told .stops,
-            value-room (thinCheck kind ps cs ks rows counts) (refusalOf (colourOf kind ps cs ks) (farOf asked) (roomOf ops ocs) ts)
-                (length (keptOf (colourOf kind ps cs ks) (farOf asked) ts)) (roomOf ops ocs) (kept-room (colourOf kind ps cs ks) (farOf asked) (roomOf ops ocs) ts),
+            value-room (thinCheck ramp was) (refusalOf (colourOf ramp) (farOf asked) (room out) ts)
+                (length (keptOf (colourOf ramp) (farOf asked) ts)) (room out) (kept-room (colourOf ramp) (farOf asked) (room out) ts),
           )
 
     -- ---- both: 32,146 at most
-    module _ (rows′ : List Float) (counts′ : List ℕ) (w : Flattens kind ps cs ks asked rows rows′ counts counts′ ops ops′ ocs ocs′ r) where
-      flattening-most : flattenEvaluations kind ps cs ks asked ≤ 32146
-      unfolding flattenEvaluations freshList
+    module _ (is : Held) (w : Flattens ramp asked (change was is) (change out out′) r) where
+      flattening-most : flattenEvaluations ramp asked ≤ 32146
+      unfolding flattenEvaluations freshEvaluations fresh
       flattening-most =
-          let g = colourOf kind ps cs ks in
+          let g = colourOf ramp in
           let far = farOf asked in
-          let lo = minOf kind ps in
-          let hi = maxOf kind ps in
+          let lo = minOf ramp in
+          let hi = maxOf ramp in
           let ok = sampled-ready g far lo hi in
           let ts = listOf (rowsOf g far lo hi) (countsOf g far lo hi) hi in
           omega (arith, sampling-bound g far lo hi, list-bound g far ts (omega (arith, list-some (rowsOf g far lo hi) (countsOf g far lo hi) hi ok)) (list-most (rowsOf g far lo hi) (countsOf g far lo hi) hi ok))
@@ -103,16 +104,16 @@ module _ (kind : Kind) (ps cs : List Float) (ks : List ℕ) (asked : Float) (row
           omega (
             arith,
             w .told .evaluations,
-            value-most (sampleCheck kind ps cs ks (length rows) (length counts)) (refusalOf (colourOf kind ps cs ks) (farOf asked) (roomOf ops ocs) (freshList kind ps cs ks asked))
-                (flattenEvaluations kind ps cs ks asked) 32146 (λ e. flattening-most),
+            value-most (heldCheck ramp was) (refusalOf (colourOf ramp) (farOf asked) (room out) (pointsIn ramp (fresh ramp asked)))
+                (flattenEvaluations ramp asked) 32146 (λ e. flattening-most),
           )
 
-      pub flatten-room : stopsOfListed r ≤ roomOf ops ocs
+      pub flatten-room : stopsOfListed r ≤ room out
       flatten-room =
-          let ts = freshList kind ps cs ks asked in
+          let ts = pointsIn ramp (fresh ramp asked) in
           omega (
             arith,
             w .told .stops,
-            value-room (sampleCheck kind ps cs ks (length rows) (length counts)) (refusalOf (colourOf kind ps cs ks) (farOf asked) (roomOf ops ocs) ts)
-                (length (keptOf (colourOf kind ps cs ks) (farOf asked) ts)) (roomOf ops ocs) (kept-room (colourOf kind ps cs ks) (farOf asked) (roomOf ops ocs) ts),
+            value-room (heldCheck ramp was) (refusalOf (colourOf ramp) (farOf asked) (room out) ts)
+                (length (keptOf (colourOf ramp) (farOf asked) ts)) (room out) (kept-room (colourOf ramp) (farOf asked) (room out) ts),
           )

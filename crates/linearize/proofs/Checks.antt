@@ -14,10 +14,11 @@ use Rattle.refusals.specs.Refusals.{farDomain, badRecord}
 use Rattle.float.proofs.Flags.{both-l, both-r}
 use Rattle.stops.specs.declared.Checked.{Checked}
 use Rattle.stops.specs.declared.Checked.the-variants as checked
-use Rattle.stops.specs.declared.Kind.{Kind}
+use Rattle.stops.specs.Lent.{Ramp}
 use Rattle.gradient.specs.Ramp.{checkOf, minOf, maxOf}
+use Rattle.linearize.specs.Lent.{Held}
 use Rattle.linearize.specs.Constants.{farthest}
-use Rattle.linearize.specs.Desk.{beyondOf, andThen, countsGood, shapeCheck, countsCheck, sampleCheck, thinCheck}
+use Rattle.linearize.specs.Desk.{beyondOf, andThen, countsGood, shapeCheck, countsCheck, sampleCheck, heldCheck, thinCheck}
 use Rattle.linearize.specs.Promises.{Ready}
 
 -- a number below minus 1e38, or tested against 1e38
@@ -52,13 +53,13 @@ module _ (lo hi : Float) (n m : ℕ) where
       unfolding shapeCheck
       shape-fine e k = simp (l, h, eq-eqb n 4608 e, eq-eqb m 36 k)
 
-module _ (kind : Kind) (ps cs : List Float) (ks : List ℕ) (n m : ℕ) where
-  pub first-refuses : (k : ℕ) → checkOf kind ps cs ks ≡ checked.Refused k → checked.Refused k ≡ sampleCheck kind ps cs ks n m
+module _ (ramp : Ramp) (n m : ℕ) where
+  pub first-refuses : (k : ℕ) → checkOf ramp ≡ checked.Refused k → checked.Refused k ≡ sampleCheck ramp n m
   unfolding sampleCheck
   first-refuses k e = simp e
 
-  pub first-passes : (r : Checked) (lo hi : Float) → checkOf kind ps cs ks ≡ checked.Fine → lo ≡ minOf kind ps → hi ≡ maxOf kind ps → r ≡ shapeCheck lo hi n m
-      → r ≡ sampleCheck kind ps cs ks n m
+  pub first-passes : (r : Checked) (lo hi : Float) → checkOf ramp ≡ checked.Fine → lo ≡ minOf ramp → hi ≡ maxOf ramp → r ≡ shapeCheck lo hi n m
+      → r ≡ sampleCheck ramp n m
   unfolding sampleCheck
   first-passes r lo hi e p q h = h ∙ rw (p, q, e)
 
@@ -78,14 +79,14 @@ shape-lengths lo hi n m h =
     (eqb-true n 4608 (both-l (eqb n 4608) (eqb m 36) b), eqb-true m 36 (both-r (eqb n 4608) (eqb m 36) b))
 
 -- what a check that is passed tells
-module _ (kind : Kind) (ps cs : List Float) (ks : List ℕ) (n m : ℕ) (h : sampleCheck kind ps cs ks n m ≡ checked.Fine) where
-  pub ramp-fine : checkOf kind ps cs ks ≡ checked.Fine
+module _ (ramp : Ramp) (n m : ℕ) (h : sampleCheck ramp n m ≡ checked.Fine) where
+  pub ramp-fine : checkOf ramp ≡ checked.Fine
   unfolding sampleCheck
-  ramp-fine = passes-both (checkOf kind ps cs ks) (shapeCheck (minOf kind ps) (maxOf kind ps) n m) h .0
+  ramp-fine = passes-both (checkOf ramp) (shapeCheck (minOf ramp) (maxOf ramp) n m) h .0
 
   pub record-lengths : (n ≡ 4608) × (m ≡ 36)
   unfolding sampleCheck
-  record-lengths = shape-lengths (minOf kind ps) (maxOf kind ps) n m (passes-both (checkOf kind ps cs ks) (shapeCheck (minOf kind ps) (maxOf kind ps) n m) h .1)
+  record-lengths = shape-lengths (minOf ramp) (maxOf ramp) n m (passes-both (checkOf ramp) (shapeCheck (minOf ramp) (maxOf ramp) n m) h .1)
 
 -- ---- the counts
 
@@ -135,33 +136,33 @@ each-good (n ∷ l) e (suc i) h =
 
 -- ---- the check before thinning
 
-module _ (kind : Kind) (ps cs : List Float) (ks : List ℕ) (rows : List Float) (counts : List ℕ) where
-  pub sample-refuses : (k : ℕ) → sampleCheck kind ps cs ks (length rows) (length counts) ≡ checked.Refused k → checked.Refused k ≡ thinCheck kind ps cs ks rows counts
+module _ (ramp : Ramp) (was : Held) where
+  pub sample-refuses : (k : ℕ) → heldCheck ramp was ≡ checked.Refused k → checked.Refused k ≡ thinCheck ramp was
   unfolding thinCheck
   sample-refuses k e = simp e
 
-  pub sample-passes : (r : Checked) → sampleCheck kind ps cs ks (length rows) (length counts) ≡ checked.Fine → r ≡ countsCheck counts → r ≡ thinCheck kind ps cs ks rows counts
+  pub sample-passes : (r : Checked) → heldCheck ramp was ≡ checked.Fine → r ≡ countsCheck (was .counts) → r ≡ thinCheck ramp was
   unfolding thinCheck
   sample-passes r e h = h ∙ rw e
 
-  module _ (h : thinCheck kind ps cs ks rows counts ≡ checked.Fine) where
-    pub sample-fine : sampleCheck kind ps cs ks (length rows) (length counts) ≡ checked.Fine
+  module _ (h : thinCheck ramp was ≡ checked.Fine) where
+    pub sample-fine : heldCheck ramp was ≡ checked.Fine
     unfolding thinCheck
-    sample-fine = passes-both (sampleCheck kind ps cs ks (length rows) (length counts)) (countsCheck counts) h .0
+    sample-fine = passes-both (heldCheck ramp was) (countsCheck (was .counts)) h .0
 
-    counts-fine : countsGood counts ≡ true
+    counts-fine : countsGood (was .counts) ≡ true
     unfolding thinCheck
-    counts-fine = counts-good counts (passes-both (sampleCheck kind ps cs ks (length rows) (length counts)) (countsCheck counts) h .1)
+    counts-fine = counts-good (was .counts) (passes-both (heldCheck ramp was) (countsCheck (was .counts)) h .1)
 
     -- such a record may be thinned
-    pub ready : Ready rows counts
+    pub ready : Ready (was .rows) (was .counts)
     ready =
-        let l = record-lengths kind ps cs ks (length rows) (length counts) sample-fine in
+        let l = record-lengths ramp (length (was .rows)) (length (was .counts)) sample-fine in
         record {
           long = l .0;
           many = l .1;
-          some = λ i k. each-good counts counts-fine i (omega (arith, l)) .0;
-          most = λ i k. each-good counts counts-fine i (omega (arith, l)) .1;
+          some = λ i k. each-good (was .counts) counts-fine i (omega (arith, l)) .0;
+          most = λ i k. each-good (was .counts) counts-fine i (omega (arith, l)) .1;
         }
 
 -- and what the test of the counts asks of a record, one that may be thinned has

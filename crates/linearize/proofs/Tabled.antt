@@ -10,6 +10,7 @@ use lib.Dec.{T}
 use lib.ListN.{length, getD, set, take, length-set}
 use lib.Seq.{getD-set-same, getD-set-other, getD-take, length-take-le}
 use lib.Ieee.{Float}
+use Rattle.stops.specs.Lent.{rampOf}
 use Rattle.blend.specs.declared.Rgba.{Rgba}
 use Rattle.stops.specs.Near.{pairOr, segmentFor, segmentIn}
 use Rattle.stops.specs.Pair.{colourIn}
@@ -49,24 +50,24 @@ pub colour-by : (ps cs : List Float) (t : Float) (w : Place) {z : Rgba} {k : ℕ
     → k ≡ pairOr w 1 → s ≡ segmentFor cs (length ps) k → z ≡ segmentIn ps cs s t w → z ≡ colourIn CatmullRom ps cs t w
 colour-by ps cs t w b c d = d ∙ segment-colour ps cs t w 1 (c ∙ ap (segmentFor cs (length ps)) b)
 
-catmull-colour : (ps cs : List Float) (ks : List ℕ) (t : Float) → colourIn CatmullRom ps cs t (placeIn ps t) ≡ anyColour CatmullRom ps cs ks t
+catmull-colour : (ps cs : List Float) (ks : List ℕ) (t : Float) → colourIn CatmullRom ps cs t (placeIn ps t) ≡ anyColour (rampOf CatmullRom ps cs ks) t
 unfolding anyColour
 catmull-colour ps cs ks t = refl
 
 module _ (kind : Kind) (ps cs : List Float) (ks : List ℕ) (t : Float) {z : Rgba} where
-  pub by-gimp : {b : Bool} → b ≡ isGimp kind → b ≡ true → z ≡ gimpColour ps cs ks t → z ≡ anyColour kind ps cs ks t
+  pub by-gimp : {b : Bool} → b ≡ isGimp kind → b ≡ true → z ≡ gimpColour ps cs ks t → z ≡ anyColour (rampOf kind ps cs ks) t
   unfolding anyColour
   by-gimp h e f = f ∙ rw (← h, e)
 
   module _ {w : Place} (place : w ≡ placeIn ps t) where
-    pub by-stops : {b : Bool} → b ≡ isGimp kind → b ≡ false → z ≡ colourIn kind ps cs t w → z ≡ anyColour kind ps cs ks t
+    pub by-stops : {b : Bool} → b ≡ isGimp kind → b ≡ false → z ≡ colourIn kind ps cs t w → z ≡ anyColour (rampOf kind ps cs ks) t
     unfolding anyColour
     by-stops h e f = f ∙ rw (← h, e, place)
 
-    pub by-segments : {b : Bool} → b ≡ isCatmullRom kind → b ≡ true → z ≡ colourIn CatmullRom ps cs t w → z ≡ anyColour kind ps cs ks t
+    pub by-segments : {b : Bool} → b ≡ isCatmullRom kind → b ≡ true → z ≡ colourIn CatmullRom ps cs t w → z ≡ anyColour (rampOf kind ps cs ks) t
     by-segments h e f = go kind (sym e ∙ h)
       where
-        go : (u : Kind) → true ≡ isCatmullRom u → z ≡ anyColour u ps cs ks t
+        go : (u : Kind) → true ≡ isCatmullRom u → z ≡ anyColour (rampOf u ps cs ks) t
         go Linear h = absurd (subst T h tt)
         go Smoothstep h = absurd (subst T h tt)
         go Sharp h = absurd (subst T h tt)

@@ -6,13 +6,14 @@ use lib.Dec.{eqb, leb}
 use lib.ListN.{length}
 use lib.Ieee.{Float, neg, lt}
 use Rattle.refusals.specs.Refusals.{farDomain, badRecord}
-use Rattle.stops.specs.declared.Kind.{Kind}
 use Rattle.stops.specs.declared.Checked.{Checked}
 use Rattle.stops.specs.declared.Checked.the-variants as checked
 use Rattle.stops.specs.Answers.{onFine}
-use Rattle.gradient.specs.Ramp.{checkOf, minOf, maxOf, colourOf}
 use Rattle.linearize.specs.Constants.{cells, rowLength, recordLength, farthest, thresholdOf}
 use Rattle.linearize.specs.Difference.{differs}
+use Rattle.stops.specs.Lent.{Ramp}
+use Rattle.gradient.specs.Ramp.{checkOf, minOf, maxOf, colourOf}
+use Rattle.linearize.specs.Lent.{Held, Output, heldOf, outputOf}
 use Rattle.linearize.specs.Midpoints.{Gradient, Far}
 use Rattle.linearize.specs.Cells.{rowsOf, countsOf, samplingEvaluations}
 use Rattle.linearize.specs.Places.{listOf}
@@ -94,80 +95,60 @@ abbrev pub valueBy : Checked → ℕ → ℕ → ℕ
 valueBy check refusal value = onFine check (unlessRefused refusal value) (λ n. 0)
 
 -- refusals 1, then stop by stop 2, 3; then 4, 5
-module _ (kind : Kind) (ps cs : List Float) (ks : List ℕ) where
+module _ (ramp : Ramp) where
   unfoldable pub sampleCheck : ℕ → ℕ → Checked
-  sampleCheck rows counts = andThen (checkOf kind ps cs ks) (shapeCheck (minOf kind ps) (maxOf kind ps) rows counts)
+  sampleCheck rows counts = andThen (checkOf ramp) (shapeCheck (minOf ramp) (maxOf ramp) rows counts)
 
-  unfoldable pub thinCheck : List Float → List ℕ → Checked
-  thinCheck rows counts = andThen (sampleCheck (length rows) (length counts)) (countsCheck counts)
+  abbrev pub heldCheck : Held → Checked
+  heldCheck was = sampleCheck (length (was .rows)) (length (was .counts))
+
+  unfoldable pub thinCheck : Held → Checked
+  thinCheck was = andThen (heldCheck was) (countsCheck (was .counts))
 
 -- ---- the calls: a ramp, a threshold as it was asked for, and what was lent
 
 abbrev pub farOf : Float → Far
 farOf asked = differs (thresholdOf asked)
 
-module _ (kind : Kind) (ps cs : List Float) (ks : List ℕ) (asked : Float) (rows : List Float) (counts : List ℕ) where
-  -- sampling: the record is the ramp's, or as it was
-  unfoldable pub sampleAnswer : Sampled
-  sampleAnswer =
-      onFine (sampleCheck kind ps cs ks (length rows) (length counts))
-      (sampled.Done (samplingEvaluations (colourOf kind ps cs ks) (farOf asked) (minOf kind ps) (maxOf kind ps)))
-      sampled.Refused
+-- a ramp's points in a record, and the room of the outputs
+abbrev pub pointsIn : Ramp → Held → List Float
+pointsIn ramp was = listOf (was .rows) (was .counts) (maxOf ramp)
 
-  unfoldable pub sampleRows : List Float
-  sampleRows =
-      onFine (sampleCheck kind ps cs ks (length rows) (length counts))
-      (rowsOf (colourOf kind ps cs ks) (farOf asked) (minOf kind ps) (maxOf kind ps))
-      (λ n. rows)
+abbrev pub room : Output → ℕ
+room out = roomOf (out .positions) (out .channels)
 
-  unfoldable pub sampleCounts : List ℕ
-  sampleCounts =
-      onFine (sampleCheck kind ps cs ks (length rows) (length counts))
-      (countsOf (colourOf kind ps cs ks) (farOf asked) (minOf kind ps) (maxOf kind ps))
-      (λ n. counts)
+module _ (ramp : Ramp) (asked : Float) where
+  -- a fresh sampling
+  unfoldable pub fresh : Held
+  fresh = heldOf (rowsOf (colourOf ramp) (farOf asked) (minOf ramp) (maxOf ramp)) (countsOf (colourOf ramp) (farOf asked) (minOf ramp) (maxOf ramp))
 
-  unfoldable pub sampleEvaluations : ℕ
-  sampleEvaluations =
-      onFine (sampleCheck kind ps cs ks (length rows) (length counts))
-      (samplingEvaluations (colourOf kind ps cs ks) (farOf asked) (minOf kind ps) (maxOf kind ps))
-      (λ n. 0)
+  unfoldable pub freshEvaluations : ℕ
+  freshEvaluations = samplingEvaluations (colourOf ramp) (farOf asked) (minOf ramp) (maxOf ramp)
 
-  -- thinning a record: the list of its points, to the outputs ops and ocs
-  module _ (ops ocs : List Float) where
-    unfoldable pub thinPositions : List Float
-    thinPositions =
-        onFine (thinCheck kind ps cs ks rows counts)
-        (positionsWritten (colourOf kind ps cs ks) (farOf asked) (roomOf ops ocs) (listOf rows counts (maxOf kind ps)) ops)
-        (λ n. ops)
+  -- the points ts, written
+  abbrev pub written : List Float → Output → Output
+  written ts out =
+      outputOf (positionsWritten (colourOf ramp) (farOf asked) (room out) ts (out .positions))
+      (channelsWritten (colourOf ramp) (farOf asked) (room out) ts (out .channels))
 
-    unfoldable pub thinChannels : List Float
-    thinChannels =
-        onFine (thinCheck kind ps cs ks rows counts)
-        (channelsWritten (colourOf kind ps cs ks) (farOf asked) (roomOf ops ocs) (listOf rows counts (maxOf kind ps)) ocs)
-        (λ n. ocs)
-
--- flattening: a fresh sampling, then the list of its points
-module _ (kind : Kind) (ps cs : List Float) (ks : List ℕ) (asked : Float) where
-  unfoldable pub freshList : List Float
-  freshList =
-      listOf (rowsOf (colourOf kind ps cs ks) (farOf asked) (minOf kind ps) (maxOf kind ps))
-      (countsOf (colourOf kind ps cs ks) (farOf asked) (minOf kind ps) (maxOf kind ps))
-      (maxOf kind ps)
-
+  -- flattening: a fresh sampling, then the list of its points
   unfoldable pub flattenEvaluations : ℕ
-  flattenEvaluations =
-      samplingEvaluations (colourOf kind ps cs ks) (farOf asked) (minOf kind ps) (maxOf kind ps)
-      + listEvaluations (colourOf kind ps cs ks) (farOf asked) freshList
+  flattenEvaluations = freshEvaluations + listEvaluations (colourOf ramp) (farOf asked) (pointsIn ramp fresh)
 
-  module _ (rows : List Float) (counts : List ℕ) (ops ocs : List Float) where
-    unfoldable pub flattenPositions : List Float
-    flattenPositions =
-        onFine (sampleCheck kind ps cs ks (length rows) (length counts))
-        (positionsWritten (colourOf kind ps cs ks) (farOf asked) (roomOf ops ocs) freshList ops)
-        (λ n. ops)
+  module _ (was : Held) where
+    -- sampling: the record is the ramp's, or as it was
+    unfoldable pub sampleAnswer : Sampled
+    sampleAnswer = onFine (heldCheck ramp was) (sampled.Done freshEvaluations) sampled.Refused
 
-    unfoldable pub flattenChannels : List Float
-    flattenChannels =
-        onFine (sampleCheck kind ps cs ks (length rows) (length counts))
-        (channelsWritten (colourOf kind ps cs ks) (farOf asked) (roomOf ops ocs) freshList ocs)
-        (λ n. ocs)
+    unfoldable pub sampleHeld : Held
+    sampleHeld = onFine (heldCheck ramp was) fresh (λ n. was)
+
+    unfoldable pub sampleEvaluations : ℕ
+    sampleEvaluations = onFine (heldCheck ramp was) freshEvaluations (λ n. 0)
+
+    -- thinning a record, and flattening: the list of its points, to the outputs
+    unfoldable pub thinOutput : Output → Output
+    thinOutput out = onFine (thinCheck ramp was) (written (pointsIn ramp was) out) (λ n. out)
+
+    unfoldable pub flattenOutput : Output → Output
+    flattenOutput out = onFine (heldCheck ramp was) (written (pointsIn ramp fresh) out) (λ n. out)

@@ -8,3 +8,4 @@ pub mod Kept
 pub mod Walk
 pub mod Desk
 pub mod Promises
+pub mod Lent

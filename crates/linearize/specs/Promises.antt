@@ -7,17 +7,17 @@ use lib.Dec.{eqb, ltb}
 use lib.ListN.{length, getD, set}
 use lib.Seq.{sets}
 use lib.Ieee.{Float}
-use Rattle.stops.specs.declared.Kind.{Kind}
 use Rattle.stops.specs.declared.Checked.{Checked}
 use Rattle.stops.specs.Answers.{numberOfChecked}
-use Rattle.gradient.specs.Ramp.{maxOf, colourOf}
-use Rattle.linearize.specs.Places.{listOf}
+use Rattle.stops.specs.Lent.{Ramp, Change}
+use Rattle.gradient.specs.Ramp.{colourOf}
+use Rattle.linearize.specs.Lent.{Held, Output}
 use Rattle.linearize.specs.Constants.{cells, depth, rowLength, recordLength}
 use Rattle.linearize.specs.Midpoints.{Gradient, Far, halves, tries}
 use Rattle.linearize.specs.Cells.{pointsOf, rowOf, cellRow, cellCount, cellTries, rowsOf, countsOf, triesOf}
-use Rattle.linearize.specs.Kept.{keptOf, refusalOf, roomOf, positionsWritten, channelsWritten, listEvaluations}
+use Rattle.linearize.specs.Kept.{keptOf, refusalOf, positionsWritten, channelsWritten, listEvaluations}
 use Rattle.linearize.specs.Walk.{Run, Outcome, Ends}
-use Rattle.linearize.specs.Desk.{listAnswer, farOf, numberOfSampled, evaluationsOfSampled, numberOfListed, stopsOfListed, evaluationsOfListed, answerBy, numberBy, valueBy, sampleCheck, thinCheck, sampleEvaluations, sampleAnswer, sampleRows, sampleCounts, thinPositions, thinChannels, freshList, flattenEvaluations, flattenPositions, flattenChannels}
+use Rattle.linearize.specs.Desk.{listAnswer, farOf, numberOfSampled, evaluationsOfSampled, numberOfListed, stopsOfListed, evaluationsOfListed, answerBy, numberBy, valueBy, heldCheck, thinCheck, pointsIn, room, fresh, sampleAnswer, sampleHeld, sampleEvaluations, thinOutput, flattenEvaluations, flattenOutput}
 use Rattle.linearize.specs.declared.Point.{Point}
 use Rattle.linearize.specs.declared.Halved.{Halved}
 use Rattle.linearize.specs.declared.Progress.{Progress}
@@ -90,12 +90,11 @@ pub record ListMade (g : Gradient) (far : Far) (room : ℕ) (ts ps ps′ cs cs�
 -- ---- the calls
 
 -- `sample`: the answer, document 01's number and values of it, and the record
-pub record Samples (kind : Kind) (ps cs : List Float) (ks : List ℕ) (asked : Float) (rows rows′ : List Float) (counts counts′ : List ℕ) (r : Sampled) : Type 0 where
-  pub answer : r ≡ sampleAnswer kind ps cs ks asked rows counts
-  pub number : numberOfSampled r ≡ numberOfChecked (sampleCheck kind ps cs ks (length rows) (length counts))
-  pub evaluations : evaluationsOfSampled r ≡ sampleEvaluations kind ps cs ks asked rows counts
-  pub written : rows′ ≡ sampleRows kind ps cs ks asked rows counts
-  pub counted : counts′ ≡ sampleCounts kind ps cs ks asked rows counts
+pub record Samples (ramp : Ramp) (asked : Float) (held : Change Held) (r : Sampled) : Type 0 where
+  pub answer : r ≡ sampleAnswer ramp asked (held .entry)
+  pub number : numberOfSampled r ≡ numberOfChecked (heldCheck ramp (held .entry))
+  pub evaluations : evaluationsOfSampled r ≡ sampleEvaluations ramp asked (held .entry)
+  pub left : held .exit ≡ sampleHeld ramp asked (held .entry)
 
 -- a list's answer, and document 01's number and values of it
 pub record Tells (check : Checked) (refusal kept spent : ℕ) (r : Listed) : Type 0 where
@@ -104,26 +103,17 @@ pub record Tells (check : Checked) (refusal kept spent : ℕ) (r : Listed) : Typ
   pub stops : stopsOfListed r ≡ valueBy check refusal kept
   pub evaluations : evaluationsOfListed r ≡ valueBy check refusal spent
 
+abbrev pub TellsOf : Ramp → Float → Checked → Output → List Float → ℕ → Listed → Type 0
+TellsOf ramp asked check out ts spent r =
+    Tells check (refusalOf (colourOf ramp) (farOf asked) (room out) ts) (length (keptOf (colourOf ramp) (farOf asked) ts)) spent r
+
 -- `thin`: the answer and both outputs
-pub record Thins (kind : Kind) (ps cs : List Float) (ks : List ℕ) (asked : Float) (rows : List Float) (counts : List ℕ) (ops ops′ ocs ocs′ : List Float) (r : Listed) : Type 0 where
-  pub told :
-      Tells (thinCheck kind ps cs ks rows counts)
-      (refusalOf (colourOf kind ps cs ks) (farOf asked) (roomOf ops ocs) (listOf rows counts (maxOf kind ps)))
-      (length (keptOf (colourOf kind ps cs ks) (farOf asked) (listOf rows counts (maxOf kind ps))))
-      (listEvaluations (colourOf kind ps cs ks) (farOf asked) (listOf rows counts (maxOf kind ps)))
-      r
-  pub positions : ops′ ≡ thinPositions kind ps cs ks asked rows counts ops ocs
-  pub channels : ocs′ ≡ thinChannels kind ps cs ks asked rows counts ops ocs
+pub record Thins (ramp : Ramp) (asked : Float) (was : Held) (out : Change Output) (r : Listed) : Type 0 where
+  pub told : TellsOf ramp asked (thinCheck ramp was) (out .entry) (pointsIn ramp was) (listEvaluations (colourOf ramp) (farOf asked) (pointsIn ramp was)) r
+  pub output : out .exit ≡ thinOutput ramp asked was (out .entry)
 
 -- `flatten`: the answer, the record and both outputs
-pub record Flattens (kind : Kind) (ps cs : List Float) (ks : List ℕ) (asked : Float) (rows rows′ : List Float) (counts counts′ : List ℕ) (ops ops′ ocs ocs′ : List Float) (r : Listed) : Type 0 where
-  pub told :
-      Tells (sampleCheck kind ps cs ks (length rows) (length counts))
-      (refusalOf (colourOf kind ps cs ks) (farOf asked) (roomOf ops ocs) (freshList kind ps cs ks asked))
-      (length (keptOf (colourOf kind ps cs ks) (farOf asked) (freshList kind ps cs ks asked)))
-      (flattenEvaluations kind ps cs ks asked)
-      r
-  pub written : rows′ ≡ sampleRows kind ps cs ks asked rows counts
-  pub counted : counts′ ≡ sampleCounts kind ps cs ks asked rows counts
-  pub positions : ops′ ≡ flattenPositions kind ps cs ks asked rows counts ops ocs
-  pub channels : ocs′ ≡ flattenChannels kind ps cs ks asked rows counts ops ocs
+pub record Flattens (ramp : Ramp) (asked : Float) (held : Change Held) (out : Change Output) (r : Listed) : Type 0 where
+  pub told : TellsOf ramp asked (heldCheck ramp (held .entry)) (out .entry) (pointsIn ramp (fresh ramp asked)) (flattenEvaluations ramp asked) r
+  pub left : held .exit ≡ sampleHeld ramp asked (held .entry)
+  pub output : out .exit ≡ flattenOutput ramp asked (held .entry) (out .entry)

@@ -18,9 +18,10 @@ ghost use Rattle.linearize.specs.Difference.{exceeds};
 ghost use Rattle.linearize.specs.Cells.{edgeOf, endOf};
 ghost use Rattle.linearize.specs.Segments.{Segments};
 ghost use Rattle.linearize.specs.Promises.{Coloured, HalvesTo, RowIs, CellAnew, CellSampled, RecordIs};
+ghost use Rattle.stops.specs.Lent.{rampIn, lentRamp, old, new};
 
 fn point_of(kind: Kind, positions: &[f32], channels: &[f32], codes: &[u8], t: f32) -> Point
-    ensures { λ r. ⌜ (r .t ≡ t) × Coloured (anyColour kind (now (positions .entry)) (now (channels .entry)) (now (codes .entry))) r ⌝ }
+    ensures { λ r. ⌜ (r .t ≡ t) × Coloured (anyColour (lentRamp kind positions channels codes)) r ⌝ }
 {
     Point {
         t,
@@ -38,7 +39,7 @@ pub(crate) fn evaluate(
     table: &[[[f32; 4]; 4]],
 ) -> Point
     requires { ⌜ Segments (now channels) (length (now positions)) (now table) ⌝ }
-    ensures { λ r. ⌜ (r .t ≡ t) × Coloured (anyColour kind (now (positions .entry)) (now (channels .entry)) (now (codes .entry))) r ⌝ }
+    ensures { λ r. ⌜ (r .t ≡ t) × Coloured (anyColour (lentRamp kind positions channels codes)) r ⌝ }
 {
     if gradient::is_gimp(kind) {
         let colour = gimp::colour_at(positions, channels, codes, t);
@@ -68,9 +69,9 @@ fn halve(
     table: &[[[f32; 4]; 4]],
 ) -> Halved
     requires { ⌜ at + 2 ^ left ≤ length (now row) + 1 ⌝ }
-    requires { ⌜ Coloured (anyColour kind (now positions) (now channels) (now codes)) p × Coloured (anyColour kind (now positions) (now channels) (now codes)) q ⌝ }
+    requires { ⌜ Coloured (anyColour (rampIn kind positions channels codes)) p × Coloured (anyColour (rampIn kind positions channels codes)) q ⌝ }
     requires { ⌜ Segments (now channels) (length (now positions)) (now table) ⌝ }
-    ensures { λ r. ⌜ HalvesTo (anyColour kind (now (positions .entry)) (now (channels .entry)) (now (codes .entry))) (exceeds cutoff) left (p .t) (q .t) at (now (row .entry)) (now (row .exit)) r ⌝ }
+    ensures { λ r. ⌜ HalvesTo (anyColour (lentRamp kind positions channels codes)) (exceeds cutoff) left (p .t) (q .t) at (old row) (new row) r ⌝ }
 {
     if left == 0 {
         return Halved { at, tries: 0 };
@@ -120,7 +121,7 @@ fn halve(
 
 // Writes +0 from `from` to the end.
 pub(crate) fn clear_from(row: &mut [f32], from: usize)
-    ensures { λ _. ⌜ now (row .exit) ≡ sets (now (row .entry)) from (replicate (length (now (row .entry)) - from) f0) ⌝ }
+    ensures { λ _. ⌜ new row ≡ sets (old row) from (replicate (length (old row) - from) f0) ⌝ }
 {
     let mut i = from;
     while i < row.len() {
@@ -142,9 +143,9 @@ fn row_into(
     table: &[[[f32; 4]; 4]],
 ) -> Halved
     requires { ⌜ length (now row) ≡ rowLength ⌝ }
-    requires { ⌜ Coloured (anyColour kind (now positions) (now channels) (now codes)) p × Coloured (anyColour kind (now positions) (now channels) (now codes)) q ⌝ }
+    requires { ⌜ Coloured (anyColour (rampIn kind positions channels codes)) p × Coloured (anyColour (rampIn kind positions channels codes)) q ⌝ }
     requires { ⌜ Segments (now channels) (length (now positions)) (now table) ⌝ }
-    ensures { λ r. ⌜ RowIs (anyColour kind (now (positions .entry)) (now (channels .entry)) (now (codes .entry))) (exceeds cutoff) (p .t) (q .t) (now (row .exit)) r ⌝ }
+    ensures { λ r. ⌜ RowIs (anyColour (lentRamp kind positions channels codes)) (exceeds cutoff) (p .t) (q .t) (new row) r ⌝ }
 {
     row[0] = p.t;
     let h = halve(
@@ -193,9 +194,9 @@ fn cell_into(
 ) -> usize
     requires { ⌜ (i < cells) × ((length (now rows) ≡ recordLength) × (length (now counts) ≡ cells)) ⌝ }
     requires { ⌜ (p .t ≡ edgeOf min max i) × (q .t ≡ edgeOf min max (i + 1)) ⌝ }
-    requires { ⌜ Coloured (anyColour kind (now positions) (now channels) (now codes)) p × Coloured (anyColour kind (now positions) (now channels) (now codes)) q ⌝ }
+    requires { ⌜ Coloured (anyColour (rampIn kind positions channels codes)) p × Coloured (anyColour (rampIn kind positions channels codes)) q ⌝ }
     requires { ⌜ Segments (now channels) (length (now positions)) (now table) ⌝ }
-    ensures { λ r. ⌜ CellAnew (anyColour kind (now (positions .entry)) (now (channels .entry)) (now (codes .entry))) (exceeds cutoff) min max i (now (rows .entry)) (now (rows .exit)) (now (counts .entry)) (now (counts .exit)) r ⌝ }
+    ensures { λ r. ⌜ CellAnew (anyColour (lentRamp kind positions channels codes)) (exceeds cutoff) min max i (old rows) (new rows) (old counts) (new counts) r ⌝ }
 {
     let a = i * Sampler::ROW;
     let e = a + Sampler::ROW;
@@ -227,7 +228,7 @@ pub fn sample_cell(
     rows: &mut [f32],
     counts: &mut [u8],
 ) -> usize
-    ensures { λ r. ⌜ CellSampled (anyColour kind (now (positions .entry)) (now (channels .entry)) (now (codes .entry))) (exceeds cutoff) min max i (now (rows .entry)) (now (rows .exit)) (now (counts .entry)) (now (counts .exit)) r ⌝ }
+    ensures { λ r. ⌜ CellSampled (anyColour (lentRamp kind positions channels codes)) (exceeds cutoff) min max i (old rows) (new rows) (old counts) (new counts) r ⌝ }
 {
     if i >= Sampler::CELLS {
         return 0;
@@ -273,7 +274,7 @@ fn sample_each(
 ) -> usize
     requires { ⌜ (length (now rows) ≡ recordLength) × (length (now counts) ≡ cells) ⌝ }
     requires { ⌜ Segments (now channels) (length (now positions)) (now table) ⌝ }
-    ensures { λ r. ⌜ RecordIs (anyColour kind (now (positions .entry)) (now (channels .entry)) (now (codes .entry))) (exceeds cutoff) min max (now (rows .exit)) (now (counts .exit)) r ⌝ }
+    ensures { λ r. ⌜ RecordIs (anyColour (lentRamp kind positions channels codes)) (exceeds cutoff) min max (new rows) (new counts) r ⌝ }
 {
     let mut n = 0;
     let mut i = 0;
@@ -315,7 +316,7 @@ pub(crate) fn sample_cells(
     counts: &mut [u8],
 ) -> usize
     requires { ⌜ (length (now rows) ≡ recordLength) × (length (now counts) ≡ cells) ⌝ }
-    ensures { λ r. ⌜ RecordIs (anyColour kind (now (positions .entry)) (now (channels .entry)) (now (codes .entry))) (exceeds cutoff) min max (now (rows .exit)) (now (counts .exit)) r ⌝ }
+    ensures { λ r. ⌜ RecordIs (anyColour (lentRamp kind positions channels codes)) (exceeds cutoff) min max (new rows) (new counts) r ⌝ }
 {
     if !segments::is_catmull_rom(kind) {
         let none = [[[0.0f32; 4]; 4]; 1];

@@ -9,6 +9,8 @@ ghost use Prim.Native.Nat.{_≤_};
 ghost use Rattle.stops.specs.Answers.{Checks};
 ghost use Rattle.linearize.specs.Constants.{thresholdOf};
 ghost use Rattle.linearize.specs.Desk.{evaluationsOfListed, beyondOf, shapeCheck, countsCheck, sampleCheck, thinCheck, withSampling};
+ghost use Rattle.stops.specs.Lent.{lentRamp, old};
+ghost use Rattle.linearize.specs.Lent.{lentHeld, lentOutput};
 ghost use Rattle.linearize.specs.Promises.{Samples, Thins, Flattens};
 
 pub mod cells;
@@ -136,7 +138,7 @@ fn check_sample(
     rows: usize,
     counts: usize,
 ) -> Checked
-    ensures { λ r. ⌜ r ≡ sampleCheck kind (now (positions .entry)) (now (channels .entry)) (now (codes .entry)) rows counts ⌝ }
+    ensures { λ r. ⌜ r ≡ sampleCheck (lentRamp kind positions channels codes) rows counts ⌝ }
 {
     match gradient::check(kind, positions, channels, codes) {
         Checked::Refused(n) => Checked::Refused(n),
@@ -159,7 +161,7 @@ pub fn sample(
     rows: &mut [f32],
     counts: &mut [u8],
 ) -> Sampled
-    ensures { λ r. ⌜ Samples kind (now (positions .entry)) (now (channels .entry)) (now (codes .entry)) threshold (now (rows .entry)) (now (rows .exit)) (now (counts .entry)) (now (counts .exit)) r ⌝ }
+    ensures { λ r. ⌜ Samples (lentRamp kind positions channels codes) threshold (lentHeld rows counts) r ⌝ }
 {
     match check_sample(kind, positions, channels, codes, rows.len(), counts.len()) {
         Checked::Refused(n) => Sampled::Refused(n),
@@ -186,7 +188,7 @@ pub fn sample(
 
 // Refusal 5 of a count that is 0 or above 128.
 fn check_counts(counts: &[u8]) -> Checked
-    ensures { λ r. ⌜ r ≡ countsCheck (now (counts .entry)) ⌝ }
+    ensures { λ r. ⌜ r ≡ countsCheck (old counts) ⌝ }
 {
     let mut i = 0;
     while i < counts.len() {
@@ -211,7 +213,7 @@ pub fn check_thin(
     rows: &[f32],
     counts: &[u8],
 ) -> Checked
-    ensures { λ r. ⌜ Checks (thinCheck kind (now (positions .entry)) (now (channels .entry)) (now (codes .entry)) (now (rows .entry)) (now (counts .entry))) r ⌝ }
+    ensures { λ r. ⌜ Checks (thinCheck (lentRamp kind positions channels codes) (lentHeld rows counts .entry)) r ⌝ }
 {
     match check_sample(kind, positions, channels, codes, rows.len(), counts.len()) {
         Checked::Refused(n) => Checked::Refused(n),
@@ -231,7 +233,7 @@ pub fn thin(
     out_positions: &mut [f32],
     out_channels: &mut [f32],
 ) -> Listed
-    ensures { λ r. ⌜ Thins kind (now (positions .entry)) (now (channels .entry)) (now (codes .entry)) threshold (now (rows .entry)) (now (counts .entry)) (now («out_positions» .entry)) (now («out_positions» .exit)) (now («out_channels» .entry)) (now («out_channels» .exit)) r ⌝ }
+    ensures { λ r. ⌜ Thins (lentRamp kind positions channels codes) threshold (lentHeld rows counts .entry) (lentOutput «out_positions» «out_channels») r ⌝ }
 {
     match check_thin(kind, positions, channels, codes, rows, counts) {
         Checked::Refused(n) => Listed::Refused(n),
@@ -284,7 +286,7 @@ pub fn flatten(
     out_positions: &mut [f32],
     out_channels: &mut [f32],
 ) -> Listed
-    ensures { λ r. ⌜ Flattens kind (now (positions .entry)) (now (channels .entry)) (now (codes .entry)) threshold (now (rows .entry)) (now (rows .exit)) (now (counts .entry)) (now (counts .exit)) (now («out_positions» .entry)) (now («out_positions» .exit)) (now («out_channels» .entry)) (now («out_channels» .exit)) r ⌝ }
+    ensures { λ r. ⌜ Flattens (lentRamp kind positions channels codes) threshold (lentHeld rows counts) (lentOutput «out_positions» «out_channels») r ⌝ }
 {
     match sample(kind, positions, channels, codes, threshold, rows, counts) {
         Sampled::Refused(n) => Listed::Refused(n),

@@ -9,6 +9,7 @@ ghost use lib.ListN.{length, take};
 ghost use Rattle.stops.specs.Near.{segmentFor};
 ghost use Rattle.stops.specs.Pair.{colourIn};
 ghost use Rattle.linearize.specs.Segments.{isCatmullRom, Segments};
+ghost use Rattle.stops.specs.Lent.{old, new};
 
 // The pairs of a table on the stack: 16 KiB.
 pub(crate) const ROOM: usize = 256;
@@ -28,7 +29,7 @@ pub(crate) fn is_catmull_rom(kind: Kind) -> bool
 
 // Writes the segments of the pairs of n stops, until the table is full. Gives how many there are.
 pub(crate) fn fill(channels: &[f32], n: usize, table: &mut [[[f32; 4]; 4]]) -> usize
-    ensures { λ r. ⌜ (r ≤ length (now (table .exit))) × Segments (now (channels .entry)) n (take r (now (table .exit))) ⌝ }
+    ensures { λ r. ⌜ (r ≤ length (new table)) × Segments (old channels) n (take r (new table)) ⌝ }
 {
     let mut i = 0;
     while i < table.len() {
@@ -44,7 +45,7 @@ pub(crate) fn fill(channels: &[f32], n: usize, table: &mut [[[f32; 4]; 4]]) -> u
 // The segment of the pair k - 1, k: out of the table, or worked out where the table ends before it.
 fn segment(channels: &[f32], n: usize, table: &[[[f32; 4]; 4]], k: usize) -> [[f32; 4]; 4]
     requires { ⌜ Segments (now channels) n (now table) ⌝ }
-    ensures { λ r. ⌜ r ≡ segmentFor (now (channels .entry)) n k ⌝ }
+    ensures { λ r. ⌜ r ≡ segmentFor (old channels) n k ⌝ }
 {
     if k < table.len() {
         return table[k];
@@ -61,7 +62,7 @@ pub(crate) fn colour_in(
     place: Place,
 ) -> Rgba
     requires { ⌜ Segments (now channels) (length (now positions)) (now table) ⌝ }
-    ensures { λ r. ⌜ r ≡ colourIn Kind.CatmullRom (now (positions .entry)) (now (channels .entry)) t place ⌝ }
+    ensures { λ r. ⌜ r ≡ colourIn Kind.CatmullRom (old positions) (old channels) t place ⌝ }
 {
     let k = near::pair_or(place, 1);
     let s = segment(channels, positions.len(), table, k);

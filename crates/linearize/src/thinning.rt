@@ -28,10 +28,11 @@ ghost use Rattle.linearize.specs.Walk.{run, emitRun, stepRun, outcome};
 ghost use Rattle.linearize.specs.Desk.{listedOf};
 ghost use Rattle.linearize.specs.Segments.{Segments};
 ghost use Rattle.linearize.specs.Promises.{Ready, Started, Thinned, ListMade};
+ghost use Rattle.stops.specs.Lent.{rampIn, lentRamp, old, new};
 
 fn next_place(counts: &[u8], place: Place) -> Place
     requires { ⌜ (length (now counts) ≡ cells) × ((place .row < cells) × (place .index < rowLength)) ⌝ }
-    ensures { λ r. ⌜ r ≡ nextPlace (now (counts .entry)) place ⌝ }
+    ensures { λ r. ⌜ r ≡ nextPlace (old counts) place ⌝ }
 {
     let row = place.row;
     let index = place.index + 1;
@@ -46,7 +47,7 @@ fn next_place(counts: &[u8], place: Place) -> Place
 
 fn point_at(rows: &[f32], max: f32, place: Place) -> f32
     requires { ⌜ (length (now rows) ≡ recordLength) × (place .index < rowLength) ⌝ }
-    ensures { λ r. ⌜ r ≡ pointAt (now (rows .entry)) max place ⌝ }
+    ensures { λ r. ⌜ r ≡ pointAt (old rows) max place ⌝ }
 {
     let row = place.row;
     if row < Sampler::CELLS {
@@ -84,7 +85,7 @@ fn stop_refusal(room: usize, n: usize, last: f32, t: f32, c: Rgba) -> u8
 
 // Stores x at i; past the end nothing is stored.
 fn put(out: &mut [f32], i: usize, x: f32)
-    ensures { λ _. ⌜ now (out .exit) ≡ set (now (out .entry)) i x ⌝ }
+    ensures { λ _. ⌜ new out ≡ set (old out) i x ⌝ }
 {
     if i < out.len() {
         out[i] = x;
@@ -93,7 +94,7 @@ fn put(out: &mut [f32], i: usize, x: f32)
 
 // Stores the four numbers of a colour from k on, as many as there is room for.
 pub fn put_colour(out: &mut [f32], k: usize, c: Rgba)
-    ensures { λ _. ⌜ now (out .exit) ≡ sets (now (out .entry)) k (channelsOf c) ⌝ }
+    ensures { λ _. ⌜ new out ≡ sets (old out) k (channelsOf c) ⌝ }
 {
     if k < out.len() {
         put(out, k, c.r);
@@ -112,7 +113,7 @@ fn emit(
     out_channels: &mut [f32],
 ) -> Progress
     requires { ⌜ (room ≤ length (now «out_positions»)) × (4 * room ≤ length (now «out_channels»)) ⌝ }
-    ensures { λ r. ⌜ run r (now («out_positions» .exit)) (now («out_channels» .exit)) ≡ emitRun room (run s (now («out_positions» .entry)) (now («out_channels» .entry))) p ⌝ }
+    ensures { λ r. ⌜ run r (new «out_positions») (new «out_channels») ≡ emitRun room (run s (old «out_positions») (old «out_channels»)) p ⌝ }
 {
     let n = s.stops;
     let last = s.last;
@@ -147,7 +148,7 @@ fn step(
 ) -> Progress
     requires { ⌜ (room ≤ length (now «out_positions»)) × (4 * room ≤ length (now «out_channels»)) ⌝ }
     requires { ⌜ s .tried < recordLength ⌝ }
-    ensures { λ r. ⌜ run r (now («out_positions» .exit)) (now («out_channels» .exit)) ≡ stepRun (exceeds cutoff) room (run s (now («out_positions» .entry)) (now («out_channels» .entry))) x next ⌝ }
+    ensures { λ r. ⌜ run r (new «out_positions») (new «out_channels») ≡ stepRun (exceeds cutoff) room (run s (old «out_positions») (old «out_channels»)) x next ⌝ }
 {
     let kept = s.last;
     if near(kept.t, x.t) {
@@ -183,9 +184,9 @@ fn thin_points(
     table: &[[[f32; 4]; 4]],
 ) -> Progress
     requires { ⌜ (room ≤ length (now «out_positions»)) × (4 * room ≤ length (now «out_channels»)) ⌝ }
-    requires { ⌜ Ready (now rows) (now counts) × Started (anyColour kind (now positions) (now channels) (now codes)) room start ⌝ }
+    requires { ⌜ Ready (now rows) (now counts) × Started (anyColour (rampIn kind positions channels codes)) room start ⌝ }
     requires { ⌜ Segments (now channels) (length (now positions)) (now table) ⌝ }
-    ensures { λ r. ⌜ Thinned (outcome (anyColour kind (now (positions .entry)) (now (channels .entry)) (now (codes .entry))) (exceeds cutoff) room (run start (now («out_positions» .entry)) (now («out_channels» .entry))) (drop 1 (listOf (now (rows .entry)) (now (counts .entry)) max))) room (run r (now («out_positions» .exit)) (now («out_channels» .exit))) ⌝ }
+    ensures { λ r. ⌜ Thinned (outcome (anyColour (lentRamp kind positions channels codes)) (exceeds cutoff) room (run start (old «out_positions») (old «out_channels»)) (drop 1 (listOf (old rows) (old counts) max))) room (run r (new «out_positions») (new «out_channels»)) ⌝ }
 {
     let mut s = start;
     let mut place = next_place(counts, Place { row: 0, index: 0 });
@@ -233,8 +234,8 @@ fn room_of(positions: usize, channels: usize) -> usize
 fn finish(s: Progress, out_positions: &mut [f32], out_channels: &mut [f32]) -> Listed
     requires { ⌜ (s .tried ≤ recordLength) × (s .stops ≤ length (now «out_positions»)) ⌝ }
     ensures { λ r. ⌜ r ≡ listedOf (s .refusal) (s .stops) (3 * s .tried + s .stops) ⌝ }
-    ensures { λ _. ⌜ now («out_positions» .exit) ≡ writtenOf (s .refusal) (now («out_positions» .entry)) ⌝ }
-    ensures { λ _. ⌜ now («out_channels» .exit) ≡ writtenOf (s .refusal) (now («out_channels» .entry)) ⌝ }
+    ensures { λ _. ⌜ new «out_positions» ≡ writtenOf (s .refusal) (old «out_positions») ⌝ }
+    ensures { λ _. ⌜ new «out_channels» ≡ writtenOf (s .refusal) (old «out_channels») ⌝ }
 {
     let refusal = s.refusal;
     if refusal != 0 {
@@ -264,7 +265,7 @@ fn thin_each(
 ) -> Listed
     requires { ⌜ Ready (now rows) (now counts) ⌝ }
     requires { ⌜ Segments (now channels) (length (now positions)) (now table) ⌝ }
-    ensures { λ r. ⌜ ListMade (anyColour kind (now (positions .entry)) (now (channels .entry)) (now (codes .entry))) (exceeds cutoff) (roomOf (now («out_positions» .entry)) (now («out_channels» .entry))) (listOf (now (rows .entry)) (now (counts .entry)) max) (now («out_positions» .entry)) (now («out_positions» .exit)) (now («out_channels» .entry)) (now («out_channels» .exit)) r ⌝ }
+    ensures { λ r. ⌜ ListMade (anyColour (lentRamp kind positions channels codes)) (exceeds cutoff) (roomOf (old «out_positions») (old «out_channels»)) (listOf (old rows) (old counts) max) (old «out_positions») (new «out_positions») (old «out_channels») (new «out_channels») r ⌝ }
 {
     let room = room_of(out_positions.len(), out_channels.len());
     let first = evaluate(kind, positions, channels, codes, rows[0], table);
@@ -311,7 +312,7 @@ pub(crate) fn thin_record(
     out_channels: &mut [f32],
 ) -> Listed
     requires { ⌜ Ready (now rows) (now counts) ⌝ }
-    ensures { λ r. ⌜ ListMade (anyColour kind (now (positions .entry)) (now (channels .entry)) (now (codes .entry))) (exceeds cutoff) (roomOf (now («out_positions» .entry)) (now («out_channels» .entry))) (listOf (now (rows .entry)) (now (counts .entry)) max) (now («out_positions» .entry)) (now («out_positions» .exit)) (now («out_channels» .entry)) (now («out_channels» .exit)) r ⌝ }
+    ensures { λ r. ⌜ ListMade (anyColour (lentRamp kind positions channels codes)) (exceeds cutoff) (roomOf (old «out_positions») (old «out_channels»)) (listOf (old rows) (old counts) max) (old «out_positions») (new «out_positions») (old «out_channels») (new «out_channels») r ⌝ }
 {
     if !segments::is_catmull_rom(kind) {
         let none = [[[0.0f32; 4]; 4]; 1];

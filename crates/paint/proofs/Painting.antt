@@ -14,6 +14,7 @@ use Rattle.stops.specs.Pair.{colourIn}
 use Rattle.stops.specs.Near.{placeNear, pairOr, segmentFor, segmentIn}
 use Rattle.stops.specs.declared.Kind.the-variants.{CatmullRom, Gimp}
 use Rattle.stops.specs.declared.Place.{Place}
+use Rattle.stops.specs.Lent.{Ramp}
 use Rattle.stops.specs.declared.Kind.{Kind}
 use Rattle.stops.specs.declared.Checked.{Checked}
 use Rattle.stops.specs.declared.Checked.the-variants as checked
@@ -31,32 +32,32 @@ use Rattle.paint.specs.Unchecked.{Cut, stopColour, Ready}
 use Rattle.paint.specs.declared.Answer.the-variants as answer
 use Rattle.paint.specs.declared.Painted.the-variants as painted
 
-module _ (kind : Kind) (ps cs : List Float) (ks : List ℕ) where
-  module _ {n : ℕ} (no : checkOf kind ps cs ks ≡ checked.Refused n) where
-    pub at-refused : (t : Float) → AtIs kind ps cs ks t (answer.Refused n)
+module _ (ramp : Ramp) where
+  module _ {n : ℕ} (no : checkOf ramp ≡ checked.Refused n) where
+    pub at-refused : (t : Float) → AtIs ramp t (answer.Refused n)
     unfolding atAnswer
-    at-refused t = record { number = ap numberOfChecked (sym no); colours = simp no; answer = ap (λ (k : Checked). onFine k (answer.Colour (colourOf kind ps cs ks t)) answer.Refused) (sym no) }
+    at-refused t = record { number = ap numberOfChecked (sym no); colours = simp no; answer = ap (λ (k : Checked). onFine k (answer.Colour (colourOf ramp t)) answer.Refused) (sym no) }
 
-    pub paint-refused : (ts out : List Float) → PaintIs kind ps cs ks ts out out (painted.Refused n)
+    pub paint-refused : (ts out : List Float) → PaintIs ramp ts out out (painted.Refused n)
     unfolding paintCheck paintAnswer canvas
     paint-refused ts out = record { number = simp no; answer = simp no; contents = simp no }
 
-  module _ (yes : checkOf kind ps cs ks ≡ checked.Fine) where
-    pub at-coloured : (t : Float) {c : Rgba} → c ≡ anyColour kind ps cs ks t → AtIs kind ps cs ks t (answer.Colour c)
+  module _ (yes : checkOf ramp ≡ checked.Fine) where
+    pub at-coloured : (t : Float) {c : Rgba} → c ≡ anyColour ramp t → AtIs ramp t (answer.Colour c)
     unfolding atAnswer
     at-coloured t e =
         record {
           number = ap numberOfChecked (sym yes);
-          colours = ap (λ (x : Rgba). x ∷ []) (e ∙ same-colour kind ps cs ks yes t) ∙ simp yes;
-          answer = ap answer.Colour (e ∙ same-colour kind ps cs ks yes t) ∙ ap (λ (k : Checked). onFine k (answer.Colour (colourOf kind ps cs ks t)) answer.Refused) (sym yes);
+          colours = ap (λ (x : Rgba). x ∷ []) (e ∙ same-colour ramp yes t) ∙ simp yes;
+          answer = ap answer.Colour (e ∙ same-colour ramp yes t) ∙ ap (λ (k : Checked). onFine k (answer.Colour (colourOf ramp t)) answer.Refused) (sym yes);
         }
 
     module _ (ts out : List Float) {out′ : List Float} where
-      pub no-room : roomOf out < length ts → out′ ≡ replicate (length out) f0 → PaintIs kind ps cs ks ts out out′ (painted.Refused noRoom)
+      pub no-room : roomOf out < length ts → out′ ≡ replicate (length out) f0 → PaintIs ramp ts out out′ (painted.Refused noRoom)
       unfolding paintCheck paintAnswer canvas
       no-room l e = let b = lt-ltb (roomOf out) (length ts) l in record { number = simp (yes, b); answer = simp (yes, b); contents = e ∙ simp (yes, b) }
 
-      pub done : length ts ≤ roomOf out → out′ ≡ paintedOver (colourOf kind ps cs ks) ts out → PaintIs kind ps cs ks ts out out′ painted.Done
+      pub done : length ts ≤ roomOf out → out′ ≡ paintedOver (colourOf ramp) ts out → PaintIs ramp ts out out′ painted.Done
       unfolding paintCheck paintAnswer canvas
       done l e =
           let b = le-ltb (roomOf out) (length ts) l in
@@ -76,29 +77,29 @@ pub kept-colour : (ps cs : List Float) (two : 2 ≤ length ps) (rising : Rising 
 kept-colour ps cs two rising t k {w = w} {s = s} p q r e =
     near-colour CatmullRom ps cs two rising t k p (e ∙ segment-colour ps cs t w k (r ∙ ap (λ (i : ℕ). segmentFor cs (length ps) i) q))
 
-module _ (kind : Kind) (ps cs : List Float) (ks : List ℕ) (ts out : List Float) where
+module _ (ramp : Ramp) (ts out : List Float) where
   -- stops of the kind v
-  module _ (v : Kind) (stops : isGimp v ≡ false) (h : kind ≡ v) where
-    not-gimp : (t : Float) → stopColour kind ps cs t ≡ colourOf kind ps cs ks t
+  module _ (v : Kind) (stops : isGimp v ≡ false) (h : ramp .kind ≡ v) where
+    not-gimp : (t : Float) → stopColour (ramp .kind) (ramp .positions) (ramp .channels) t ≡ colourOf ramp t
     unfolding colourOf
     not-gimp t = simp (ap isGimp h ∙ stops)
 
-    pub as-stops : {out′ : List Float} → out′ ≡ paintedOver (stopColour kind ps cs) ts out → out′ ≡ paintedOver (colourOf kind ps cs ks) ts out
+    pub as-stops : {out′ : List Float} → out′ ≡ paintedOver (stopColour (ramp .kind) (ramp .positions) (ramp .channels)) ts out → out′ ≡ paintedOver (colourOf ramp) ts out
     as-stops e = e ∙ ap (λ (g : Float → Rgba). paintedOver g ts out) (fun-ext not-gimp)
 
-    pub as-kept : {out′ : List Float} → out′ ≡ paintedOver (stopColour v ps cs) ts out → out′ ≡ paintedOver (colourOf kind ps cs ks) ts out
-    as-kept e = as-stops (e ∙ ap (λ (u : Kind). paintedOver (stopColour u ps cs) ts out) (sym h))
+    pub as-kept : {out′ : List Float} → out′ ≡ paintedOver (stopColour v (ramp .positions) (ramp .channels)) ts out → out′ ≡ paintedOver (colourOf ramp) ts out
+    as-kept e = as-stops (e ∙ ap (λ (u : Kind). paintedOver (stopColour u (ramp .positions) (ramp .channels)) ts out) (sym h))
 
-    pub ready : checkOf kind ps cs ks ≡ checked.Fine → 4 * length ts ≤ length out → Ready ps cs ts out
-    ready fine l = let ok = valid kind ps cs ks (ap isGimp h ∙ stops) fine in record { two = ok .sized .least; rising = ok .rising; four = ok .sized .four; room = l }
+    pub ready : checkOf ramp ≡ checked.Fine → 4 * length ts ≤ length out → Ready (ramp .positions) (ramp .channels) ts out
+    ready fine l = let ok = valid ramp (ap isGimp h ∙ stops) fine in record { two = ok .sized .least; rising = ok .rising; four = ok .sized .four; room = l }
 
-  pub cut : kind ≡ Gimp → checkOf kind ps cs ks ≡ checked.Fine → Cut ps cs ks
+  pub cut : ramp .kind ≡ Gimp → checkOf ramp ≡ checked.Fine → Cut (ramp .positions) (ramp .channels) (ramp .codes)
   unfolding checkOf
-  cut h fine = let s = fine-shape ps cs ks (sym (simp (ap isGimp h)) ∙ fine) in record { least = s .least; channels = s .channels; codes = s .codes }
+  cut h fine = let s = fine-shape (ramp .positions) (ramp .channels) (ramp .codes) (sym (simp (ap isGimp h)) ∙ fine) in record { least = s .least; channels = s .channels; codes = s .codes }
 
-  is-gimp : kind ≡ Gimp → (t : Float) → gimpColour ps cs ks t ≡ colourOf kind ps cs ks t
+  is-gimp : ramp .kind ≡ Gimp → (t : Float) → gimpColour (ramp .positions) (ramp .channels) (ramp .codes) t ≡ colourOf ramp t
   unfolding colourOf
   is-gimp h t = simp (ap isGimp h)
 
-  pub as-gimp : {out′ : List Float} → kind ≡ Gimp → out′ ≡ paintedOver (gimpColour ps cs ks) ts out → out′ ≡ paintedOver (colourOf kind ps cs ks) ts out
+  pub as-gimp : {out′ : List Float} → ramp .kind ≡ Gimp → out′ ≡ paintedOver (gimpColour (ramp .positions) (ramp .channels) (ramp .codes)) ts out → out′ ≡ paintedOver (colourOf ramp) ts out
   as-gimp h e = e ∙ ap (λ (g : Float → Rgba). paintedOver g ts out) (fun-ext (is-gimp h))

@@ -6,7 +6,7 @@ use lib.Dec.{ltb}
 use lib.Ieee.{Float}
 use Rattle.refusals.specs.Refusals.{noRoom}
 use Rattle.blend.specs.declared.Rgba.{Rgba}
-use Rattle.stops.specs.declared.Kind.{Kind}
+use Rattle.stops.specs.Lent.{Ramp}
 use Rattle.stops.specs.declared.Checked.{Checked}
 use Rattle.stops.specs.declared.Checked.the-variants as checked
 use Rattle.gradient.specs.Ramp.{checkOf, colourOf}
@@ -29,14 +29,14 @@ abbrev pub numberOfPainted : Painted → ℕ
 numberOfPainted painted.Done = 0
 numberOfPainted (painted.Refused n) = n
 
-module _ (kind : Kind) (ps cs : List Float) (ks : List ℕ) where
+module _ (ramp : Ramp) where
   -- the colour at t, or the refusal
   unfoldable pub atAnswer : Float → Answer
-  atAnswer t = onFine (checkOf kind ps cs ks) (answer.Colour (colourOf kind ps cs ks t)) answer.Refused
+  atAnswer t = onFine (checkOf ramp) (answer.Colour (colourOf ramp t)) answer.Refused
 
   -- painting n colours where there is room for so many: 1 to 3, then 7
   unfoldable pub paintCheck : ℕ → ℕ → Checked
-  paintCheck n room = onFine (checkOf kind ps cs ks) (cond (ltb room n) (checked.Refused noRoom) checked.Fine) checked.Refused
+  paintCheck n room = onFine (checkOf ramp) (cond (ltb room n) (checked.Refused noRoom) checked.Fine) checked.Refused
 
   unfoldable pub paintAnswer : ℕ → ℕ → Painted
   paintAnswer n room = onFine (paintCheck n room) painted.Done painted.Refused

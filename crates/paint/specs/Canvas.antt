@@ -7,7 +7,7 @@ use lib.ListN.{length, drop, replicate}
 use lib.Ieee.{Float}
 use Rattle.float.specs.F32.{f0}
 use Rattle.blend.specs.declared.Rgba.{Rgba}
-use Rattle.stops.specs.declared.Kind.{Kind}
+use Rattle.stops.specs.Lent.{Ramp}
 use Rattle.gradient.specs.Ramp.{checkOf, colourOf}
 use Rattle.stops.specs.Answers.{onFine}
 
@@ -29,8 +29,8 @@ abbrev pub roomOf : List Float → ℕ
 roomOf out = length out / 4
 
 -- 1 to 3 change nothing, 7 sets the whole output to zero, and what lies past the last colour stays
-unfoldable pub canvas : Kind → List Float → List Float → List ℕ → List Float → List Float → List Float
-canvas kind ps cs ks ts out =
-    onFine (checkOf kind ps cs ks)
-    (cond (ltb (roomOf out) (length ts)) (replicate (length out) f0) (paintedOver (colourOf kind ps cs ks) ts out))
+unfoldable pub canvas : Ramp → List Float → List Float → List Float
+canvas ramp ts out =
+    onFine (checkOf ramp)
+    (cond (ltb (roomOf out) (length ts)) (replicate (length out) f0) (paintedOver (colourOf ramp) ts out))
     (λ n. out)

@@ -14,6 +14,7 @@ ghost use Rattle.stops.specs.Stops.{colourAt};
 ghost use Rattle.stops.specs.Near.{segmentFor};
 ghost use Rattle.stops.specs.declared.Checked.the-variants.{Fine};
 ghost use Rattle.gradient.specs.Gimp.{gimpColour};
+ghost use Rattle.stops.specs.Lent.{old, new, rampIn, lentRamp};
 ghost use Rattle.gradient.specs.Ramp.{checkOf, colourOf};
 ghost use Rattle.paint.specs.Canvas.{channelsOf, paintedOver};
 ghost use Rattle.paint.specs.Promises.{AtIs, PaintIs};
@@ -35,7 +36,7 @@ pub enum Painted {
 }
 
 pub fn at(kind: Kind, positions: &[f32], channels: &[f32], codes: &[u8], t: f32) -> Answer
-    ensures { λ r. ⌜ AtIs kind (now (positions .entry)) (now (channels .entry)) (now (codes .entry)) t r ⌝ }
+    ensures { λ r. ⌜ AtIs (lentRamp kind positions channels codes) t r ⌝ }
 {
     match gradient::check(kind, positions, channels, codes) {
         Checked::Fine => Answer::Colour(gradient::colour_at(kind, positions, channels, codes, t)),
@@ -148,9 +149,9 @@ fn paint_all(
     ts: &[f32],
     out: &mut [f32],
 )
-    requires { ⌜ checkOf kind (now positions) (now channels) (now codes) ≡ Fine ⌝ }
+    requires { ⌜ checkOf (rampIn kind positions channels codes) ≡ Fine ⌝ }
     requires { ⌜ 4 * length (now ts) ≤ length (now out) ⌝ }
-    ensures { λ _. ⌜ now (out .exit) ≡ paintedOver (colourOf kind (now (positions .entry)) (now (channels .entry)) (now (codes .entry))) (now (ts .entry)) (now (out .entry)) ⌝ }
+    ensures { λ _. ⌜ now (out .exit) ≡ paintedOver (colourOf (lentRamp kind positions channels codes)) (now (ts .entry)) (now (out .entry)) ⌝ }
 {
     match kind {
         Kind::Linear => paint_stops(kind, positions, channels, ts, out),
@@ -171,7 +172,7 @@ pub fn paint(
     ts: &[f32],
     out: &mut [f32],
 ) -> Painted
-    ensures { λ r. ⌜ PaintIs kind (now (positions .entry)) (now (channels .entry)) (now (codes .entry)) (now (ts .entry)) (now (out .entry)) (now (out .exit)) r ⌝ }
+    ensures { λ r. ⌜ PaintIs (lentRamp kind positions channels codes) (old ts) (old out) (new out) r ⌝ }
 {
     match gradient::check(kind, positions, channels, codes) {
         Checked::Refused(n) => Painted::Refused(n),

@@ -8,6 +8,7 @@ use Rattle.stops.specs.declared.Kind.{Kind}
 use Rattle.colorgrad_c.specs.Kinds.{kindOf, onKind, Shows}
 use Rattle.colorgrad_c.specs.declared.kinds.Coded.{Coded}
 use Rattle.colorgrad_c.specs.declared.kinds.Coded.the-variants.{Of, Unknown}
+use Rattle.promises.proofs.Parts.{rows-of, counts-of, positions-of, channels-of}
 use Rattle.promises.specs.Law.{Coincide, coincide, answer, _with_, both}
 use Rattle.colorgrad_c.proofs.leaves.colorgrad_root.Reads as of-root
 use Rattle.colorgrad_c.proofs.leaves.colorgrad_cutoff.Reads as of-cutoff
@@ -83,34 +84,34 @@ module _ {A E : Type 0} {P : Kind → A → E → Type 0} {Q : A → E → Type 
 pub sample : (κs : Lfts 5) (a : _) → Coincide (of-sample.Learnt κs a) (λ r e. r with now (e .1 .1 .1 .1 .1 .0) with now (e .1 .1 .1 .1 .1 .1 .0))
 sample κs a =
     by-code (a .0)
-    (λ kind. coincide (λ r e w. both (w .answer) (both (w .written) (w .counted))))
-    (coincide (λ r e w. both (w .0) (both (w .1 .0) (w .1 .1))))
+    (λ kind. coincide (λ r e w. both (w .answer) (both (rows-of (w .left)) (counts-of (w .left)))))
+    (coincide (λ r e w. both (w .0) (both (rows-of (w .1)) (counts-of (w .1)))))
 
 pub refresh : (κs : Lfts 5) (a : _) → Coincide (of-refresh.Learnt κs a) (λ r e. r with now (e .1 .1 .1 .1 .1 .1 .1 .0) with now (e .1 .1 .1 .1 .1 .1 .1 .1 .0))
 refresh κs a =
     by-code (a .0)
-    (λ kind. coincide (λ r e w. both (w .answer) (both (w .written) (w .counted))))
-    (coincide (λ r e w. both (w .0) (both (w .1 .0) (w .1 .1))))
+    (λ kind. coincide (λ r e w. both (w .answer) (both (rows-of (w .left)) (counts-of (w .left)))))
+    (coincide (λ r e w. both (w .0) (both (rows-of (w .1)) (counts-of (w .1)))))
 
 -- with both outputs
 pub thin : (κs : Lfts 7) (a : _) → Coincide (of-thin.Learnt κs a) (λ r e. r with now (e .1 .1 .1 .1 .1 .1 .1 .0) with now (e .1 .1 .1 .1 .1 .1 .1 .1 .0))
 thin κs a =
     by-code (a .0)
-    (λ kind. coincide (λ r e w. both (w .told .answer) (both (w .positions) (w .channels))))
-    (coincide (λ r e w. both (w .0) (both (w .1 .0) (w .1 .1))))
+    (λ kind. coincide (λ r e w. both (w .told .answer) (both (positions-of (w .output)) (channels-of (w .output)))))
+    (coincide (λ r e w. both (w .0) (both (positions-of (w .1)) (channels-of (w .1)))))
 
 -- with the record and both outputs
 pub flatten : (κs : Lfts 7) (a : _) → Coincide (of-flatten.Learnt κs a) (λ r e. r with now (e .1 .1 .1 .1 .1 .0) with now (e .1 .1 .1 .1 .1 .1 .0) with now (e .1 .1 .1 .1 .1 .1 .1 .0) with now (e .1 .1 .1 .1 .1 .1 .1 .1 .0))
 flatten κs a =
     by-code (a .0)
-    (λ kind. coincide (λ r e w. both (w .told .answer) (both (w .written) (both (w .counted) (both (w .positions) (w .channels))))))
-    (coincide (λ r e w. both (w .0) (both (w .1 .0) (both (w .1 .1 .0) (both (w .1 .1 .1 .0) (w .1 .1 .1 .1))))))
+    (λ kind. coincide (λ r e w. both (w .told .answer) (both (rows-of (w .left)) (both (counts-of (w .left)) (both (positions-of (w .output)) (channels-of (w .output)))))))
+    (coincide (λ r e w. both (w .0) (both (rows-of (w .1 .0)) (both (counts-of (w .1 .0)) (both (positions-of (w .1 .1)) (channels-of (w .1 .1)))))))
 
 pub refresh-list : (κs : Lfts 7) (a : _) → Coincide (of-refresh-list.Learnt κs a) (λ r e. r with now (e .1 .1 .1 .1 .1 .1 .1 .0) with now (e .1 .1 .1 .1 .1 .1 .1 .1 .0) with now (e .1 .1 .1 .1 .1 .1 .1 .1 .1 .0) with now (e .1 .1 .1 .1 .1 .1 .1 .1 .1 .1 .0))
 refresh-list κs a =
     by-code (a .0)
-    (λ kind. coincide (λ r e w. both (w .told .answer) (both (w .written) (both (w .counted) (both (w .positions) (w .channels))))))
-    (coincide (λ r e w. both (w .0) (both (w .1 .0) (both (w .1 .1 .0) (both (w .1 .1 .1 .0) (w .1 .1 .1 .1))))))
+    (λ kind. coincide (λ r e w. both (w .told .answer) (both (rows-of (w .left)) (both (counts-of (w .left)) (both (positions-of (w .output)) (channels-of (w .output)))))))
+    (coincide (λ r e w. both (w .0) (both (rows-of (w .1 .0)) (both (counts-of (w .1 .0)) (both (positions-of (w .1 .1)) (channels-of (w .1 .1)))))))
 
 -- with the lent output
 pub paint : (κs : Lfts 5) (a : _) → Coincide (of-paint.Learnt κs a) (λ r e. r with now (e .1 .1 .1 .1 .1 .0))

@@ -1,5 +1,6 @@
 -- For each public call, that any two results that its contract allows coincide. The claims are of the contracts themselves: `Learnt κs a r e` is what the
 -- contract of a call says of its arguments a, its answer r and what its parameters hold at the end, e, in their order.
+pub mod Parts
 pub mod Float
 pub mod Sqrt
 pub mod Decimal

@@ -3,6 +3,7 @@ use contract.Lifetimes.{Lfts}
 use denote.Ref.{now}
 use Rattle.sqrt.proofs.Theorems.{cutoff-unique}
 use Rattle.linearize.specs.Constants.{thresholdOf}
+use Rattle.promises.proofs.Parts.{rows-of, counts-of, positions-of, channels-of}
 use Rattle.promises.specs.Law.{Coincide, coincide, answer, _with_, both}
 use Rattle.linearize.proofs.Sampler.new.Reads as of-new
 use Rattle.linearize.proofs.sample.Reads as of-sample
@@ -20,15 +21,15 @@ new κs a = coincide (λ r e w. w)
 
 -- the answer and the record
 pub sample : (κs : Lfts 5) (a : _) → Coincide (of-sample.Learnt κs a) (λ r e. r with now (e .1 .1 .1 .1 .1 .0) with now (e .1 .1 .1 .1 .1 .1 .0))
-sample κs a = coincide (λ r e w. both (w .answer) (both (w .written) (w .counted)))
+sample κs a = coincide (λ r e w. both (w .answer) (both (rows-of (w .left)) (counts-of (w .left))))
 
 -- the answer and both outputs
 pub thin : (κs : Lfts 7) (a : _) → Coincide (of-thin.Learnt κs a) (λ r e. r with now (e .1 .1 .1 .1 .1 .1 .1 .0) with now (e .1 .1 .1 .1 .1 .1 .1 .1 .0))
-thin κs a = coincide (λ r e w. both (w .told .answer) (both (w .positions) (w .channels)))
+thin κs a = coincide (λ r e w. both (w .told .answer) (both (positions-of (w .output)) (channels-of (w .output))))
 
 -- the answer, the record and both outputs
 pub flatten : (κs : Lfts 7) (a : _) → Coincide (of-flatten.Learnt κs a) (λ r e. r with now (e .1 .1 .1 .1 .1 .0) with now (e .1 .1 .1 .1 .1 .1 .0) with now (e .1 .1 .1 .1 .1 .1 .1 .0) with now (e .1 .1 .1 .1 .1 .1 .1 .1 .0))
-flatten κs a = coincide (λ r e w. both (w .told .answer) (both (w .written) (both (w .counted) (both (w .positions) (w .channels)))))
+flatten κs a = coincide (λ r e w. both (w .told .answer) (both (rows-of (w .left)) (both (counts-of (w .left)) (both (positions-of (w .output)) (channels-of (w .output))))))
 
 -- ---- what serves a refresh, which is a crate of its own
 

@@ -21,6 +21,7 @@ use Rattle.blend.specs.declared.Rgba.{Rgba}
 use Rattle.blend.specs.declared.Stop.{Stop}
 use Rattle.stops.proofs.Choice.{first-reaches}
 use Rattle.stops.proofs.Valid.{first-le}
+use Rattle.stops.specs.Lent.{Ramp}
 use Rattle.stops.specs.Stops.{posAt, colourAt, stopAt, finiteRgba}
 use Rattle.stops.specs.Place.{Rising, firstAt, placeOf}
 use Rattle.stops.specs.Pair.{beyond, leftOf, rightOf, pairOf, between, colourIn}
@@ -32,7 +33,8 @@ use Rattle.stops.specs.declared.Place.the-variants.{End, Nowhere, Between}
 use Rattle.gradient.proofs.Valid.{valid, passes}
 use Rattle.gradient.specs.Ramp.{isGimp, checkOf, colourOf}
 use Rattle.linearize.specs.Kept.{channelsOf}
-use Rattle.refresh.specs.Edit.{changed}
+use Rattle.refresh.specs.Edit.{changed, edited}
+use Rattle.refresh.specs.declared.edit.Edit.{Edit}
 use Rattle.refresh.specs.Stretch.{reachOf, beforeOf, afterOf, outsideOf}
 
 -- ---- the other stops' colours stay
@@ -186,11 +188,12 @@ module _ (reach : ℕ) (some : 1 ≤ reach) (ps : List Float) (rising : Rising p
   outside-unread h = elim (or-split (beforeOf reach ps k t) (afterOf reach ps k t) h) [ inl b ↦ before-unread b | inr a ↦ after-unread a ]
 
 -- outside the stretch the ramp and the changed ramp have one colour
-pub outside-same : (kind : Kind) → isGimp kind ≡ false → (ps cs : List Float) (ks : List ℕ) → Rising ps → (k : ℕ) → k < length ps → (colour : Rgba) (t : Float)
-    → outsideOf (reachOf kind) ps k t ≡ true → colourOf kind ps cs ks t ≡ colourOf kind ps (changed cs k colour) ks t
+pub outside-same : (ramp : Ramp) (e : Edit) → isGimp (ramp .kind) ≡ false → Rising (ramp .positions) → e .stop < length (ramp .positions) → (t : Float)
+    → outsideOf (reachOf (ramp .kind)) (ramp .positions) (e .stop) t ≡ true → colourOf ramp t ≡ colourOf (edited ramp e) t
 unfolding colourOf
-outside-same kind s ps cs ks rising k l colour t h =
-    rw s (sym (unread ps cs k colour t kind (placeOf ps t) (outside-unread (reachOf kind) (reach-some kind) ps rising k l t h)))
+outside-same ramp e s rising l t h =
+    let ps = ramp .positions in
+    rw s (sym (unread ps (ramp .channels) (e .stop) (e .colour) t (ramp .kind) (placeOf ps t) (outside-unread (reachOf (ramp .kind)) (reach-some (ramp .kind)) ps rising (e .stop) l t h)))
 
 -- ---- the changed ramp passes the check
 sets-at : (l : List Float) (at : ℕ) (vs : List Float) (j : ℕ) (d : Float) → at + length vs ≤ length l → j < length vs → getD (sets l at vs) (at + j) d ≡ getD vs j d
@@ -213,7 +216,7 @@ pub changed-length : (cs : List Float) (k : ℕ) (colour : Rgba) → length (cha
 unfolding changed
 changed-length cs k colour = length-sets cs (4 * k) (channelsOf colour)
 
-module _ (ps cs : List Float) (k : ℕ) (colour : Rgba) (room : 4 * k + 4 ≤ length cs) (fine : finiteRgba colour ≡ true) where
+module _ (cs : List Float) (k : ℕ) (colour : Rgba) (room : 4 * k + 4 ≤ length cs) (fine : finiteRgba colour ≡ true) where
   finite-still : (i : ℕ) → finiteRgba (colourAt cs i) ≡ true → finiteRgba (colourAt (changed cs k colour) i) ≡ true
   finite-still i h = go (decLe i k) (decLe k i)
     where
@@ -222,13 +225,13 @@ module _ (ps cs : List Float) (k : ℕ) (colour : Rgba) (room : 4 * k + 4 ≤ le
       go (no a) d = ap finiteRgba (colour-other cs k colour i (λ e. a (omega arith))) ∙ h
       go (yes a) (no b) = ap finiteRgba (colour-other cs k colour i (λ e. b (omega arith))) ∙ h
 
-  pub changed-fine : (kind : Kind) (ks : List ℕ) → isGimp kind ≡ false → checkOf kind ps cs ks ≡ Fine → checkOf kind ps (changed cs k colour) ks ≡ Fine
-  changed-fine kind ks s h =
-      let v = valid kind ps cs ks s h in
-      passes kind ps (changed cs k colour) ks s
-      (record {
-        sized = rw (changed-length cs k colour) (v .sized);
-        finite-at = v .finite-at;
-        colour-finite = λ i l. finite-still i (v .colour-finite i l);
-        rising = v .rising;
-      })
+pub edited-fine : (ramp : Ramp) (e : Edit) → 4 * e .stop + 4 ≤ length (ramp .channels) → finiteRgba (e .colour) ≡ true → isGimp (ramp .kind) ≡ false → checkOf ramp ≡ Fine → checkOf (edited ramp e) ≡ Fine
+edited-fine ramp e room fine s h =
+    let v = valid ramp s h in
+    passes (edited ramp e) s
+    (record {
+      sized = rw (changed-length (ramp .channels) (e .stop) (e .colour)) (v .sized);
+      finite-at = v .finite-at;
+      colour-finite = λ i l. finite-still (ramp .channels) (e .stop) (e .colour) room fine i (v .colour-finite i l);
+      rising = v .rising;
+    })

@@ -1,29 +1,28 @@
 -- When the desk says no to a refresh, and what its calls answer and leave in lent memory. Document 01's number and values for each case of the answer.
 use mathlib.Core.Path.{_≡_}
 use mathlib.Core.Bool.{Bool, true, false, cond, _&&_}
-use mathlib.Core.List.{List}
 use Prim.Native.Nat.{ℕ, _+_}
 use lib.Dec.{ltb}
 use lib.ListN.{length}
 use lib.Ieee.{Float}
 use Rattle.refusals.specs.Refusals.{badEdit}
-use Rattle.blend.specs.declared.Rgba.{Rgba}
+use Rattle.stops.specs.Lent.{Ramp, Change}
 use Rattle.stops.specs.Stops.{finiteRgba}
+use Rattle.stops.specs.Answers.{numberOfChecked, onFine}
 use Rattle.stops.specs.declared.Kind.{Kind}
 use Rattle.stops.specs.declared.Kind.the-variants.{Linear, Smoothstep, Sharp, Basis, CatmullRom, Gimp}
 use Rattle.stops.specs.declared.Checked.{Checked}
 use Rattle.stops.specs.declared.Checked.the-variants as checked
-use Rattle.stops.specs.Answers.{numberOfChecked, onFine}
 use Rattle.gradient.specs.Ramp.{minOf, maxOf, colourOf}
-use Rattle.linearize.specs.Midpoints.{Gradient}
-use Rattle.linearize.specs.Places.{listOf}
-use Rattle.linearize.specs.Kept.{keptOf, refusalOf, roomOf, positionsWritten, channelsWritten, listEvaluations}
-use Rattle.linearize.specs.Desk.{andThen, farOf, thinCheck}
-use Rattle.linearize.specs.Promises.{Tells}
+use Rattle.linearize.specs.Kept.{listEvaluations}
+use Rattle.linearize.specs.Lent.{Held, Output, heldOf}
+use Rattle.linearize.specs.Desk.{andThen, farOf, thinCheck, pointsIn, written}
+use Rattle.linearize.specs.Promises.{TellsOf}
+use Rattle.linearize.specs.declared.Listed.{Listed}
 use Rattle.refresh.specs.Stretch.{reachOf, outsideOf}
 use Rattle.refresh.specs.Anew.{anewRows, anewCounts, anewEvaluations}
-use Rattle.refresh.specs.Edit.{changed}
-use Rattle.linearize.specs.declared.Listed.{Listed}
+use Rattle.refresh.specs.Edit.{edited}
+use Rattle.refresh.specs.declared.edit.Edit.{Edit}
 use Rattle.refresh.specs.declared.Refreshed.{Refreshed}
 use Rattle.refresh.specs.declared.Refreshed.the-variants as refreshed
 
@@ -45,74 +44,60 @@ refreshable Basis = false
 refreshable CatmullRom = false
 refreshable Gimp = false
 
--- 6 of an edit: stop k of n is given a colour
-unfoldable pub editCheck : Kind → ℕ → ℕ → Rgba → Checked
-editCheck kind n k colour = cond (refreshable kind && (ltb k n && finiteRgba colour)) checked.Fine (checked.Refused badEdit)
+-- 6 of an edit of a ramp of n stops
+unfoldable pub editAllowed : Kind → ℕ → Edit → Checked
+editAllowed kind n e = cond (refreshable kind && (ltb (e .stop) n && finiteRgba (e .colour))) checked.Fine (checked.Refused badEdit)
 
-module _ (kind : Kind) (ps cs : List Float) (ks : List ℕ) (k : ℕ) (colour : Rgba) where
+module _ (ramp : Ramp) (e : Edit) where
+  abbrev pub editCheck : Checked
+  editCheck = editAllowed (ramp .kind) (length (ramp .positions)) e
+
   -- refusals 1, then stop by stop 2, 3; then 4, 5, 6
-  unfoldable pub refreshCheck : List Float → List ℕ → Checked
-  refreshCheck rows counts = andThen (thinCheck kind ps cs ks rows counts) (editCheck kind (length ps) k colour)
+  unfoldable pub refreshCheck : Held → Checked
+  refreshCheck was = andThen (thinCheck ramp was) editCheck
 
-  -- the colours of the changed ramp, and the points outside the stretch of the edit
-  abbrev pub newColour : Gradient
-  newColour = colourOf kind ps (changed cs k colour) ks
-
+  -- the points outside the stretch of the edit
   abbrev pub away : Float → Bool
-  away = outsideOf (reachOf kind) ps k
+  away = outsideOf (reachOf (ramp .kind)) (ramp .positions) (e .stop)
 
   module _ (asked : Float) where
-    -- the record once the edit is made, the evaluations, and the list of its points
-    unfoldable pub newRows : List Float → List Float
-    newRows rows = anewRows newColour (farOf asked) away (minOf kind ps) (maxOf kind ps) rows
-
-    unfoldable pub newCounts : List ℕ → List ℕ
-    newCounts counts = anewCounts newColour (farOf asked) away (minOf kind ps) (maxOf kind ps) counts
+    -- the record once the edit is made, and the evaluations
+    unfoldable pub renewed : Held → Held
+    renewed was =
+        heldOf (anewRows (colourOf (edited ramp e)) (farOf asked) away (minOf ramp) (maxOf ramp) (was .rows))
+        (anewCounts (colourOf (edited ramp e)) (farOf asked) away (minOf ramp) (maxOf ramp) (was .counts))
 
     unfoldable pub newEvaluations : ℕ
-    newEvaluations = anewEvaluations newColour (farOf asked) away (minOf kind ps) (maxOf kind ps)
-
-    abbrev pub newList : List Float → List ℕ → List Float
-    newList rows counts = listOf (newRows rows) (newCounts counts) (maxOf kind ps)
+    newEvaluations = anewEvaluations (colourOf (edited ramp e)) (farOf asked) away (minOf ramp) (maxOf ramp)
 
     -- ---- the calls
-    module _ (rows : List Float) (counts : List ℕ) where
+    module _ (was : Held) where
       unfoldable pub refreshAnswer : Refreshed
-      refreshAnswer = onFine (refreshCheck rows counts) (refreshed.Done newEvaluations) refreshed.Refused
+      refreshAnswer = onFine (refreshCheck was) (refreshed.Done newEvaluations) refreshed.Refused
 
       unfoldable pub refreshEvaluations : ℕ
-      refreshEvaluations = onFine (refreshCheck rows counts) newEvaluations (λ n. 0)
+      refreshEvaluations = onFine (refreshCheck was) newEvaluations (λ n. 0)
 
-      unfoldable pub refreshRows : List Float
-      refreshRows = onFine (refreshCheck rows counts) (newRows rows) (λ n. rows)
+      unfoldable pub refreshHeld : Held
+      refreshHeld = onFine (refreshCheck was) (renewed was) (λ n. was)
 
-      unfoldable pub refreshCounts : List ℕ
-      refreshCounts = onFine (refreshCheck rows counts) (newCounts counts) (λ n. counts)
+      -- the list of the refreshed record's points, from the changed ramp
+      unfoldable pub refreshOutput : Output → Output
+      refreshOutput out = onFine (refreshCheck was) (written (edited ramp e) asked (pointsIn (edited ramp e) (renewed was)) out) (λ n. out)
 
-      module _ (ops ocs : List Float) where
-        unfoldable pub refreshPositions : List Float
-        refreshPositions = onFine (refreshCheck rows counts) (positionsWritten newColour (farOf asked) (roomOf ops ocs) (newList rows counts) ops) (λ n. ops)
+    -- `refresh`: the answer, its number and value, and the record
+    pub record Refreshes (held : Change Held) (r : Refreshed) : Type 0 where
+      pub answer : r ≡ refreshAnswer (held .entry)
+      pub number : numberOfRefreshed r ≡ numberOfChecked (refreshCheck (held .entry))
+      pub evaluations : evaluationsOfRefreshed r ≡ refreshEvaluations (held .entry)
+      pub left : held .exit ≡ refreshHeld (held .entry)
 
-        unfoldable pub refreshChannels : List Float
-        refreshChannels = onFine (refreshCheck rows counts) (channelsWritten newColour (farOf asked) (roomOf ops ocs) (newList rows counts) ocs) (λ n. ocs)
-
-      -- `refresh`: the answer, its number and value, and the record
-      pub record Refreshes (rows′ : List Float) (counts′ : List ℕ) (r : Refreshed) : Type 0 where
-        pub answer : r ≡ refreshAnswer
-        pub number : numberOfRefreshed r ≡ numberOfChecked (refreshCheck rows counts)
-        pub evaluations : evaluationsOfRefreshed r ≡ refreshEvaluations
-        pub written : rows′ ≡ refreshRows
-        pub counted : counts′ ≡ refreshCounts
-
-      -- `refresh_list`: the answer, the record and both outputs; thinning takes the changed ramp
-      pub record RefreshLists (rows′ : List Float) (counts′ : List ℕ) (ops ops′ ocs ocs′ : List Float) (r : Listed) : Type 0 where
-        pub told :
-            Tells (refreshCheck rows counts)
-            (refusalOf newColour (farOf asked) (roomOf ops ocs) (newList rows counts))
-            (length (keptOf newColour (farOf asked) (newList rows counts)))
-            (newEvaluations + listEvaluations newColour (farOf asked) (newList rows counts))
-            r
-        pub written : rows′ ≡ refreshRows
-        pub counted : counts′ ≡ refreshCounts
-        pub positions : ops′ ≡ refreshPositions ops ocs
-        pub channels : ocs′ ≡ refreshChannels ops ocs
+    -- `refresh_list`: the answer, the record and both outputs; thinning takes the changed ramp
+    pub record RefreshLists (held : Change Held) (out : Change Output) (r : Listed) : Type 0 where
+      pub told :
+          TellsOf (edited ramp e) asked (refreshCheck (held .entry)) (out .entry)
+          (pointsIn (edited ramp e) (renewed (held .entry)))
+          (newEvaluations + listEvaluations (colourOf (edited ramp e)) (farOf asked) (pointsIn (edited ramp e) (renewed (held .entry))))
+          r
+      pub left : held .exit ≡ refreshHeld (held .entry)
+      pub output : out .exit ≡ refreshOutput (held .entry) (out .entry)

@@ -8,6 +8,7 @@ use stops::Kind;
 ghost use mathlib.Core.Path.{_≡_};
 ghost use Prim.Native.Nat.{_<_};
 ghost use lib.ListN.{length};
+ghost use Rattle.stops.specs.Lent.{old, new, lentRamp};
 ghost use Rattle.gradient.specs.Ramp.{anyColour};
 ghost use Rattle.linearize.specs.Constants.{cells, recordLength};
 ghost use Rattle.linearize.specs.Difference.{exceeds};
@@ -31,7 +32,7 @@ fn refresh_cell(
 ) -> usize
     requires { ⌜ (i < cells) × ((length (now rows) ≡ recordLength) × (length (now counts) ≡ cells)) ⌝ }
     requires { ⌜ (k < length (now positions)) × Domain min max ⌝ }
-    ensures { λ r. ⌜ CellRefreshed (anyColour kind (now (positions .entry)) (now (channels .entry)) (now (codes .entry))) (exceeds cutoff) (outsideOf reach (now (positions .entry)) k) min max i (now (rows .entry)) (now (rows .exit)) (now (counts .entry)) (now (counts .exit)) r ⌝ }
+    ensures { λ r. ⌜ CellRefreshed (anyColour (lentRamp kind positions channels codes)) (exceeds cutoff) (outsideOf reach (old positions) k) min max i (old rows) (new rows) (old counts) (new counts) r ⌝ }
 {
     let t0 = edge(min, max, i);
     let t1 = edge(min, max, i + 1);
@@ -67,7 +68,7 @@ pub(crate) fn refresh_cells(
 ) -> usize
     requires { ⌜ (length (now rows) ≡ recordLength) × (length (now counts) ≡ cells) ⌝ }
     requires { ⌜ (k < length (now positions)) × Domain min max ⌝ }
-    ensures { λ r. ⌜ RecordAnew (anyColour kind (now (positions .entry)) (now (channels .entry)) (now (codes .entry))) (exceeds cutoff) (outsideOf (reachOf kind) (now (positions .entry)) k) min max (now (rows .entry)) (now (rows .exit)) (now (counts .entry)) (now (counts .exit)) r ⌝ }
+    ensures { λ r. ⌜ RecordAnew (anyColour (lentRamp kind positions channels codes)) (exceeds cutoff) (outsideOf (reachOf kind) (old positions) k) min max (old rows) (new rows) (old counts) (new counts) r ⌝ }
 {
     let reach = reach_of(kind);
     let mut n = 0;

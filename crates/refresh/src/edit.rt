@@ -1,4 +1,4 @@
-// An edit: stop k is given a colour. Whether it may be made, and the ramp with it made.
+// An edit: what it is, whether it may be made, and the ramp with it made.
 use blend::Rgba;
 use linearize::thinning::put_colour;
 use refusals::BAD_EDIT;
@@ -8,7 +8,13 @@ ghost use mathlib.Core.Path.{_≡_};
 ghost use Prim.Native.Nat.{_+_, _*_, _≤_};
 ghost use lib.ListN.{length, take};
 ghost use Rattle.refresh.specs.Edit.{changed};
-ghost use Rattle.refresh.specs.RefreshDesk.{refreshable, editCheck};
+ghost use Rattle.refresh.specs.RefreshDesk.{refreshable, editAllowed};
+
+// A stop is given a colour.
+pub struct Edit {
+    pub stop: usize,
+    pub colour: Rgba,
+}
 
 fn is_refreshable(kind: Kind) -> bool
     ensures { λ r. ⌜ r ≡ refreshable kind ⌝ }
@@ -23,16 +29,17 @@ fn is_refreshable(kind: Kind) -> bool
     }
 }
 
-// Refusal 6 of an edit: stop k of n is given a colour.
-pub(crate) fn check_edit(kind: Kind, n: usize, k: usize, colour: Rgba) -> Checked
-    ensures { λ r. ⌜ r ≡ editCheck kind n k colour ⌝ }
+// Refusal 6 of an edit of a ramp of n stops.
+pub(crate) fn check_edit(kind: Kind, n: usize, edit: Edit) -> Checked
+    ensures { λ r. ⌜ r ≡ editAllowed kind n edit ⌝ }
 {
     if !is_refreshable(kind) {
         return Checked::Refused(BAD_EDIT);
     }
-    if n <= k {
+    if n <= edit.stop {
         return Checked::Refused(BAD_EDIT);
     }
+    let colour = edit.colour;
     if !stops::is_finite_colour(colour) {
         return Checked::Refused(BAD_EDIT);
     }

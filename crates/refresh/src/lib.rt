@@ -1,9 +1,9 @@
 // Refreshing a record after the colour of one stop changed: a cell clear of the change keeps what it holds,
 // any other is sampled anew.
 use crate::cells::refresh_cells;
+use crate::edit::Edit;
 use crate::edit::change;
 use crate::edit::check_edit;
-use blend::Rgba;
 use linearize::Listed;
 use linearize::check_thin;
 use linearize::difference::cutoff_of;
@@ -12,11 +12,13 @@ use stops::Checked;
 use stops::Kind;
 ghost use mathlib.Core.Path.{_≡_};
 ghost use Prim.Native.Nat.{_≤_};
+ghost use Rattle.stops.specs.Lent.{lentRamp};
+ghost use Rattle.linearize.specs.Lent.{lentHeld, lentOutput};
 ghost use Rattle.linearize.specs.Desk.{evaluationsOfListed, withSampling};
 ghost use Rattle.refresh.specs.RefreshDesk.{refreshCheck, Refreshes, RefreshLists};
 
 mod cells;
-mod edit;
+pub mod edit;
 mod stretch;
 
 // What a refresh answers: the evaluations, or the number of the refusal.
@@ -31,42 +33,40 @@ fn check_refresh(
     positions: &[f32],
     channels: &[f32],
     codes: &[u8],
-    k: usize,
-    colour: Rgba,
+    edit: Edit,
     rows: &[f32],
     counts: &[u8],
 ) -> Checked
-    ensures { λ r. ⌜ r ≡ refreshCheck kind (now (positions .entry)) (now (channels .entry)) (now (codes .entry)) k colour (now (rows .entry)) (now (counts .entry)) ⌝ }
+    ensures { λ r. ⌜ r ≡ refreshCheck (lentRamp kind positions channels codes) edit (lentHeld rows counts .entry) ⌝ }
 {
     match check_thin(kind, positions, channels, codes, rows, counts) {
         Checked::Refused(n) => Checked::Refused(n),
-        Checked::Fine => check_edit(kind, positions.len(), k, colour),
+        Checked::Fine => check_edit(kind, positions.len(), edit),
     }
 }
 
-// Refreshes the lent record after stop k of the lent ramp is given a colour; the ramp itself is not written. A
+// Refreshes the lent record after an edit of the lent ramp; the ramp itself is not written. A
 // refusal leaves the record as it was.
 pub fn refresh(
     kind: Kind,
     positions: &[f32],
     channels: &[f32],
     codes: &[u8],
-    k: usize,
-    colour: Rgba,
+    edit: Edit,
     threshold: f32,
     rows: &mut [f32],
     counts: &mut [u8],
 ) -> Refreshed
-    ensures { λ r. ⌜ Refreshes kind (now (positions .entry)) (now (channels .entry)) (now (codes .entry)) k colour threshold (now (rows .entry)) (now (counts .entry)) (now (rows .exit)) (now (counts .exit)) r ⌝ }
+    ensures { λ r. ⌜ Refreshes (lentRamp kind positions channels codes) edit threshold (lentHeld rows counts) r ⌝ }
 {
-    match check_refresh(kind, positions, channels, codes, k, colour, rows, counts) {
+    match check_refresh(kind, positions, channels, codes, edit, rows, counts) {
         Checked::Refused(n) => Refreshed::Refused(n),
         Checked::Fine => {
             let cutoff = cutoff_of(threshold);
             let min = gradient::min_of(kind, positions);
             let max = gradient::max_of(kind, positions);
             let mut copy = [0.0f32; 4 * MOST_STOPS];
-            change(channels, k, colour, &mut copy);
+            change(channels, edit.stop, edit.colour, &mut copy);
             let m = channels.len();
             let n = refresh_cells(
                 kind,
@@ -76,7 +76,7 @@ pub fn refresh(
                 cutoff,
                 min,
                 max,
-                k,
+                edit.stop,
                 rows,
                 counts,
             );
@@ -110,23 +110,21 @@ pub fn refresh_list(
     positions: &[f32],
     channels: &[f32],
     codes: &[u8],
-    k: usize,
-    colour: Rgba,
+    edit: Edit,
     threshold: f32,
     rows: &mut [f32],
     counts: &mut [u8],
     out_positions: &mut [f32],
     out_channels: &mut [f32],
 ) -> Listed
-    ensures { λ r. ⌜ RefreshLists kind (now (positions .entry)) (now (channels .entry)) (now (codes .entry)) k colour threshold (now (rows .entry)) (now (counts .entry)) (now (rows .exit)) (now (counts .exit)) (now («out_positions» .entry)) (now («out_positions» .exit)) (now («out_channels» .entry)) (now («out_channels» .exit)) r ⌝ }
+    ensures { λ r. ⌜ RefreshLists (lentRamp kind positions channels codes) edit threshold (lentHeld rows counts) (lentOutput «out_positions» «out_channels») r ⌝ }
 {
     match refresh(
         kind,
         positions,
         channels,
         codes,
-        k,
-        colour,
+        edit,
         threshold,
         rows,
         counts,
@@ -134,7 +132,7 @@ pub fn refresh_list(
         Refreshed::Refused(n) => Listed::Refused(n),
         Refreshed::Done(n) => {
             let mut copy = [0.0f32; 4 * MOST_STOPS];
-            change(channels, k, colour, &mut copy);
+            change(channels, edit.stop, edit.colour, &mut copy);
             let m = channels.len();
             let made = linearize::thin(
                 kind,

@@ -4,6 +4,7 @@ use crate::words;
 use blend::Rgba;
 use linearize::Listed;
 use linearize::Sampler;
+use refresh::edit::Edit;
 use stops::Kind;
 
 const RECORD: usize = Sampler::CELLS * Sampler::ROW;
@@ -194,8 +195,7 @@ fn refresh(
         positions,
         channels,
         codes,
-        stop,
-        colour,
+        Edit { stop, colour },
         threshold,
         rows,
         &mut counts,

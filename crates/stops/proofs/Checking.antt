@@ -1,6 +1,6 @@
 -- The laws of the check of stops that its loop cites: what is left to check, stop by stop. Assumes nothing.
 use mathlib.Core.Path.{_≡_, _∙_, ap}
-use mathlib.Core.Bool.{true, false, not, cond, _&&_, _||_}
+use mathlib.Core.Bool.{Bool, true, false, not, cond, _&&_, _||_}
 use mathlib.Core.List.{List}
 use Prim.Native.Nat.{ℕ, suc, _+_, _-_, _*_, _%_, _≤_, _<_}
 use native.Mathlib.Numerals.{add-one}
@@ -14,6 +14,7 @@ use Rattle.refusals.specs.Refusals.{misshapen, notFinite, falling}
 use Rattle.refusals.specs.Limits.{mostStops}
 use Rattle.float.proofs.Flags.{both-l, both-r, parts4}
 use Rattle.stops.specs.Stops.{posAt, colourAt, finiteRgba, isSharp, shaped, eachStop, stopsCheck}
+use Rattle.stops.specs.Lent.{Ramp}
 use Rattle.stops.specs.Answers.{numberOfChecked, Checks}
 use Rattle.stops.specs.declared.Kind.{Kind}
 use Rattle.stops.specs.declared.Checked.{Checked}
@@ -77,12 +78,15 @@ module _ (kind : Kind) (n m c : ℕ) where
           unfolding shaped
           not-sharp h = simp (le-leb 2 n least, le-leb n mostStops most, eq-eqb m (4 * n) four, eq-eqb c 0 codeless, h)
 
-module _ (kind : Kind) (ps cs : List Float) (ks : List ℕ) where
-  pub not-shaped : shaped kind (length ps) (length cs) (length ks) ≡ false → Refused misshapen ≡ stopsCheck kind ps cs ks
+module _ (ramp : Ramp) where
+  abbrev isShaped : Bool
+  isShaped = shaped (ramp .kind) (length (ramp .positions)) (length (ramp .channels)) (length (ramp .codes))
+
+  pub not-shaped : isShaped ≡ false → Refused misshapen ≡ stopsCheck ramp
   unfolding stopsCheck
   not-shaped h = simp h
 
-  pub if-shaped : shaped kind (length ps) (length cs) (length ks) ≡ true → stopsCheck kind ps cs ks ≡ eachStop (length ps) 0 (inf true) ps cs
+  pub if-shaped : isShaped ≡ true → stopsCheck ramp ≡ eachStop (length (ramp .positions)) 0 (inf true) (ramp .positions) (ramp .channels)
   unfolding stopsCheck
   if-shaped h = simp h
 

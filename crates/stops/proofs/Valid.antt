@@ -1,4 +1,4 @@
--- What a ramp of stops that passes the check is: its lengths agree, its numbers are finite, its positions rise, and t lies at an end or between two of its stops. And the way back: such a ramp passes. Assumes nothing.
+-- What a ramp of stops that passes the check is: its lengths agree, its numbers are finite, its positions rise. And the way back: such a ramp passes. Assumes nothing.
 use mathlib.Core.Path.{_≡_, refl, sym, _∙_, ap, subst}
 use mathlib.Core.Bool.{Bool, true, false, not, cond, _&&_, true≢false}
 use mathlib.Core.List.{List, [], _∷_}
@@ -14,9 +14,9 @@ use borrow.Author.Tests.{ltb-true, ltb-false}
 use Rattle.refusals.specs.Refusals.{misshapen, notFinite, falling}
 use Rattle.float.proofs.Flags.{both-l, both-r}
 use Rattle.float.proofs.Order.{le-refl, le-trans, not-lt→le, le→not-lt, lt-is, lt→le}
+use Rattle.stops.specs.Lent.{Ramp}
 use Rattle.stops.specs.Stops.{posAt, colourAt, finiteRgba, shaped, eachStop, stopsCheck}
 use Rattle.stops.specs.Place.{Rising, firstAt, placeOf}
-use Rattle.stops.specs.declared.Kind.{Kind}
 use Rattle.stops.specs.declared.Checked.{Checked}
 use Rattle.stops.specs.declared.Checked.the-variants.{Fine, Refused}
 use Rattle.stops.specs.declared.Place.the-variants.{End, Nowhere, Between}
@@ -69,11 +69,11 @@ finite-number (inf s) h = refl
 finite-number (fin s m e) h = refl
 
 -- ---- a ramp that passes
-pub record Valid (kind : Kind) (ps cs : List Float) (ks : List ℕ) : Type 0 where
-  pub sized : Shape kind (length ps) (length cs) (length ks)
-  pub finite-at : (i : ℕ) → i < length ps → finite (posAt ps i) ≡ true
-  pub colour-finite : (i : ℕ) → i < length ps → finiteRgba (colourAt cs i) ≡ true
-  pub rising : Rising ps
+pub record Valid (ramp : Ramp) : Type 0 where
+  pub sized : Shape (ramp .kind) (length (ramp .positions)) (length (ramp .channels)) (length (ramp .codes))
+  pub finite-at : (i : ℕ) → i < length (ramp .positions) → finite (posAt (ramp .positions) i) ≡ true
+  pub colour-finite : (i : ℕ) → i < length (ramp .positions) → finiteRgba (colourAt (ramp .channels) i) ≡ true
+  pub rising : Rising (ramp .positions)
 
 split-check : (b : Bool) (x : Checked) → cond b x (Refused misshapen) ≡ Fine → (b ≡ true) × (x ≡ Fine)
 split-check true x h = (refl, h)
@@ -92,14 +92,16 @@ module _ (ps : List Float) (number : (i : ℕ) → i < length ps → isNan (posA
   pub rises : Rising ps
   rises i j a b = let e : i + (j - i) ≡ j = omega arith in subst (λ (k : ℕ). T (le (posAt ps i) (posAt ps k))) e (far (j - i) i (omega arith))
 
-pub valid-stops : (kind : Kind) (ps cs : List Float) (ks : List ℕ) → stopsCheck kind ps cs ks ≡ Fine → Valid kind ps cs ks
+pub valid-stops : (ramp : Ramp) → stopsCheck ramp ≡ Fine → Valid ramp
 unfolding stopsCheck
-valid-stops kind ps cs ks h =
-    let p = split-check (shaped kind (length ps) (length cs) (length ks)) (eachStop (length ps) 0 (inf true) ps cs) h in
+valid-stops ramp h =
+    let ps = ramp .positions in
+    let cs = ramp .channels in
+    let p = split-check (shaped (ramp .kind) (length ps) (length cs) (length (ramp .codes))) (eachStop (length ps) 0 (inf true) ps cs) h in
     let both : (i : ℕ) → i < length ps → (finite (posAt ps i) && finiteRgba (colourAt cs i)) ≡ true = λ i l. each (length ps) 0 (inf true) ps cs (p .1) i (omega arith) (omega arith) in
     let fin-at : (i : ℕ) → i < length ps → finite (posAt ps i) ≡ true = λ i l. both-l (finite (posAt ps i)) (finiteRgba (colourAt cs i)) (both i l) in
     record {
-      sized = shape kind (length ps) (length cs) (length ks) (p .0);
+      sized = shape (ramp .kind) (length ps) (length cs) (length (ramp .codes)) (p .0);
       finite-at = fin-at;
       colour-finite = λ i l. both-r (finite (posAt ps i)) (finiteRgba (colourAt cs i)) (both i l);
       rising = rises ps (λ i l. finite-number (posAt ps i) (fin-at i l)) (λ j l. after (length ps) 0 (inf true) ps cs (p .1) j (omega arith) (omega arith));
@@ -127,9 +129,11 @@ each-fine (suc n) i prev ps cs whole from next =
 both : {p q : Bool} → p ≡ true → q ≡ true → (p && q) ≡ true
 both p q = simp (p, q)
 
-pub passes-stops : (kind : Kind) (ps cs : List Float) (ks : List ℕ) → Valid kind ps cs ks → stopsCheck kind ps cs ks ≡ Fine
-passes-stops kind ps cs ks ok =
-    if-shaped kind ps cs ks (from-shape kind (length ps) (length cs) (length ks) (ok .sized))
+pub passes-stops : (ramp : Ramp) → Valid ramp → stopsCheck ramp ≡ Fine
+passes-stops ramp ok =
+    let ps = ramp .positions in
+    let cs = ramp .channels in
+    if-shaped ramp (from-shape (ramp .kind) (length ps) (length cs) (length (ramp .codes)) (ok .sized))
     ∙ each-fine (length ps) 0 (inf true) ps cs
     (λ j a b. both (ok .finite-at j (omega arith)) (ok .colour-finite j (omega arith)))
     (λ l. not-below-first (posAt ps 0))
@@ -172,17 +176,3 @@ module _ (ps : List Float) (two : 2 ≤ length ps) (numbers : (i : ℕ) → i < 
   pub pair-inside : (k : ℕ) → placeOf ps t ≡ Between k → (1 ≤ k) × (k < length ps)
   unfolding placeOf
   pair-inside k h = between-cases k (le t (posAt ps 0)) (le (posAt ps (length ps - 1)) t) (isNan t) refl refl refl h
-
-module _ (kind : Kind) (ps cs : List Float) (ks : List ℕ) (ok : Valid kind ps cs ks) (t : Float) where
-  end-cases : (i : ℕ) (a b n : Bool) → cond a (End 0) (cond b (End (length ps - 1)) (cond n Nowhere (Between (firstAt t ps)))) ≡ End i → i < length ps
-  end-cases i true b n h = let e : 0 ≡ i = cc in let l = ok .sized .least in omega arith
-  end-cases i false true n h = let e : length ps - 1 ≡ i = cc in let l = ok .sized .least in omega arith
-  end-cases i false false true h = let z : _≡_ {A = ℕ} 0 1 = cc in absurd (omega arith)
-  end-cases i false false false h = let z : _≡_ {A = ℕ} 0 1 = cc in absurd (omega arith)
-
-  pub end-inside : (i : ℕ) → placeOf ps t ≡ End i → i < length ps
-  unfolding placeOf
-  end-inside i h = end-cases i (le t (posAt ps 0)) (le (posAt ps (length ps - 1)) t) (isNan t) h
-
-  pub between-inside : (k : ℕ) → placeOf ps t ≡ Between k → (1 ≤ k) × (k < length ps)
-  between-inside k h = pair-inside ps (ok .sized .least) (λ i l. finite-number (posAt ps i) (ok .finite-at i l)) t k h

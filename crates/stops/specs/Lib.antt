@@ -1,3 +1,4 @@
+pub mod Lent
 pub mod Stops
 pub mod Answers
 pub mod Place

@@ -10,6 +10,7 @@ use Rattle.refusals.specs.Refusals.{misshapen, notFinite, falling}
 use Rattle.refusals.specs.Limits.{mostStops}
 use Rattle.blend.specs.declared.Rgba.{Rgba}
 use Rattle.blend.specs.declared.Stop.{Stop}
+use Rattle.stops.specs.Lent.{Ramp}
 use Rattle.stops.specs.declared.Kind.{Kind}
 use Rattle.stops.specs.declared.Kind.the-variants.{Linear, Smoothstep, Sharp, Basis, CatmullRom, Gimp}
 use Rattle.stops.specs.declared.Checked.{Checked}
@@ -49,5 +50,8 @@ eachStop (suc left) i prev ps cs =
     (Refused notFinite)
 
 -- 1, then stop by stop 2 and 3. Nothing is below the first stop's `prev`
-unfoldable pub stopsCheck : Kind → List Float → List Float → List ℕ → Checked
-stopsCheck kind ps cs ks = cond (shaped kind (length ps) (length cs) (length ks)) (eachStop (length ps) 0 (inf true) ps cs) (Refused misshapen)
+unfoldable pub stopsCheck : Ramp → Checked
+stopsCheck ramp =
+    cond (shaped (ramp .kind) (length (ramp .positions)) (length (ramp .channels)) (length (ramp .codes)))
+    (eachStop (length (ramp .positions)) 0 (inf true) (ramp .positions) (ramp .channels))
+    (Refused misshapen)

@@ -15,6 +15,7 @@ ghost use mathlib.Core.Path.{_≡_};
 ghost use mathlib.Core.Bool.{cond};
 ghost use Prim.Native.Nat.{_-_, _≤_};
 ghost use lib.Ieee.{lt};
+ghost use Rattle.stops.specs.Lent.{lentRamp};
 ghost use Rattle.stops.specs.Stops.{posAt, colourAt, stopAt, finiteRgba, isSharp, shaped, stopsCheck};
 ghost use Rattle.stops.specs.Answers.{Checks};
 ghost use Rattle.stops.specs.Place.{narrowedAt, placeIn};
@@ -163,7 +164,7 @@ fn is_shaped(kind: Kind, n: usize, m: usize, codes: usize) -> bool
 
 // Refusal 1, then stop by stop 2 and 3.
 pub fn check(kind: Kind, positions: &[f32], channels: &[f32], codes: &[u8]) -> Checked
-    ensures { λ r. ⌜ Checks (stopsCheck kind (now (positions .entry)) (now (channels .entry)) (now (codes .entry))) r ⌝ }
+    ensures { λ r. ⌜ Checks (stopsCheck (lentRamp kind positions channels codes)) r ⌝ }
 {
     let n = positions.len();
     if !is_shaped(kind, n, channels.len(), codes.len()) {

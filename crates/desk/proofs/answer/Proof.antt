@@ -1,9 +1,9 @@
 -- `answer` meets its contract: by the case of what was read. Assumes nothing.
-use borrow.Author.Needs.{needs}
-use native.Mathlib.Omega.{arith}
 use mathlib.Core.Path.{refl, sym}
+use native.Mathlib.Omega.{arith}
 use lib.Seq.{length-take-le}
-use Rattle.desk.proofs.Making.{puts-as, reads-unread, reads-ready, unread-text, too-many-stops, ramp-read}
+use Rattle.desk.proofs.Making.{puts-as, too-many-stops, ramp-read, reads-unread, reads-ready, unread-text}
+use borrow.Author.Needs.{needs}
 use Rattle.desk.proofs.answer.Statement.{statement}
 use Rattle.desk.proofs.answer.Tie as tie
 
@@ -25,6 +25,9 @@ put-unread-requires c κs = search needs
 enum-known-kind : tie.Need-enum-known-kind
 enum-known-kind c = search needs
 
+cast-put-refused : tie.Need-cast-put-refused
+cast-put-refused c = search needs
+
 put-refused-requires : tie.Need-put-refused-requires
 put-refused-requires c κs = search needs
 
@@ -43,8 +46,8 @@ array-share-prefix-positions c = search needs
 slice-aggregate-put-ramp : tie.Need-slice-aggregate-put-ramp
 slice-aggregate-put-ramp c = sym (length-take-le _ (c .before .before .before .before .before .before .before .before .read .last .1 .0) (omega (arith, c .before .before .before .before .before .before .before .before .read .kept .1 .0)))
 
-array-borrow-prefix-channels : tie.Need-array-borrow-prefix-channels
-array-borrow-prefix-channels c = search needs
+array-share-prefix-channels : tie.Need-array-share-prefix-channels
+array-share-prefix-channels c = search needs
 
 slice-aggregate-put-ramp-2 : tie.Need-slice-aggregate-put-ramp-2
 slice-aggregate-put-ramp-2 c = sym (length-take-le _ (c .before .before .before .before .before .before .before .before .before .read .last .1 .1 .0) (omega (arith, c .before .before .before .before .before .before .before .before .before .read .kept .1 .1 .0)))
@@ -65,7 +68,7 @@ same-length-3 : tie.Need-same-length-3
 same-length-3 c = search needs
 
 returns-3 : tie.Need-returns-3
-returns-3 c = puts-as (c .before .before .before .put-ramp .ensures) (ramp-read (reads-ready (c .before .before .before .before .before .before .before .before .before .before .before .before .before .before .read .ensures) (c .before .before .before .before .before .before .before .before .before .before .kind .given .1)) refl refl (c .before .before .before .before .before .before .before .before .if1 .left))
+returns-3 c = puts-as (c .before .before .put-ramp .ensures) (ramp-read (reads-ready (c .before .before .before .before .before .before .before .before .before .before .before .before .before .read .ensures) (c .before .before .before .before .before .before .before .before .before .kind .given .1)) refl refl (c .before .before .before .before .before .before .before .if1 .left))
 
 pub answer-spec : {M : Type 1} → statement M
 answer-spec =
@@ -77,13 +80,14 @@ answer-spec =
     enum-known-line
     put-unread-requires
     enum-known-kind
+    cast-put-refused
     put-refused-requires
     same-length
     returns
     mul-m
     array-share-prefix-positions
     slice-aggregate-put-ramp
-    array-borrow-prefix-channels
+    array-share-prefix-channels
     slice-aggregate-put-ramp-2
     slice-aggregate-put-ramp-3
     put-ramp-requires

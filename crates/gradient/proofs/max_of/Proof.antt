@@ -3,7 +3,7 @@ use mathlib.Core.Path.{sym, _∙_, ap}
 use Prim.Native.Nat.{ℕ}
 use denote.Ref.{now}
 use Rattle.stops.specs.Stops.{posAt}
-use Rattle.gradient.specs.Ramp.{maxOf}
+use Rattle.gradient.specs.Ramp.{maxIn}
 use borrow.Author.Needs.{needs}
 use Rattle.gradient.proofs.max_of.Statement.{statement}
 use Rattle.gradient.proofs.max_of.Tie as tie
@@ -12,7 +12,7 @@ is-gimp-requires : tie.Need-is-gimp-requires
 is-gimp-requires c κs = search needs
 
 returns : tie.Need-returns
-unfolding maxOf
+unfolding maxIn
 returns c = simp (sym (c .before .is-gimp .ensures) ∙ c .if1 .taken)
 
 less-requires : tie.Need-less-requires
@@ -22,7 +22,7 @@ item-requires : tie.Need-item-requires
 item-requires c κs = search needs
 
 returns-2 : tie.Need-returns-2
-unfolding maxOf
+unfolding maxIn
 returns-2 c = c .item .ensures ∙ ap (λ (i : ℕ). posAt (now (c .before .before .before .before .before .args .positions)) i) (c .before .less .ensures) ∙ simp (sym (c .before .before .before .is-gimp .ensures) ∙ c .before .before .if1 .left)
 
 pub max-of-spec : {M : Type 1} → statement M

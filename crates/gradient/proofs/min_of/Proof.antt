@@ -1,6 +1,6 @@
 -- `min_of` meets its contract: by the kind. Assumes nothing.
 use mathlib.Core.Path.{sym, _∙_}
-use Rattle.gradient.specs.Ramp.{minOf}
+use Rattle.gradient.specs.Ramp.{minIn}
 use borrow.Author.Needs.{needs}
 use Rattle.gradient.proofs.min_of.Statement.{statement}
 use Rattle.gradient.proofs.min_of.Tie as tie
@@ -9,14 +9,14 @@ is-gimp-requires : tie.Need-is-gimp-requires
 is-gimp-requires c κs = search needs
 
 returns : tie.Need-returns
-unfolding minOf
+unfolding minIn
 returns c = simp (sym (c .before .is-gimp .ensures) ∙ c .if1 .taken)
 
 item-requires : tie.Need-item-requires
 item-requires c κs = search needs
 
 returns-2 : tie.Need-returns-2
-unfolding minOf
+unfolding minIn
 returns-2 c = c .item .ensures ∙ simp (sym (c .before .before .is-gimp .ensures) ∙ c .before .if1 .left)
 
 pub min-of-spec : {M : Type 1} → statement M

@@ -19,10 +19,10 @@ check-counts-requires : tie.Need-check-counts-requires
 check-counts-requires c κs = search needs
 
 returns : tie.Need-returns
-returns c = checks (sample-refuses _ _ _ _ _ _ _ (sym (c .before .before .before .check-sample .ensures) ∙ c .before .n .given .1))
+returns c = checks (sample-refuses _ _ _ (sym (c .before .before .before .check-sample .ensures) ∙ c .before .n .given .1))
 
 returns-2 : tie.Need-returns-2
-returns-2 c = checks (sample-passes _ _ _ _ _ _ _ (sym (c .before .before .before .check-sample .ensures) ∙ c .before .enum-told .given .1) (c .check-counts .ensures))
+returns-2 c = checks (sample-passes _ _ _ (sym (c .before .before .before .check-sample .ensures) ∙ c .before .enum-told .given .1) (c .check-counts .ensures))
 
 pub check-thin-spec : {M : Type 1} → statement M
 check-thin-spec =

@@ -1,6 +1,7 @@
 -- `sample` meets its contract: a refusal changes nothing; else the record is the ramp's. Assumes nothing.
 use mathlib.Core.Path.{sym, _∙_}
 use native.Mathlib.Omega.{arith}
+use Rattle.stops.specs.Lent.{rampIn}
 use Rattle.gradient.specs.Ramp.{anyColour}
 use Rattle.linearize.specs.Difference.{exceeds}
 use Rattle.linearize.proofs.Thresholds.{far-by-cutoff}
@@ -30,16 +31,16 @@ max-of-requires : tie.Need-max-of-requires
 max-of-requires c κs = search needs
 
 sample-cells-requires : tie.Need-sample-cells-requires
-sample-cells-requires c κs = record-lengths _ _ _ _ _ _ (sym (c .before .before .before .before .before .before .before .check-sample .ensures) ∙ c .before .before .before .before .before .enum-told .given .1)
+sample-cells-requires c κs = record-lengths _ _ _ (sym (c .before .before .before .before .before .before .before .check-sample .ensures) ∙ c .before .before .before .before .before .enum-told .given .1)
 
 mul-evaluations : tie.Need-mul-evaluations
 mul-evaluations c =
     let s = (c .before .before .before .before .before .before .before .before .before .before .before .before .before .before .before .before .before .before) in
-    let g = anyColour (s .args .kind) (s .args .positions .now) (s .args .channels .now) (s .args .codes .now) in
+    let g = anyColour (rampIn (s .args .kind) (s .args .positions) (s .args .channels) (s .args .codes)) in
     omega (arith, c .before .before .before .before .sample-cells .ensures .tried, tries-bound g (exceeds (c .before .before .before .before .before .before .before .before .before .cutoff-of .result)) (c .before .before .before .before .before .before .before .before .min-of .result) (c .before .before .before .before .before .before .before .max-of .result))
 
 returns : tie.Need-returns
-returns c = sample-refused _ _ _ _ _ _ _ _ (sym (c .before .before .before .check-sample .ensures) ∙ c .before .n .given .1)
+returns c = sample-refused _ _ _ _ (sym (c .before .before .before .check-sample .ensures) ∙ c .before .n .given .1)
 
 same-length : tie.Need-same-length
 same-length c = search needs
@@ -49,9 +50,7 @@ same-length-2 c = search needs
 
 returns-2 : tie.Need-returns-2
 returns-2 c =
-    let s = (c .before .before .before .before .before .before .before .before .before .before .before .before .before .before .before .before .before .before) in
-    sample-done (s .args .kind) (s .args .positions .now) (s .args .channels .now) (s .args .codes .now) (s .args .threshold) (s .args .rows .now) (s .args .counts .now) (exceeds (c .before .before .before .before .before .before .before .before .before .cutoff-of .result)) (c .before .before .before .before .before .before .before .before .min-of .result) (c .before .before .before .before .before .before .before .max-of .result) (c .before .before .before .before .sample-cells .last .1 .1 .1 .1 .1 .1 .1 .0) (c .before .before .before .before .sample-cells .last .1 .1 .1 .1 .1 .1 .1 .1 .0) (c .before .before .before .before .sample-cells .result)
-    (sym (c .before .before .before .before .before .before .before .before .before .before .before .before .check-sample .ensures) ∙ c .before .before .before .before .before .before .before .before .before .before .enum-told .given .1) (far-by-cutoff _ _ (c .before .before .before .before .before .before .before .before .before .cutoff-of .ensures)) (c .before .before .before .before .before .before .before .before .min-of .ensures) (c .before .before .before .before .before .before .before .max-of .ensures) (c .before .before .before .before .sample-cells .ensures)
+    sample-done _ _ _ _ _ _ _ _ (sym (c .before .before .before .before .before .before .before .before .before .before .before .before .check-sample .ensures) ∙ c .before .before .before .before .before .before .before .before .before .before .enum-told .given .1) (far-by-cutoff _ _ (c .before .before .before .before .before .before .before .before .before .cutoff-of .ensures)) (c .before .before .before .before .before .before .before .before .min-of .ensures) (c .before .before .before .before .before .before .before .max-of .ensures) (c .before .before .before .before .sample-cells .ensures)
 
 pub sample-spec : {M : Type 1} → statement M
 sample-spec =

@@ -2,7 +2,6 @@
 use mathlib.Core.Path.{sym, _∙_}
 use Rattle.linearize.proofs.Checks.{ready}
 use Rattle.linearize.proofs.Answers.{thin-refused, thin-done}
-use Rattle.linearize.specs.Difference.{exceeds}
 use Rattle.linearize.proofs.Thresholds.{far-by-cutoff}
 use borrow.Author.Needs.{needs}
 use Rattle.linearize.proofs.thin.Statement.{statement}
@@ -24,10 +23,10 @@ max-of-requires : tie.Need-max-of-requires
 max-of-requires c κs = search needs
 
 thin-record-requires : tie.Need-thin-record-requires
-thin-record-requires c κs = ready _ _ _ _ _ _ (sym (c .before .before .before .before .before .before .check-thin .ensures .answer) ∙ c .before .before .before .before .enum-told .given .1)
+thin-record-requires c κs = ready _ _ (sym (c .before .before .before .before .before .before .check-thin .ensures .answer) ∙ c .before .before .before .before .enum-told .given .1)
 
 returns : tie.Need-returns
-returns c = thin-refused _ _ _ _ _ _ _ _ _ _ (sym (c .before .before .before .check-thin .ensures .answer) ∙ c .before .n .given .1)
+returns c = thin-refused _ _ _ _ _ (sym (c .before .before .before .check-thin .ensures .answer) ∙ c .before .n .given .1)
 
 same-length : tie.Need-same-length
 same-length c = search needs
@@ -37,10 +36,7 @@ same-length-2 c = search needs
 
 returns-2 : tie.Need-returns-2
 returns-2 c =
-    let a = c .before .before .before .before .before .before .before .before .before .before .before .before .before .before .before .before .before .before .before .args in
-    let h = (c .before .before .before .before .thin-record) in
-    thin-done (a .kind) (a .positions .now) (a .channels .now) (a .codes .now) (a .threshold) (a .rows .now) (a .counts .now) (a .out-positions .now) (a .out-channels .now) (exceeds (c .before .before .before .before .before .before .before .before .cutoff-of .result)) (c .before .before .before .before .before .before .before .max-of .result)
-    (h .last .1 .1 .1 .1 .1 .1 .1 .1 .0) (h .last .1 .1 .1 .1 .1 .1 .1 .1 .1 .0) (h .result) (sym (c .before .before .before .before .before .before .before .before .before .before .before .check-thin .ensures .answer) ∙ c .before .before .before .before .before .before .before .before .before .enum-told .given .1) (far-by-cutoff _ _ (c .before .before .before .before .before .before .before .before .cutoff-of .ensures)) (c .before .before .before .before .before .before .before .max-of .ensures) (h .ensures)
+    thin-done _ _ _ _ _ _ _ (sym (c .before .before .before .before .before .before .before .before .before .before .before .check-thin .ensures .answer) ∙ c .before .before .before .before .before .before .before .before .before .enum-told .given .1) (far-by-cutoff _ _ (c .before .before .before .before .before .before .before .before .cutoff-of .ensures)) (c .before .before .before .before .before .before .before .max-of .ensures) (c .before .before .before .before .thin-record .ensures)
 
 pub thin-spec : {M : Type 1} → statement M
 thin-spec =

@@ -1,6 +1,7 @@
 -- `at` meets its contract: the check, then the colour or the refusal. Assumes nothing.
 use denote.Ref.{now}
 use mathlib.Core.Path.{sym, _∙_}
+use Rattle.stops.specs.Lent.{rampIn}
 use Rattle.paint.proofs.Painting.{at-coloured, at-refused}
 use borrow.Author.Needs.{needs}
 use Rattle.paint.proofs.at.Statement.{statement}
@@ -19,10 +20,10 @@ enum-known-n : tie.Need-enum-known-n
 enum-known-n c = search needs
 
 returns : tie.Need-returns
-returns c = let s = c .before .before .before .before .before .before .before in at-coloured (s .args .kind) (now (s .args .positions)) (now (s .args .channels)) (now (s .args .codes)) (sym (c .before .before .before .check .ensures .answer) ∙ c .before .enum-told .given .1) (s .args .t) (c .colour-at .ensures)
+returns c = let s = c .before .before .before .before .before .before .before in at-coloured (rampIn (s .args .kind) (s .args .positions) (s .args .channels) (s .args .codes)) (sym (c .before .before .before .check .ensures .answer) ∙ c .before .enum-told .given .1) (s .args .t) (c .colour-at .ensures)
 
 returns-2 : tie.Need-returns-2
-returns-2 c = let s = c .before .before .before .before .before .before .before in at-refused (s .args .kind) (now (s .args .positions)) (now (s .args .channels)) (now (s .args .codes)) (sym (c .before .before .before .check .ensures .answer) ∙ c .before .n .given .1) (s .args .t)
+returns-2 c = let s = c .before .before .before .before .before .before .before in at-refused (rampIn (s .args .kind) (s .args .positions) (s .args .channels) (s .args .codes)) (sym (c .before .before .before .check .ensures .answer) ∙ c .before .n .given .1) (s .args .t)
 
 pub at-spec : {M : Type 1} → statement M
 at-spec =

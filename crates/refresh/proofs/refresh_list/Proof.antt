@@ -1,11 +1,14 @@
 -- `refresh_list` meets its contract: a refresh, then the list from the changed ramp; a refusal of the first changes nothing. Assumes nothing.
 use mathlib.Core.Path.{sym, ap}
+use mathlib.Core.List.{List}
 use native.Mathlib.Omega.{arith}
 use lib.ListN.{length, take}
+use lib.Ieee.{Float}
 use lib.Seq.{length-take-le}
+use Rattle.stops.specs.Lent.{rampOf}
 use Rattle.linearize.proofs.Calls.{thin-most}
 use Rattle.refresh.specs.RefreshDesk.{evaluationsOfRefreshed}
-use Rattle.refresh.proofs.EditChecks.{channels-there, edited}
+use Rattle.refresh.proofs.EditChecks.{channels-there, allowed}
 use Rattle.refresh.proofs.RefreshAnswers.{refresh-most, done-fine, refresh-list-refused, refresh-list-done}
 use borrow.Author.Needs.{needs}
 use Rattle.refresh.proofs.refresh_list.Statement.{statement}
@@ -27,30 +30,24 @@ change-requires : tie.Need-change-requires
 change-requires c κs =
     let a = c .before .before .before .before .before .before .before .before .before .before .before .before .before .before .before .before .before .before .args in
     let f = c .before .before .before .before .before .before .before .before .refresh in
-    let rows′ = f .last .1 .1 .1 .1 .1 .1 .1 .0 in
-    let counts′ = f .last .1 .1 .1 .1 .1 .1 .1 .1 .0 in
     let n = c .before .before .n2 .given in
-    let there = channels-there (a .kind) (a .positions .now) (a .channels .now) (a .codes .now) (a .k) (a .colour) (edited (a .kind) (a .positions .now) (a .channels .now) (a .codes .now) (a .k) (a .colour) (a .rows .now) (a .counts .now) (done-fine (a .kind) (a .positions .now) (a .channels .now) (a .codes .now) (a .k) (a .colour) (a .threshold) (a .rows .now) rows′ (a .counts .now) counts′ (f .result) (f .ensures) (n .0 .0) (n .1))) in
+    let there = channels-there _ _ (allowed _ _ _ (done-fine _ _ _ _ _ (f .ensures) _ (n .1))) in
     (there .0, there .1)
 
 array-share-prefix-copy : tie.Need-array-share-prefix-copy
 array-share-prefix-copy c =
     let a = c .before .before .before .before .before .before .before .before .before .before .before .before .before .before .before .before .before .before .before .before .args in
     let f = c .before .before .before .before .before .before .before .before .before .before .refresh in
-    let rows′ = f .last .1 .1 .1 .1 .1 .1 .1 .0 in
-    let counts′ = f .last .1 .1 .1 .1 .1 .1 .1 .1 .0 in
     let n = c .before .before .before .before .n2 .given in
-    let there = channels-there (a .kind) (a .positions .now) (a .channels .now) (a .codes .now) (a .k) (a .colour) (edited (a .kind) (a .positions .now) (a .channels .now) (a .codes .now) (a .k) (a .colour) (a .rows .now) (a .counts .now) (done-fine (a .kind) (a .positions .now) (a .channels .now) (a .codes .now) (a .k) (a .colour) (a .threshold) (a .rows .now) rows′ (a .counts .now) counts′ (f .result) (f .ensures) (n .0 .0) (n .1))) in
+    let there = channels-there _ _ (allowed _ _ _ (done-fine _ _ _ _ _ (f .ensures) _ (n .1))) in
     omega (arith, there .1, c .before .change .kept .1 .1 .1 .0)
 
 slice-aggregate-thin : tie.Need-slice-aggregate-thin
 slice-aggregate-thin c =
     let a = c .before .before .before .before .before .before .before .before .before .before .before .before .before .before .before .before .before .before .before .before .before .args in
     let f = c .before .before .before .before .before .before .before .before .before .before .before .refresh in
-    let rows′ = f .last .1 .1 .1 .1 .1 .1 .1 .0 in
-    let counts′ = f .last .1 .1 .1 .1 .1 .1 .1 .1 .0 in
     let n = c .before .before .before .before .before .n2 .given in
-    let there = channels-there (a .kind) (a .positions .now) (a .channels .now) (a .codes .now) (a .k) (a .colour) (edited (a .kind) (a .positions .now) (a .channels .now) (a .codes .now) (a .k) (a .colour) (a .rows .now) (a .counts .now) (done-fine (a .kind) (a .positions .now) (a .channels .now) (a .codes .now) (a .k) (a .colour) (a .threshold) (a .rows .now) rows′ (a .counts .now) counts′ (f .result) (f .ensures) (n .0 .0) (n .1))) in
+    let there = channels-there _ _ (allowed _ _ _ (done-fine _ _ _ _ _ (f .ensures) _ (n .1))) in
     sym (length-take-le _ (c .before .before .change .last .1 .1 .1 .0) (omega (arith, there .1, c .before .before .change .kept .1 .1 .1 .0)))
 
 thin-requires : tie.Need-thin-requires
@@ -60,13 +57,11 @@ with-refresh-requires : tie.Need-with-refresh-requires
 with-refresh-requires c κs =
     let a = c .before .before .before .before .before .before .before .before .before .before .before .before .before .before .before .before .before .before .before .before .before .before .before .before .before .before .before .before .before .before .args in
     let f = c .before .before .before .before .before .before .before .before .before .before .before .before .before .before .before .before .before .before .before .before .refresh in
-    let rows′ = f .last .1 .1 .1 .1 .1 .1 .1 .0 in
-    let counts′ = f .last .1 .1 .1 .1 .1 .1 .1 .1 .0 in
     let n = c .before .before .before .before .before .before .before .before .before .before .before .before .before .before .n2 .given in
     let h = c .before .before .before .before .thin in
     let copy = c .before .before .before .before .before .before .before .before .before .before .before .change .last .1 .1 .1 .0 in (
-      omega (arith, ap evaluationsOfRefreshed (n .1), refresh-most (a .kind) (a .positions .now) (a .channels .now) (a .codes .now) (a .k) (a .colour) (a .threshold) (a .rows .now) rows′ (a .counts .now) counts′ (f .result) (f .ensures)),
-      thin-most (a .kind) (a .positions .now) (take (length (a .channels .now)) copy) (a .codes .now) (a .threshold) rows′ counts′ (a .out-positions .now) (h .last .1 .1 .1 .1 .1 .1 .1 .0) (a .out-channels .now) (h .last .1 .1 .1 .1 .1 .1 .1 .1 .0) (h .result) (h .ensures),
+      omega (arith, ap evaluationsOfRefreshed (n .1), refresh-most _ _ _ _ _ (f .ensures)),
+      thin-most _ _ _ _ _ _ (h .ensures),
     )
 
 same-length : tie.Need-same-length
@@ -79,7 +74,7 @@ returns : tie.Need-returns
 returns c =
     let a = c .before .before .before .before .before .before .before .before .before .before .before .before .before .before .before .before .before .args in
     let f = c .before .before .before .before .before .before .before .refresh in
-    refresh-list-refused (a .kind) (a .positions .now) (a .channels .now) (a .codes .now) (a .k) (a .colour) (a .threshold) (a .rows .now) (f .last .1 .1 .1 .1 .1 .1 .1 .0) (a .counts .now) (f .last .1 .1 .1 .1 .1 .1 .1 .1 .0) (f .result) (f .ensures) (a .out-positions .now) (a .out-channels .now) (c .before .n .given .0 .0) (c .before .n .given .1)
+    refresh-list-refused _ _ _ _ _ (f .ensures) _ _ (c .before .n .given .1)
 
 same-length-3 : tie.Need-same-length-3
 same-length-3 c = search needs
@@ -97,12 +92,10 @@ returns-2 : tie.Need-returns-2
 returns-2 c =
     let a = c .before .before .before .before .before .before .before .before .before .before .before .before .before .before .before .before .before .before .before .before .before .before .before .before .before .before .before .before .before .before .before .args in
     let f = c .before .before .before .before .before .before .before .before .before .before .before .before .before .before .before .before .before .before .before .before .before .refresh in
-    let rows′ = f .last .1 .1 .1 .1 .1 .1 .1 .0 in
-    let counts′ = f .last .1 .1 .1 .1 .1 .1 .1 .1 .0 in
     let n = c .before .before .before .before .before .before .before .before .before .before .before .before .before .before .before .n2 .given in
     let h = c .before .before .before .before .before .thin in
     let copy = c .before .before .before .before .before .before .before .before .before .before .before .before .change .last .1 .1 .1 .0 in
-    refresh-list-done (a .kind) (a .positions .now) (a .channels .now) (a .codes .now) (a .k) (a .colour) (a .threshold) (a .rows .now) rows′ (a .counts .now) counts′ (f .result) (f .ensures) (a .out-positions .now) (a .out-channels .now) (n .0 .0) (n .1) (take (length (a .channels .now)) copy) (h .last .1 .1 .1 .1 .1 .1 .1 .0) (h .last .1 .1 .1 .1 .1 .1 .1 .1 .0) (h .result) (c .with-refresh .result) (c .before .before .before .before .before .before .before .before .before .before .before .before .change .ensures) (h .ensures) (c .with-refresh .ensures)
+    refresh-list-done _ _ _ _ _ (f .ensures) _ (n .1) (rampOf (a .kind) (a .positions .now) (take (length (a .channels .now)) copy) (a .codes .now)) _ _ _ (ap (λ (l : List Float). rampOf (a .kind) (a .positions .now) l (a .codes .now)) (c .before .before .before .before .before .before .before .before .before .before .before .before .change .ensures)) (h .ensures) (c .with-refresh .ensures)
 
 pub refresh-list-spec : {M : Type 1} → statement M
 refresh-list-spec =

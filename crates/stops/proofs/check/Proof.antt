@@ -9,6 +9,7 @@ use lib.Ieee.{Float, inf, div, neg, ofBits}
 use lib.Ieee.Scale.{finite}
 use denote.Ref.{now}
 use Rattle.float.proofs.Flags.{failed, passed}
+use Rattle.stops.specs.Lent.{rampOf, rampIn}
 use Rattle.stops.specs.Stops.{posAt, colourAt, finiteRgba, eachStop, stopsCheck}
 use Rattle.stops.specs.declared.Kind.{Kind}
 use Rattle.stops.proofs.Checking.{checks, not-shaped, if-shaped, bad-position, bad-colour, falls, next, done, from-start}
@@ -35,8 +36,8 @@ abbrev ks : tie.At-loop Inv-loop μ-loop → List ℕ
 ks c = now (c .before .before .before .before .before .before .args .codes)
 
 -- what is left from here on is the answer
-answer : (c : tie.At-loop Inv-loop μ-loop) → eachStop (length (ps c) - c .loop .i) (c .loop .i) (c .loop .prev) (ps c) (cs c) ≡ stopsCheck (kind c) (ps c) (cs c) (ks c)
-answer c = c .loop .inv .1 ∙ sym (if-shaped (kind c) (ps c) (cs c) (ks c) (passed (c .before .if1 .left) (c .before .before .is-shaped .ensures)))
+answer : (c : tie.At-loop Inv-loop μ-loop) → eachStop (length (ps c) - c .loop .i) (c .loop .i) (c .loop .prev) (ps c) (cs c) ≡ stopsCheck (rampOf (kind c) (ps c) (cs c) (ks c))
+answer c = c .loop .inv .1 ∙ sym (if-shaped (rampOf (kind c) (ps c) (cs c) (ks c)) (passed (c .before .if1 .left) (c .before .before .is-shaped .ensures)))
 
 -- past the tests of stop i
 position-fine : (c : tie.Else3 Inv-loop μ-loop) → finite (posAt (ps (c .before .before .before .before .before .before .before)) (c .before .before .before .before .before .before .before .loop .i)) ≡ true
@@ -52,7 +53,7 @@ returns : tie.Need-returns Inv-loop μ-loop
 returns c =
     checks
     (let s = c .before .before .before .before .before in
-    not-shaped (s .args .kind) (now (s .args .positions)) (now (s .args .channels)) (now (s .args .codes)) (failed (c .if1 .taken) (c .before .is-shaped .ensures)))
+    not-shaped (rampIn (s .args .kind) (s .args .positions) (s .args .channels) (s .args .codes)) (failed (c .if1 .taken) (c .before .is-shaped .ensures)))
 
 loop-holds : tie.Need-loop-holds Inv-loop μ-loop
 unfolding div neg ofBits

@@ -20,7 +20,7 @@ refreshed-shown-requires : tie.Need-refreshed-shown-requires
 refreshed-shown-requires c κs = search needs
 
 returns : tie.Need-returns
-returns c = of-no-kind (refreshed.Refused misshapen) (c .before .before .before .kind-of .ensures) (c .before .enum-told .given .1) (refl, (refl, refl)) (c .refreshed-shown .ensures)
+returns c = of-no-kind (refreshed.Refused misshapen) (c .before .before .before .kind-of .ensures) (c .before .enum-told .given .1) (refl, refl) (c .refreshed-shown .ensures)
 
 refresh-requires : tie.Need-refresh-requires
 refresh-requires c κs = search needs

@@ -20,7 +20,7 @@ listed-shown-requires : tie.Need-listed-shown-requires
 listed-shown-requires c κs = search needs
 
 returns : tie.Need-returns
-returns c = of-no-kind (listed.Refused misshapen) (c .before .before .before .kind-of .ensures) (c .before .enum-told .given .1) (refl, (refl, (refl, (refl, refl)))) (c .listed-shown .ensures)
+returns c = of-no-kind (listed.Refused misshapen) (c .before .before .before .kind-of .ensures) (c .before .enum-told .given .1) (refl, (refl, refl)) (c .listed-shown .ensures)
 
 refresh-list-requires : tie.Need-refresh-list-requires
 refresh-list-requires c κs = search needs

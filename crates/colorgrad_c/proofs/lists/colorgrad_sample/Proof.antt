@@ -20,7 +20,7 @@ sampled-shown-requires : tie.Need-sampled-shown-requires
 sampled-shown-requires c κs = search needs
 
 returns : tie.Need-returns
-returns c = of-no-kind (sampled.Refused misshapen) (c .before .before .before .kind-of .ensures) (c .before .enum-told .given .1) (refl, (refl, refl)) (c .sampled-shown .ensures)
+returns c = of-no-kind (sampled.Refused misshapen) (c .before .before .before .kind-of .ensures) (c .before .enum-told .given .1) (refl, refl) (c .sampled-shown .ensures)
 
 sample-requires : tie.Need-sample-requires
 sample-requires c κs = search needs

@@ -1,6 +1,7 @@
--- `put_edited` meets its contract: the record is that of the ramp as it was. Assumes nothing.
+-- `put_edited` meets its contract: the record is that of the ramp as it was, and the list is the one that the refresh makes. Assumes nothing.
+use Rattle.refresh.proofs.RefreshAnswers.{refresh-list-most}
+use Rattle.desk.proofs.Making.{puts-as, sample-no, sample-few, relist-fits, relist-same}
 use borrow.Author.Needs.{needs}
-use Rattle.desk.proofs.Making.{puts-as, sample-no, sample-few, sample-yes}
 use Rattle.desk.proofs.calls.put_edited.Statement.{statement}
 use Rattle.desk.proofs.calls.put_edited.Tie as tie
 
@@ -19,8 +20,14 @@ put-refused-requires c κs = search needs
 enum-known-n : tie.Need-enum-known-n
 enum-known-n c = search needs
 
-put-refreshed-requires : tie.Need-put-refreshed-requires
-put-refreshed-requires c κs = (c .before .before .before .before .before .before .before .before .before .before .before .before .before .before .before .before .before .before .before .before .before .before .before .before .before .pre, sample-few (c .before .before .before .before .before .before .before .before .before .before .before .before .before .before .before .before .before .before .before .before .before .before .before .before .before .args .edit) (c .before .before .before .before .before .before .before .before .before .before .before .before .before .sample .ensures) (c .before .before .before .before .before .before .before .n .given .1))
+refresh-list-requires : tie.Need-refresh-list-requires
+refresh-list-requires c κs = search needs
+
+with-before-requires : tie.Need-with-before-requires
+with-before-requires c κs = (sample-few (c .before .before .before .before .before .before .before .before .before .before .before .before .before .before .before .before .before .before .before .before .before .before .before .before .before .before .before .before .before .before .before .before .args .edit) (c .before .before .before .before .before .before .before .before .before .before .before .before .before .before .before .before .before .before .before .before .before .sample .ensures) (c .before .before .before .before .before .before .before .before .before .before .before .before .before .before .before .n .given .1), refresh-list-most _ _ _ _ _ _ (c .before .before .before .before .before .before .before .before .before .refresh-list .ensures))
+
+put-listed-requires : tie.Need-put-listed-requires
+put-listed-requires c κs = relist-fits (c .before .before .before .before .before .before .before .before .before .before .before .before .before .before .before .before .before .before .before .before .before .before .before .before .before .before .before .before .before .before .before .before .before .before .before .args .edit) (c .before .before .before .before .before .before .before .before .before .before .before .before .before .before .before .before .before .before .before .before .before .before .before .before .sample .ensures) (c .before .before .before .before .before .before .before .before .before .before .before .before .before .before .before .before .before .before .n .given .1) (c .before .before .before .before .before .before .before .before .before .before .before .before .before .before .before .before .before .before .before .before .before .before .before .before .before .before .before .before .before .before .before .before .before .before .before .pre) (c .before .before .before .before .before .before .before .before .before .before .before .before .refresh-list .ensures) (c .before .before .with-before .ensures)
 
 same-length : tie.Need-same-length
 same-length c = search needs
@@ -31,11 +38,11 @@ same-length-2 c = search needs
 same-length-3 : tie.Need-same-length-3
 same-length-3 c = search needs
 
+returns : tie.Need-returns
+returns c = puts-as (c .before .before .put-refused .ensures) (sample-no (c .before .before .before .before .before .before .before .before .before .before .before .before .before .before .before .before .before .before .before .before .before .before .args .edit) (c .before .before .before .before .before .before .before .before .before .before .before .sample .ensures) (c .before .before .before .before .before .number .given .1))
+
 same-length-4 : tie.Need-same-length-4
 same-length-4 c = search needs
-
-returns : tie.Need-returns
-returns c = puts-as (c .before .before .put-refused .ensures) (sample-no (c .before .before .before .before .before .before .before .before .before .before .before .before .before .before .before .before .before .before .before .before .before .before .before .args .edit) (c .before .before .before .before .before .before .before .before .before .before .before .sample .ensures) (c .before .before .before .before .before .number .given .1))
 
 same-length-5 : tie.Need-same-length-5
 same-length-5 c = search needs
@@ -49,14 +56,8 @@ same-length-7 c = search needs
 same-length-8 : tie.Need-same-length-8
 same-length-8 c = search needs
 
-same-length-9 : tie.Need-same-length-9
-same-length-9 c = search needs
-
-same-length-10 : tie.Need-same-length-10
-same-length-10 c = search needs
-
 returns-2 : tie.Need-returns-2
-returns-2 c = puts-as (c .before .before .before .before .before .before .before .before .before .before .before .before .put-refreshed .ensures) (sample-yes (c .before .before .before .before .before .before .before .before .before .before .before .before .before .before .before .before .before .before .before .before .before .before .before .before .before .before .before .before .before .before .before .before .before .before .before .before .before .before .args .edit) (c .before .before .before .before .before .before .before .before .before .before .before .before .before .before .before .before .before .before .before .before .before .before .before .before .before .before .sample .ensures) (c .before .before .before .before .before .before .before .before .before .before .before .before .before .before .before .before .before .before .before .before .n .given .1))
+returns-2 c = puts-as (c .before .before .put-listed .ensures) (relist-same (c .before .before .before .before .before .before .before .before .before .before .before .before .before .before .before .before .before .before .before .before .before .before .before .before .before .before .before .before .before .before .before .before .before .before .before .before .before .before .args .edit) (c .before .before .before .before .before .before .before .before .before .before .before .before .before .before .before .before .before .before .before .before .before .before .before .before .before .before .before .sample .ensures) (c .before .before .before .before .before .before .before .before .before .before .before .before .before .before .before .before .before .before .before .before .before .n .given .1) (c .before .before .before .before .before .before .before .before .before .before .before .before .before .before .before .before .before .before .before .before .before .before .before .before .before .before .before .before .before .before .before .before .before .before .before .before .before .before .pre) (c .before .before .before .before .before .before .before .before .before .before .before .before .before .before .before .refresh-list .ensures) (c .before .before .before .before .before .with-before .ensures))
 
 pub put-edited-spec : {M : Type 1} → statement M
 put-edited-spec =
@@ -67,16 +68,16 @@ put-edited-spec =
     cast-put-refused
     put-refused-requires
     enum-known-n
-    put-refreshed-requires
+    refresh-list-requires
+    with-before-requires
+    put-listed-requires
     same-length
     same-length-2
     same-length-3
-    same-length-4
     returns
+    same-length-4
     same-length-5
     same-length-6
     same-length-7
     same-length-8
-    same-length-9
-    same-length-10
     returns-2)

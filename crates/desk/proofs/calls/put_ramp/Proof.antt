@@ -1,7 +1,6 @@
 -- `put_ramp` meets its contract: by the case of the edit. Assumes nothing.
-use borrow.Author.Needs.{needs}
-use denote.Ref.{now}
 use Rattle.desk.proofs.Making.{puts-as, ramp-fresh, ramp-edited}
+use borrow.Author.Needs.{needs}
 use Rattle.desk.proofs.calls.put_ramp.Statement.{statement}
 use Rattle.desk.proofs.calls.put_ramp.Tie as tie
 
@@ -44,20 +43,14 @@ put-edited-requires c κs = search needs
 same-length : tie.Need-same-length
 same-length c = search needs
 
+returns : tie.Need-returns
+returns c = puts-as (c .before .before .before .before .before .before .put-fresh .ensures) (ramp-fresh _ _ (c .before .before .before .before .before .before .before .before .before .before .before .before .enum-told .given .1))
+
 same-length-2 : tie.Need-same-length-2
 same-length-2 c = search needs
 
-returns : tie.Need-returns
-returns c = puts-as (c .before .before .before .before .before .before .put-fresh .ensures) (ramp-fresh (c .before .before .before .before .before .before .before .before .before .before .before .before .before .before .before .before .before .before .before .args .kind) (c .before .before .before .before .before .before .before .before .before .before .before .before .before .before .before .before .before .before .before .args .positions .now) (now (c .before .before .before .before .before .before .before .before .before .before .before .before .before .before .before .before .before .before .before .args .channels)) (c .before .before .before .before .before .before .before .before .before .before .before .before .before .before .before .before .before .before .before .args .codes .now) (c .before .before .before .before .before .before .before .before .before .before .before .before .before .before .before .before .before .before .before .args .threshold) (c .before .before .before .before .before .before .before .before .before .before .before .before .before .enum-told .given .1))
-
-same-length-3 : tie.Need-same-length-3
-same-length-3 c = search needs
-
-same-length-4 : tie.Need-same-length-4
-same-length-4 c = search needs
-
 returns-2 : tie.Need-returns-2
-returns-2 c = puts-as (c .before .before .before .before .before .before .before .before .put-edited .ensures) (ramp-edited (c .before .before .before .before .before .before .before .before .before .before .before .before .before .before .before .before .before .before .before .before .before .before .args .kind) (c .before .before .before .before .before .before .before .before .before .before .before .before .before .before .before .before .before .before .before .before .before .before .args .positions .now) (now (c .before .before .before .before .before .before .before .before .before .before .before .before .before .before .before .before .before .before .before .before .before .before .args .channels)) (c .before .before .before .before .before .before .before .before .before .before .before .before .before .before .before .before .before .before .before .before .before .before .args .codes .now) (c .before .before .before .before .before .before .before .before .before .before .before .before .before .before .before .before .before .before .before .before .before .before .args .threshold) (c .before .before .before .before .before .before .before .before .before .before .before .before .before .before .before .before .edited .given .1))
+returns-2 c = puts-as (c .before .before .before .before .before .before .put-edited .ensures) (ramp-edited _ _ (c .before .before .before .before .before .before .before .before .before .before .before .before .before .edited .given .1))
 
 pub put-ramp-spec : {M : Type 1} → statement M
 put-ramp-spec =
@@ -76,8 +69,6 @@ put-ramp-spec =
     slice-aggregate-put-edited-4
     put-edited-requires
     same-length
-    same-length-2
     returns
-    same-length-3
-    same-length-4
+    same-length-2
     returns-2)

@@ -5,6 +5,7 @@ use native.Mathlib.Omega.{arith}
 use borrow.Author.Needs.{needs, scaled-fits}
 use borrow.Author.Tests.{not-true, not-false}
 use lib.ListN.{length, length-set, length-append}
+use Rattle.stops.specs.Lent.{rampIn}
 use Rattle.gradient.specs.Ramp.{anyColour}
 use Rattle.linearize.specs.Difference.{exceeds}
 use Rattle.linearize.specs.Midpoints.{midOf, halves, tries}
@@ -95,7 +96,7 @@ halve-returns-2 : (t : ℕ) → halve-lts.Need-returns-2 (
 unfolding midOf
 halve-returns-2 t c =
     let s = (c .before .before .before .before .before .before .before .before .before .before .before) in
-    let g = anyColour (s .args .kind) (s .args .positions .now) (s .args .channels .now) (s .args .codes .now) in
+    let g = anyColour (rampIn (s .args .kind) (s .args .positions) (s .args .channels) (s .args .codes)) in
     let far = exceeds (s .args .cutoff) in
     let t0 = s .args .p .t in
     let t1 = s .args .q .t in
@@ -147,7 +148,7 @@ halve-mul-row : (t : ℕ) → halve-lts.Need-mul-row (
 unfolding midOf
 halve-mul-row t c =
     let s = (c .before .before .before .before .before .before .before .before .before .before .before .before .before .before .before) in
-    let g = anyColour (s .args .kind) (s .args .positions .now) (s .args .channels .now) (s .args .codes .now) in
+    let g = anyColour (rampIn (s .args .kind) (s .args .positions) (s .args .channels) (s .args .codes)) in
     let far = exceeds (s .args .cutoff) in
     let t0 = s .args .p .t in
     let t1 = s .args .q .t in
@@ -171,7 +172,7 @@ halve-slice-write-row : (t : ℕ) → halve-lts.Need-slice-write-row (
 unfolding midOf
 halve-slice-write-row t c =
     let s = (c .before .before .before .before .before .before .before .before .before .before .before .before .before .before .before) in
-    let g = anyColour (s .args .kind) (s .args .positions .now) (s .args .channels .now) (s .args .codes .now) in
+    let g = anyColour (rampIn (s .args .kind) (s .args .positions) (s .args .channels) (s .args .codes)) in
     let far = exceeds (s .args .cutoff) in
     let t0 = s .args .p .t in
     let t1 = s .args .q .t in
@@ -195,7 +196,7 @@ halve-add-halve : (t : ℕ) → halve-lts.Need-add-halve (
 unfolding midOf
 halve-add-halve t c =
     let s = (c .before .before .before .before .before .before .before .before .before .before .before .before .before .before .before .before) in
-    let g = anyColour (s .args .kind) (s .args .positions .now) (s .args .channels .now) (s .args .codes .now) in
+    let g = anyColour (rampIn (s .args .kind) (s .args .positions) (s .args .channels) (s .args .codes)) in
     let far = exceeds (s .args .cutoff) in
     let t0 = s .args .p .t in
     let t1 = s .args .q .t in
@@ -219,7 +220,7 @@ halve-halve-requires-2 : (t : ℕ) → halve-lts.Need-halve-requires-2 (
 unfolding midOf
 halve-halve-requires-2 t c κs =
     let s = (c .before .before .before .before .before .before .before .before .before .before .before .before .before .before .before .before) in
-    let g = anyColour (s .args .kind) (s .args .positions .now) (s .args .channels .now) (s .args .codes .now) in
+    let g = anyColour (rampIn (s .args .kind) (s .args .positions) (s .args .channels) (s .args .codes)) in
     let far = exceeds (s .args .cutoff) in
     let t0 = s .args .p .t in
     let t1 = s .args .q .t in
@@ -243,7 +244,7 @@ halve-add-t24 : (t : ℕ) → halve-lts.Need-add-t24 (
 unfolding midOf
 halve-add-t24 t c =
     let s = (c .before .before .before .before .before .before .before .before .before .before .before .before .before .before .before .before .before .before .before .before .before) in
-    let g = anyColour (s .args .kind) (s .args .positions .now) (s .args .channels .now) (s .args .codes .now) in
+    let g = anyColour (rampIn (s .args .kind) (s .args .positions) (s .args .channels) (s .args .codes)) in
     let far = exceeds (s .args .cutoff) in
     let t0 = s .args .p .t in
     let t1 = s .args .q .t in
@@ -270,7 +271,7 @@ halve-add-t28 : (t : ℕ) → halve-lts.Need-add-t28 (
 unfolding midOf
 halve-add-t28 t c =
     let s = (c .before .before .before .before .before .before .before .before .before .before .before .before .before .before .before .before .before .before .before .before .before) in
-    let g = anyColour (s .args .kind) (s .args .positions .now) (s .args .channels .now) (s .args .codes .now) in
+    let g = anyColour (rampIn (s .args .kind) (s .args .positions) (s .args .channels) (s .args .codes)) in
     let far = exceeds (s .args .cutoff) in
     let t0 = s .args .p .t in
     let t1 = s .args .q .t in
@@ -309,7 +310,7 @@ halve-returns-3 : (t : ℕ) → halve-lts.Need-returns-3 (
 unfolding midOf
 halve-returns-3 t c =
     let s = (c .before .before .before .before .before .before .before .before .before .before .before .before .before .before .before .before .before .before .before .before .before) in
-    let g = anyColour (s .args .kind) (s .args .positions .now) (s .args .channels .now) (s .args .codes .now) in
+    let g = anyColour (rampIn (s .args .kind) (s .args .positions) (s .args .channels) (s .args .codes)) in
     let far = exceeds (s .args .cutoff) in
     let t0 = s .args .p .t in
     let t1 = s .args .q .t in

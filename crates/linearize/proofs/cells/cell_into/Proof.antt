@@ -1,5 +1,6 @@
 -- `cell_into` meets its contract: the part of the rows that was lent is the cell's row. Assumes nothing.
 use native.Mathlib.Omega.{arith}
+use Rattle.stops.specs.Lent.{rampIn}
 use Rattle.gradient.specs.Ramp.{anyColour}
 use Rattle.linearize.specs.Difference.{exceeds}
 use Rattle.linearize.proofs.Rows.{points-most, cell-anew}
@@ -31,7 +32,7 @@ row-into-requires c κs = search needs
 cast-counts : tie.Need-cast-counts
 cast-counts c =
     let s = (c .before .before .before .before .before .before .before .before .before .before) in
-    let g = anyColour (s .args .kind) (s .args .positions .now) (s .args .channels .now) (s .args .codes .now) in
+    let g = anyColour (rampIn (s .args .kind) (s .args .positions) (s .args .channels) (s .args .codes)) in
     omega (arith, c .before .before .before .row-into .ensures .count, points-most g (exceeds (s .args .cutoff)) (s .args .p .t) (s .args .q .t))
 
 slice-write-counts : tie.Need-slice-write-counts
@@ -46,7 +47,7 @@ same-length-2 c = search needs
 returns : tie.Need-returns
 returns c =
     let s = (c .before .before .before .before .before .before .before .before .before .before) in
-    let g = anyColour (s .args .kind) (s .args .positions .now) (s .args .channels .now) (s .args .codes .now) in
+    let g = anyColour (rampIn (s .args .kind) (s .args .positions) (s .args .channels) (s .args .codes)) in
     cell-anew g (exceeds (s .args .cutoff)) (s .args .min) (s .args .max) (s .args .i) (s .args .p .t) (s .args .q .t) (s .pre .1 .0 .0) (s .pre .1 .0 .1)
     (s .args .rows .now) (c .before .before .before .row-into .last .1 .1 .1 .1 .1 .0) (s .args .counts .now) (c .before .before .before .row-into .result) (s .pre .0 .0) (s .pre .0 .1 .0) (c .before .before .before .row-into .ensures)
 

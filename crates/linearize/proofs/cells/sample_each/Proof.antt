@@ -2,6 +2,7 @@
 use mathlib.Core.Path.{_∙_}
 use Prim.Native.Nat.{_-_}
 use native.Mathlib.Omega.{arith}
+use Rattle.stops.specs.Lent.{rampOf, rampIn}
 use Rattle.gradient.specs.Ramp.{anyColour}
 use Rattle.linearize.specs.Difference.{exceeds}
 use Rattle.linearize.proofs.Rows.{cell-tries-most}
@@ -12,7 +13,7 @@ use Rattle.linearize.proofs.cells.sample_each.Tie as tie
 
 abbrev Inv-loop : tie.InvT-loop
 Inv-loop kind positions channels codes cutoff min max rows₀ counts₀ table n₀ i₀ p₀ rows counts n i p =
-    Sampling (anyColour kind positions channels codes) (exceeds cutoff) min max rows₀ counts₀ rows counts n i p
+    Sampling (anyColour (rampOf kind positions channels codes)) (exceeds cutoff) min max rows₀ counts₀ rows counts n i p
 
 abbrev μ-loop : tie.MeasureT-loop
 μ-loop kind positions channels codes cutoff min max rows₀ counts₀ table n₀ i₀ p₀ rows counts n i p = 36 - i
@@ -26,7 +27,7 @@ evaluate-requires c κs = c .before .before .before .before .before .before .pre
 loop-holds : tie.Need-loop-holds Inv-loop μ-loop
 loop-holds c =
     let s = (c .before .before .before .before .before .before .before) in
-    let g = anyColour (s .args .kind) (s .args .positions .now) (s .args .channels .now) (s .args .codes .now) in
+    let g = anyColour (rampIn (s .args .kind) (s .args .positions) (s .args .channels) (s .args .codes)) in
     record { filled = start _ _ _ _ _; ended = c .evaluate .ensures .0 ∙ c .before .edge .ensures ∙ end-is (s .args .min) (s .args .max) 0 (omega arith); coloured = c .evaluate .ensures .1 }
 
 add-j : tie.Need-add-j Inv-loop μ-loop
@@ -50,7 +51,7 @@ add-n : tie.Need-add-n Inv-loop μ-loop
 add-n c =
     let s = (c .before .before .before .before .before .before .before .before .before .before .before .before .before .before .before .before .before .before) in
     let l = (c .before .before .before .before .before .before .before .before .before .before .loop) in
-    let g = anyColour (s .args .kind) (s .args .positions .now) (s .args .channels .now) (s .args .codes .now) in
+    let g = anyColour (rampIn (s .args .kind) (s .args .positions) (s .args .channels) (s .args .codes)) in
     omega (arith, c .before .before .before .before .cell-into .ensures .tried, cell-tries-most g (exceeds (s .args .cutoff)) (s .args .min) (s .args .max) (l .i), l .inv .filled .few, l .inv .filled .within)
 
 loop-less : tie.Need-loop-less Inv-loop μ-loop
@@ -61,7 +62,7 @@ loop-again c =
     let s = (c .before .before .before .before .before .before .before .before .before .before .before .before .before .before .before .before .before .before) in
     let l = (c .before .before .before .before .before .before .before .before .before .before .loop) in
     let h = (c .before .before .before .before .cell-into) in
-    let g = anyColour (s .args .kind) (s .args .positions .now) (s .args .channels .now) (s .args .codes .now) in
+    let g = anyColour (rampIn (s .args .kind) (s .args .positions) (s .args .channels) (s .args .codes)) in
     record {
       filled = anew g (exceeds (s .args .cutoff)) (s .args .min) (s .args .max) _ _ (s .pre .0 .0) (s .pre .0 .1) (l .rows) (h .last .1 .1 .1 .1 .1 .1 .1 .1 .1 .1 .0) (l .counts) (h .last .1 .1 .1 .1 .1 .1 .1 .1 .1 .1 .1 .0) (l .n) (h .result) (l .i) (l .inv .filled) (omega (arith, c .before .before .before .before .before .before .before .before .before .loop-test .taken)) (h .ensures);
       ended = c .before .before .before .before .before .before .before .evaluate2 .ensures .0 ∙ c .before .before .before .before .before .before .before .before .edge2 .ensures ∙ end-is (s .args .min) (s .args .max) _ (omega arith);
@@ -78,7 +79,7 @@ returns : tie.Need-returns Inv-loop μ-loop
 returns c =
     let s = (c .before .before .before .before .before .before .before .before .before) in
     let l = (c .before .loop) in
-    let g = anyColour (s .args .kind) (s .args .positions .now) (s .args .channels .now) (s .args .codes .now) in
+    let g = anyColour (rampIn (s .args .kind) (s .args .positions) (s .args .channels) (s .args .codes)) in
     sampled g (exceeds (s .args .cutoff)) (s .args .min) (s .args .max) _ _ (s .pre .0 .0) (s .pre .0 .1) (l .rows) (l .counts) (l .n) (l .i) (l .inv .filled) (omega (arith, c .loop-test .left))
 
 pub sample-each-spec : {M : Type 1} → statement M

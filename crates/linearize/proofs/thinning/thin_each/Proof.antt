@@ -1,6 +1,7 @@
 -- `thin_each` meets its contract: a stop for the first point, the others thinned, and the answer. Assumes nothing.
 use mathlib.Core.Path.{_∙_}
 use native.Mathlib.Omega.{arith}
+use Rattle.stops.specs.Lent.{rampIn}
 use Rattle.gradient.specs.Ramp.{anyColour}
 use Rattle.linearize.specs.Difference.{exceeds}
 use Rattle.linearize.specs.Places.{listOf}
@@ -27,7 +28,7 @@ emit-requires c κs = search needs
 finish-requires : tie.Need-finish-requires
 finish-requires c κs =
     let a = c .before .before .before .before .before .before .before .before .before .before .before .before .before .before .before .before .before .before .before .before .args in
-    let g = anyColour (a .kind) (a .positions .now) (a .channels .now) (a .codes .now) in
+    let g = anyColour (rampIn (a .kind) (a .positions) (a .channels) (a .codes)) in
     let far = exceeds (a .cutoff) in
     let ps = a .out-positions .now in
     let cs = a .out-channels .now in
@@ -48,7 +49,7 @@ same-length-2 c = search needs
 returns : tie.Need-returns
 returns c =
     let a = c .before .before .before .before .before .before .before .before .before .before .before .before .before .before .before .before .before .before .before .before .before .before .before .before .before .args in
-    let g = anyColour (a .kind) (a .positions .now) (a .channels .now) (a .codes .now) in
+    let g = anyColour (rampIn (a .kind) (a .positions) (a .channels) (a .codes)) in
     let far = exceeds (a .cutoff) in
     let ps = a .out-positions .now in
     let cs = a .out-channels .now in
@@ -66,7 +67,7 @@ returns c =
 thin-points-requires : tie.Need-thin-points-requires
 thin-points-requires c κs =
     let a = c .before .before .before .before .before .before .before .before .before .before .before .before .before .before .before .before .before .before .before .before .args in
-    let g = anyColour (a .kind) (a .positions .now) (a .channels .now) (a .codes .now) in
+    let g = anyColour (rampIn (a .kind) (a .positions) (a .channels) (a .codes)) in
     let far = exceeds (a .cutoff) in
     let ps = a .out-positions .now in
     let cs = a .out-channels .now in
@@ -83,7 +84,7 @@ thin-points-requires c κs =
 finish-requires-2 : tie.Need-finish-requires-2
 finish-requires-2 c κs =
     let a = c .before .before .before .before .before .before .before .before .before .before .before .before .before .before .before .before .before .before .before .before .before .before .before .before .before .before .before .args in
-    let g = anyColour (a .kind) (a .positions .now) (a .channels .now) (a .codes .now) in
+    let g = anyColour (rampIn (a .kind) (a .positions) (a .channels) (a .codes)) in
     let far = exceeds (a .cutoff) in
     let ps = a .out-positions .now in
     let cs = a .out-channels .now in
@@ -105,7 +106,7 @@ same-length-4 c = search needs
 returns-2 : tie.Need-returns-2
 returns-2 c =
     let a = c .before .before .before .before .before .before .before .before .before .before .before .before .before .before .before .before .before .before .before .before .before .before .before .before .before .before .before .before .before .before .before .before .args in
-    let g = anyColour (a .kind) (a .positions .now) (a .channels .now) (a .codes .now) in
+    let g = anyColour (rampIn (a .kind) (a .positions) (a .channels) (a .codes)) in
     let far = exceeds (a .cutoff) in
     let ps = a .out-positions .now in
     let cs = a .out-channels .now in

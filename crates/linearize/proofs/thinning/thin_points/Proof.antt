@@ -3,6 +3,7 @@ use mathlib.Core.Path.{_∙_}
 use Prim.Native.Nat.{_-_}
 use native.Mathlib.Omega.{arith}
 use lib.ListN.{length}
+use Rattle.stops.specs.Lent.{rampOf, rampIn}
 use Rattle.gradient.specs.Ramp.{anyColour}
 use Rattle.linearize.specs.Difference.{exceeds}
 use Rattle.linearize.specs.Places.{listOf, pointsBefore}
@@ -14,7 +15,7 @@ use Rattle.linearize.proofs.thinning.thin_points.Tie as tie
 
 abbrev Inv-loop : tie.InvT-loop
 Inv-loop kind positions channels codes cutoff max room rows counts out-positions₀ out-channels₀ table s₀ place₀ x₀ out-positions out-channels s place x =
-    Going (anyColour kind positions channels codes) (exceeds cutoff) room rows counts max (run s₀ out-positions₀ out-channels₀) out-positions out-channels s place x
+    Going (anyColour (rampOf kind positions channels codes)) (exceeds cutoff) room rows counts max (run s₀ out-positions₀ out-channels₀) out-positions out-channels s place x
 
 abbrev μ-loop : tie.MeasureT-loop
 μ-loop kind positions channels codes cutoff max room rows counts out-positions₀ out-channels₀ table s₀ place₀ x₀ out-positions out-channels s place x =
@@ -35,7 +36,7 @@ evaluate-requires c κs = c .before .before .before .before .before .before .bef
 loop-holds : tie.Need-loop-holds Inv-loop μ-loop
 loop-holds c =
     let a = c .before .before .before .before .before .before .before .before .before .before .args in
-    let g = anyColour (a .kind) (a .positions .now) (a .channels .now) (a .codes .now) in
+    let g = anyColour (rampIn (a .kind) (a .positions) (a .channels) (a .codes)) in
     let far = exceeds (a .cutoff) in
     let ok = c .before .before .before .before .before .before .before .before .before .before .pre .1 .0 .0 in
     started g far (a .room) (a .rows .now) (a .counts .now) (a .max) ok (a .start) (a .out-positions .now) (a .out-channels .now) (c .before .before .next-place .result) (c .evaluate .result) (c .before .before .before .before .before .before .before .before .before .before .pre .1 .0 .1) (c .before .before .next-place .ensures) (c .evaluate .ensures .0 ∙ c .before .point-at .ensures) (c .evaluate .ensures .1)
@@ -70,7 +71,7 @@ same-length-2 c = c .before .before .before .before .before .step .kept .1 .1 .1
 returns : tie.Need-returns Inv-loop μ-loop
 returns c =
     let a = c .before .before .before .before .before .before .before .before .before .before .before .before .before .before .before .before .before .before .before .before .before .before .before .before .args in
-    let g = anyColour (a .kind) (a .positions .now) (a .channels .now) (a .codes .now) in
+    let g = anyColour (rampIn (a .kind) (a .positions) (a .channels) (a .codes)) in
     let far = exceeds (a .cutoff) in
     let ok = c .before .before .before .before .before .before .before .before .before .before .before .before .before .before .before .before .before .before .before .before .before .before .before .before .pre .1 .0 .0 in
     stopped g far (a .room) (a .rows .now) (a .counts .now) (a .max) ok _ (c .before .before .before .before .before .before .before .before .before .before .before .before .before .loop .out-positions) (c .before .before .before .before .before .before .before .before .before .before .before .before .before .loop .out-channels) (c .before .before .before .before .before .before .before .before .before .before .before .before .before .loop .s) (c .before .before .before .before .before .before .before .before .before .before .before .before .before .loop .place) (c .before .before .before .before .before .before .before .before .before .before .before .before .before .loop .x) (c .before .before .before .before .before .before .before .before .before .before .before .before .before .loop .inv) (c .before .before .before .before .before .before .before .before .before .before .before .if1 .taken) (c .before .before .before .before .before .before .before .before .before .before .next-place2 .result) (c .before .before .before .before .before .before .before .before .evaluate2 .result) (c .before .before .before .before .before .before .before .before .before .before .next-place2 .ensures) (c .before .before .before .before .before .before .before .before .evaluate2 .ensures .0 ∙ c .before .before .before .before .before .before .before .before .before .point-at2 .ensures) (c .before .before .before .before .before .before .before .before .evaluate2 .ensures .1) (c .before .before .before .before .before .step .last .1 .1 .1 .1 .1 .0) (c .before .before .before .before .before .step .last .1 .1 .1 .1 .1 .1 .0) (c .before .before .before .before .before .step .result) (c .before .before .before .before .before .step .ensures) (c .if2 .taken)
@@ -84,7 +85,7 @@ loop-less c =
 loop-again : tie.Need-loop-again Inv-loop μ-loop
 loop-again c =
     let a = c .before .before .before .before .before .before .before .before .before .before .before .before .before .before .before .before .before .before .before .before .before .before .before .before .args in
-    let g = anyColour (a .kind) (a .positions .now) (a .channels .now) (a .codes .now) in
+    let g = anyColour (rampIn (a .kind) (a .positions) (a .channels) (a .codes)) in
     let far = exceeds (a .cutoff) in
     let ok = c .before .before .before .before .before .before .before .before .before .before .before .before .before .before .before .before .before .before .before .before .before .before .before .before .pre .1 .0 .0 in
     next g far (a .room) (a .rows .now) (a .counts .now) (a .max) ok _ (c .before .before .before .before .before .before .before .before .before .before .before .before .before .loop .out-positions) (c .before .before .before .before .before .before .before .before .before .before .before .before .before .loop .out-channels) (c .before .before .before .before .before .before .before .before .before .before .before .before .before .loop .s) (c .before .before .before .before .before .before .before .before .before .before .before .before .before .loop .place) (c .before .before .before .before .before .before .before .before .before .before .before .before .before .loop .x) (c .before .before .before .before .before .before .before .before .before .before .before .before .before .loop .inv) (c .before .before .before .before .before .before .before .before .before .before .before .if1 .taken) (c .before .before .before .before .before .before .before .before .before .before .next-place2 .result) (c .before .before .before .before .before .before .before .before .evaluate2 .result) (c .before .before .before .before .before .before .before .before .before .before .next-place2 .ensures) (c .before .before .before .before .before .before .before .before .evaluate2 .ensures .0 ∙ c .before .before .before .before .before .before .before .before .before .point-at2 .ensures) (c .before .before .before .before .before .before .before .before .evaluate2 .ensures .1) (c .before .before .before .before .before .step .last .1 .1 .1 .1 .1 .0) (c .before .before .before .before .before .step .last .1 .1 .1 .1 .1 .1 .0) (c .before .before .before .before .before .step .result) (c .before .before .before .before .before .step .ensures) (c .if2 .left) (c .before .before .before .before .before .step .kept .1 .1 .1 .1 .1 .0) (c .before .before .before .before .before .step .kept .1 .1 .1 .1 .1 .1 .0)
@@ -101,7 +102,7 @@ same-length-4 c = c .before .before .before .before .emit .kept .1 .1 .1 .1 .0 �
 returns-2 : tie.Need-returns-2 Inv-loop μ-loop
 returns-2 c =
     let a = c .before .before .before .before .before .before .before .before .before .before .before .before .before .before .before .before .before .before .before .before .args in
-    let g = anyColour (a .kind) (a .positions .now) (a .channels .now) (a .codes .now) in
+    let g = anyColour (rampIn (a .kind) (a .positions) (a .channels) (a .codes)) in
     let far = exceeds (a .cutoff) in
     let ok = c .before .before .before .before .before .before .before .before .before .before .before .before .before .before .before .before .before .before .before .before .pre .1 .0 .0 in
     ended g far (a .room) (a .rows .now) (a .counts .now) (a .max) ok _ (c .before .before .before .before .before .before .before .before .before .loop .out-positions) (c .before .before .before .before .before .before .before .before .before .loop .out-channels) (c .before .before .before .before .before .before .before .before .before .loop .s) (c .before .before .before .before .before .before .before .before .before .loop .place) (c .before .before .before .before .before .before .before .before .before .loop .x) (c .before .before .before .before .before .before .before .before .before .loop .inv) (λ h. absurd (omega (arith, h, c .before .before .before .before .before .before .before .if1 .left))) (c .before .before .before .before .emit .last .1 .1 .1 .0) (c .before .before .before .before .emit .last .1 .1 .1 .1 .0) (c .before .before .before .before .emit .result) (c .before .before .before .before .emit .ensures)

@@ -2,6 +2,7 @@
 use mathlib.Core.Path.{_∙_, subst}
 use Prim.Native.Nat.{ℕ, _-_}
 use native.Mathlib.Omega.{arith}
+use Rattle.stops.specs.Lent.{rampOf, rampIn}
 use Rattle.gradient.specs.Ramp.{anyColour}
 use Rattle.linearize.specs.Difference.{exceeds}
 use Rattle.refresh.specs.Stretch.{reachOf, outsideOf}
@@ -13,7 +14,7 @@ use Rattle.refresh.proofs.cells.refresh_cells.Tie as tie
 
 abbrev Inv-loop : tie.InvT-loop
 Inv-loop kind positions channels codes cutoff min max k rows₀ counts₀ reach n₀ i₀ rows counts n i =
-    Renewed (anyColour kind positions channels codes) (exceeds cutoff) (outsideOf (reachOf kind) positions k) min max rows₀ counts₀ rows counts n i
+    Renewed (anyColour (rampOf kind positions channels codes)) (exceeds cutoff) (outsideOf (reachOf kind) positions k) min max rows₀ counts₀ rows counts n i
 
 abbrev μ-loop : tie.MeasureT-loop
 μ-loop kind positions channels codes cutoff min max k rows₀ counts₀ reach n₀ i₀ rows counts n i =
@@ -36,7 +37,7 @@ add-n c =
     let s = c .before .before .before .before .before .before .before .before .before .before .before .before .before .before .before in
     let l = c .before .before .before .before .before .before .before .before .loop in
     let h = c .before .before .before .before .refresh-cell in
-    let g = anyColour (s .args .kind) (s .args .positions .now) (s .args .channels .now) (s .args .codes .now) in
+    let g = anyColour (rampIn (s .args .kind) (s .args .positions) (s .args .channels) (s .args .codes)) in
     let far = exceeds (s .args .cutoff) in
     let reach = c .before .before .before .before .before .before .before .before .before .reach-of .result in
     omega (arith, h .ensures .tried, anew-tries-most g far (outsideOf reach (s .args .positions .now) (s .args .k)) (s .args .min) (s .args .max) (l .i), l .inv .few, l .inv .within)
@@ -52,7 +53,7 @@ loop-again c =
     let s = c .before .before .before .before .before .before .before .before .before .before .before .before .before .before .before in
     let l = c .before .before .before .before .before .before .before .before .loop in
     let h = c .before .before .before .before .refresh-cell in
-    let g = anyColour (s .args .kind) (s .args .positions .now) (s .args .channels .now) (s .args .codes .now) in
+    let g = anyColour (rampIn (s .args .kind) (s .args .positions) (s .args .channels) (s .args .codes)) in
     let far = exceeds (s .args .cutoff) in
     let rows′ = h .last .1 .1 .1 .1 .1 .1 .1 .1 .1 .1 .0 in
     let counts′ = h .last .1 .1 .1 .1 .1 .1 .1 .1 .1 .1 .1 .0 in
@@ -70,7 +71,7 @@ returns : tie.Need-returns Inv-loop μ-loop
 returns c =
     let s = c .before .before .before .before .before .before .before .before in
     let l = c .before .loop in
-    renewed (anyColour (s .args .kind) (s .args .positions .now) (s .args .channels .now) (s .args .codes .now)) (exceeds (s .args .cutoff)) _ (s .args .min) (s .args .max) _ _ (s .pre .0 .0) (s .pre .0 .1) (l .rows) (l .counts) (l .n) (l .i) (l .inv) (omega (arith, c .loop-test .left))
+    renewed (anyColour (rampIn (s .args .kind) (s .args .positions) (s .args .channels) (s .args .codes))) (exceeds (s .args .cutoff)) _ (s .args .min) (s .args .max) _ _ (s .pre .0 .0) (s .pre .0 .1) (l .rows) (l .counts) (l .n) (l .i) (l .inv) (omega (arith, c .loop-test .left))
 
 pub refresh-cells-spec : {M : Type 1} → statement M
 refresh-cells-spec =

@@ -1,0 +1,15 @@
+-- The slices of a record and of outputs, from what a promise says of them whole. Assumes nothing.
+use mathlib.Core.Path.{_≡_, ap}
+use Rattle.linearize.specs.Lent.{Held, Output}
+
+pub rows-of : {h k : Held} → h ≡ k → h .rows ≡ k .rows
+rows-of e = ap (λ (x : Held). x .rows) e
+
+pub counts-of : {h k : Held} → h ≡ k → h .counts ≡ k .counts
+counts-of e = ap (λ (x : Held). x .counts) e
+
+pub positions-of : {o u : Output} → o ≡ u → o .positions ≡ u .positions
+positions-of e = ap (λ (x : Output). x .positions) e
+
+pub channels-of : {o u : Output} → o ≡ u → o .channels ≡ u .channels
+channels-of e = ap (λ (x : Output). x .channels) e
