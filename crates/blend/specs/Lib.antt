@@ -4,3 +4,4 @@ pub mod CatmullRom
 pub mod Pair
 pub mod Points
 pub mod Finite
+pub mod Channels

@@ -4,9 +4,10 @@ use mathlib.Core.Path.{_≡_}
 use lib.Ieee.{Float}
 use Rattle.stops.specs.Lent.{Ramp}
 use Rattle.stops.specs.declared.Checked.the-variants.{Fine}
-use Rattle.linearize.specs.Lent.{Held}
-use Rattle.linearize.specs.Desk.{heldCheck, sampleHeld, flattenOutput}
-use Rattle.linearize.proofs.Checks.{ramp-fine}
+use Rattle.sampling.specs.Lent.{Held}
+use Rattle.sampling.specs.Sampling.{heldCheck, sampleHeld}
+use Rattle.linearize.specs.Desk.{flattenOutput}
+use Rattle.sampling.proofs.Checks.{ramp-fine}
 use Rattle.refresh.specs.RefreshDesk.{editCheck, refreshHeld, refreshOutput}
 use Rattle.refresh.specs.declared.edit.Edit.{Edit}
 use Rattle.refresh.proofs.EditChecks.{edit-allowed, edited-sampling}

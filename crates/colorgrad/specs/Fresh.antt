@@ -3,8 +3,10 @@
 use mathlib.Core.Path.{_≡_}
 use lib.Ieee.{Float}
 use Rattle.stops.specs.Lent.{Ramp}
-use Rattle.linearize.specs.Lent.{Held, Output}
-use Rattle.linearize.specs.Desk.{sampleHeld, flattenOutput}
+use Rattle.sampling.specs.Lent.{Held}
+use Rattle.linearize.specs.Lent.{Output}
+use Rattle.sampling.specs.Sampling.{sampleHeld}
+use Rattle.linearize.specs.Desk.{flattenOutput}
 use Rattle.refresh.specs.Edit.{edited}
 use Rattle.refresh.specs.RefreshDesk.{refreshHeld, refreshOutput}
 use Rattle.refresh.specs.declared.edit.Edit.{Edit}

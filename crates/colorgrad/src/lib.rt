@@ -4,7 +4,7 @@
 // Making a ramp: sharp bands, and a GIMP text's segments and name.
 pub use ggr::name;
 pub use ggr::read;
-pub use gradient::sharp::build;
+pub use sharp_ramp::build;
 
 // Its colour at a point, and at many.
 pub use paint::at;

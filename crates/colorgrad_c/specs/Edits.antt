@@ -1,25 +1,26 @@
--- The calls that refresh a record, for a kind given by its code, and their answers as structs of plain fields.
+-- The calls that refresh a record, for a kind given by its code.
 use Prim.Native.Nat.{ℕ}
 use mathlib.Core.Path.{_≡_}
 use lib.Ieee.{Float}
 use Rattle.refusals.specs.Refusals.{misshapen}
+use Rattle.blend.specs.declared.Rgba.{Rgba}
 use Rattle.stops.specs.Lent.{Ramp, Change}
 use Rattle.stops.specs.declared.Kind.{Kind}
-use Rattle.linearize.specs.Lent.{Held, Output}
+use Rattle.sampling.specs.Lent.{Held}
+use Rattle.linearize.specs.Lent.{Output}
 use Rattle.refresh.specs.declared.edit.Edit.{Edit}
 use Rattle.refresh.specs.RefreshDesk.{Refreshes, RefreshLists}
 use Rattle.refresh.specs.declared.Refreshed.{Refreshed}
 use Rattle.refresh.specs.declared.Refreshed.the-variants as refreshed
 use Rattle.linearize.specs.declared.Listed.{Listed}
 use Rattle.linearize.specs.declared.Listed.the-variants as listed
-use Rattle.colorgrad_c.specs.Kinds.{Shows}
-use Rattle.colorgrad_c.specs.Lists.{listedShown}
-use Rattle.colorgrad_c.specs.declared.lists.ListMade.{ListMade}
-use Rattle.colorgrad_c.specs.declared.lists.SampleMade.{SampleMade}
+use Rattle.plain.specs.Kinds.{Shows}
+use Rattle.plain.specs.Lists.{listedShown, refreshedShown}
+use Rattle.plain.specs.declared.lists.ListMade.{ListMade}
+use Rattle.plain.specs.declared.lists.SampleMade.{SampleMade}
 
-abbrev pub refreshedShown : Refreshed → SampleMade
-refreshedShown (refreshed.Done n) = record { refusal = 0; evaluations = n }
-refreshedShown (refreshed.Refused n) = record { refusal = n; evaluations = 0 }
+abbrev pub editOf : ℕ → Rgba → Edit
+editOf stop colour = record { stop = stop; colour = colour }
 
 -- the promises of `refresh`, of a ramp of any kind; a code that names no kind is 1 and changes nothing
 module _ (code : ℕ) (ramp : Kind → Ramp) (e : Edit) (asked : Float) where

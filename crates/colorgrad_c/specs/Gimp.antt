@@ -1,12 +1,11 @@
--- The answers of the reader as a struct of plain fields, and a name written into a lent output.
+-- The answers of the reader as a struct of plain fields.
 use Prim.Native.Nat.{ℕ}
 use mathlib.Core.Path.{_≡_}
-use mathlib.Core.Bool.{cond}
-use mathlib.Core.List.{List, _++_}
-use lib.Dec.{ltb}
-use lib.ListN.{length, drop}
-use lib.Ieee.{Float}
-use Rattle.ggr.specs.File.{Outcome, Done, answerOf, numberOfAnswer, lineOfAnswer, segmentsOfAnswer}
+use mathlib.Core.List.{List}
+use Rattle.blend.specs.declared.Rgba.{Rgba}
+use Rattle.stops.specs.Lent.{Change}
+use Rattle.segment.specs.Store.{Store}
+use Rattle.ggr.specs.File.{fileOf, roomIn, Reading, answerOf, numberOfAnswer, lineOfAnswer, segmentsOfAnswer}
 use Rattle.ggr.specs.declared.Answer.{Answer}
 use Rattle.colorgrad_c.specs.declared.gimp.GimpRead.{GimpRead}
 
@@ -14,10 +13,6 @@ abbrev pub readShown : Answer → GimpRead
 readShown r = record { refusal = numberOfAnswer r; line = lineOfAnswer r; segments = segmentsOfAnswer r }
 
 -- the promise of `ggr`'s reading, and its answer shown
-pub record Reads (o : Outcome) (r : GimpRead) (p c : List Float) (k : List ℕ) (p′ c′ : List Float) (k′ : List ℕ) : Type 0 where
-  pub shown : r ≡ readShown (answerOf o)
-  pub done : Done o (answerOf o) p c k p′ c′ k′
-
--- the name at the start of the output, where all of it has room
-unfoldable pub named : List ℕ → List ℕ → List ℕ
-named name out = cond (ltb (length out) (length name)) out (name ++ drop (length name) out)
+pub record Reads (fg bg : Rgba) (s : List ℕ) (store : Change Store) (r : GimpRead) : Type 0 where
+  pub shown : r ≡ readShown (answerOf (fileOf (roomIn (store .entry)) fg bg s))
+  pub done : Reading fg bg s store (answerOf (fileOf (roomIn (store .entry)) fg bg s))

@@ -1,5 +1,4 @@
 pub mod Leaves
-pub mod Kinds
 pub mod Ramps
 pub mod Gimp
 pub mod Lists

@@ -1,27 +1,22 @@
--- The calls on records and lists for a kind given by its code, and their answers as structs of plain fields.
+-- The calls on records and lists, for a kind given by its code.
 use Prim.Native.Nat.{ℕ}
 use mathlib.Core.Path.{_≡_}
 use lib.Ieee.{Float}
 use Rattle.refusals.specs.Refusals.{misshapen}
 use Rattle.stops.specs.Lent.{Ramp, Change}
 use Rattle.stops.specs.declared.Kind.{Kind}
-use Rattle.linearize.specs.Lent.{Held, Output}
-use Rattle.linearize.specs.Promises.{Samples, Thins, Flattens}
-use Rattle.linearize.specs.declared.Sampled.{Sampled}
-use Rattle.linearize.specs.declared.Sampled.the-variants as sampled
+use Rattle.sampling.specs.Lent.{Held}
+use Rattle.linearize.specs.Lent.{Output}
+use Rattle.sampling.specs.Promises.{Samples}
+use Rattle.linearize.specs.Promises.{Thins, Flattens}
+use Rattle.sampling.specs.declared.Sampled.{Sampled}
+use Rattle.sampling.specs.declared.Sampled.the-variants as sampled
 use Rattle.linearize.specs.declared.Listed.{Listed}
 use Rattle.linearize.specs.declared.Listed.the-variants as listed
-use Rattle.colorgrad_c.specs.Kinds.{Shows}
-use Rattle.colorgrad_c.specs.declared.lists.SampleMade.{SampleMade}
-use Rattle.colorgrad_c.specs.declared.lists.ListMade.{ListMade}
-
-abbrev pub sampledShown : Sampled → SampleMade
-sampledShown (sampled.Done n) = record { refusal = 0; evaluations = n }
-sampledShown (sampled.Refused n) = record { refusal = n; evaluations = 0 }
-
-abbrev pub listedShown : Listed → ListMade
-listedShown (listed.Done n m) = record { refusal = 0; stops = n; evaluations = m }
-listedShown (listed.Refused n) = record { refusal = n; stops = 0; evaluations = 0 }
+use Rattle.plain.specs.Kinds.{Shows}
+use Rattle.plain.specs.Lists.{sampledShown, listedShown}
+use Rattle.plain.specs.declared.lists.SampleMade.{SampleMade}
+use Rattle.plain.specs.declared.lists.ListMade.{ListMade}
 
 -- the promises of `linearize`, of a ramp of any kind; a code that names no kind is 1 and changes nothing
 module _ (code : ℕ) (ramp : Kind → Ramp) (asked : Float) where

@@ -1,4 +1,4 @@
--- The answers of the calls on ramps as structs of plain fields, for a kind given by its code.
+-- The calls on ramps, for a kind given by its code.
 use Prim.Native.Nat.{ℕ}
 use mathlib.Core.Path.{_≡_}
 use mathlib.Core.List.{List}
@@ -10,8 +10,6 @@ use Rattle.stops.specs.declared.Kind.{Kind}
 use Rattle.stops.specs.declared.Checked.{Checked}
 use Rattle.stops.specs.declared.Checked.the-variants as checked
 use Rattle.gradient.specs.Ramp.{checkOf, minOf, maxOf}
-use Rattle.gradient.specs.declared.sharp.Built.{Built}
-use Rattle.gradient.specs.Sharp.{numberOfBuilt, stopsOfBuilt}
 use Rattle.stops.specs.Answers.{Checks, numberOfChecked}
 use Rattle.paint.specs.Answers.{numberOfPainted}
 use Rattle.paint.specs.Promises.{AtIs, PaintIs}
@@ -19,22 +17,10 @@ use Rattle.paint.specs.declared.Answer.{Answer}
 use Rattle.paint.specs.declared.Answer.the-variants as answer
 use Rattle.paint.specs.declared.Painted.{Painted}
 use Rattle.paint.specs.declared.Painted.the-variants as painted
-use Rattle.colorgrad_c.specs.Kinds.{Shows}
-use Rattle.colorgrad_c.specs.declared.ramps.Domain.{Domain}
-use Rattle.colorgrad_c.specs.declared.ramps.Shown.{Shown}
-use Rattle.colorgrad_c.specs.declared.ramps.SharpBuilt.{SharpBuilt}
-
--- the ends of a domain, where the ramp passes its check
-abbrev pub domainBy : Checked → Float → Float → Domain
-domainBy checked.Fine lo hi = record { refusal = 0; min = lo; max = hi }
-domainBy (checked.Refused n) lo hi = record { refusal = n; min = f0; max = f0 }
-
-abbrev pub answerShown : Answer → Shown
-answerShown (answer.Colour c) = record { refusal = 0; colour = c }
-answerShown (answer.Refused n) = record { refusal = n; colour = record { r = f0; g = f0; b = f0; a = f0 } }
-
-abbrev pub builtShown : Built → SharpBuilt
-builtShown r = record { refusal = numberOfBuilt r; stops = stopsOfBuilt r }
+use Rattle.plain.specs.Kinds.{Shows}
+use Rattle.plain.specs.Ramps.{domainBy, answerShown}
+use Rattle.plain.specs.declared.ramps.Domain.{Domain}
+use Rattle.plain.specs.declared.ramps.Shown.{Shown}
 
 -- the calls on a ramp; a code that names no kind is 1 and changes nothing
 module _ (code : ℕ) (ramp : Kind → Ramp) where

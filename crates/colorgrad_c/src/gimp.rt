@@ -1,10 +1,13 @@
 // GIMP texts: their segments, and their name.
 use blend::Rgba;
 use ggr::Answer;
+use plain::name::write_name;
 ghost use mathlib.Core.Path.{_≡_};
 ghost use lib.ListN.{length};
-ghost use Rattle.ggr.specs.File.{fileOf, roomOf, nameOf};
-ghost use Rattle.colorgrad_c.specs.Gimp.{readShown, Reads, named};
+ghost use Rattle.segment.specs.Store.{lentStore};
+ghost use Rattle.ggr.specs.File.{nameOf};
+ghost use Rattle.colorgrad_c.specs.Gimp.{readShown, Reads};
+ghost use Rattle.plain.specs.Name.{named};
 
 // The refusal and its line, or 0 and how many segments were read.
 #[repr(C)]
@@ -40,19 +43,9 @@ pub extern "C" fn colorgrad_read(
     channels: &mut [f32],
     codes: &mut [u8],
 ) -> GimpRead
-    ensures { λ r. ⌜ Reads (fileOf (roomOf (length (now (positions .entry))) (length (now (channels .entry))) (length (now (codes .entry)))) foreground background (now (text .entry))) r (now (positions .entry)) (now (channels .entry)) (now (codes .entry)) (now (positions .exit)) (now (channels .exit)) (now (codes .exit)) ⌝ }
+    ensures { λ r. ⌜ Reads foreground background (now (text .entry)) (lentStore positions channels codes) r ⌝ }
 {
     read_shown(ggr::read(text, foreground, background, positions, channels, codes))
-}
-
-fn write_name(name: &[u8], out: &mut [u8]) -> usize
-    ensures { λ r. ⌜ r ≡ length (now (name .entry)) ⌝ }
-    ensures { λ _. ⌜ now (out .exit) ≡ named (now (name .entry)) (now (out .entry)) ⌝ }
-{
-    if out.len() < name.len() {
-        return name.len();
-    }
-    bytes::copy(name, out)
 }
 
 // The length of the name. Its bytes are written where the output has room for all of them; else it stays as it is.

@@ -3,7 +3,7 @@ ghost use mathlib.Core.Path.{_≡_};
 ghost use Rattle.sqrt.specs.Root.{rootOf};
 ghost use Rattle.sqrt.specs.Cutoff.{IsCutoff};
 ghost use Rattle.decimal.specs.Decimal.{readOf};
-ghost use Rattle.linearize.specs.Constants.{thresholdOf};
+ghost use Rattle.sampling.specs.Constants.{thresholdOf};
 ghost use Rattle.colorgrad_c.specs.Leaves.{tokenShown};
 use decimal::Token;
 use linearize::Sampler;

@@ -2,7 +2,6 @@
 // A slice passes as a pointer and a length; with length 0 the pointer is not read.
 pub mod edits;
 pub mod gimp;
-pub mod kinds;
 pub mod leaves;
 pub mod lists;
 pub mod ramps;

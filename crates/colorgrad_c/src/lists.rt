@@ -1,60 +1,17 @@
 // Sampling a ramp into a record, thinning a record to a list of stops, and both at once.
-use crate::kinds;
-use crate::kinds::Coded;
 use linearize::Listed;
 use linearize::Sampled;
+use plain::kinds;
+use plain::kinds::Coded;
+use plain::lists::ListMade;
+use plain::lists::SampleMade;
+use plain::lists::listed_shown;
+use plain::lists::sampled_shown;
 use refusals::MISSHAPEN;
-ghost use mathlib.Core.Path.{_≡_};
-ghost use Rattle.linearize.specs.Lent.{lentHeld, lentOutput};
-ghost use Rattle.colorgrad_c.specs.Kinds.{codedRamp};
-ghost use Rattle.colorgrad_c.specs.Lists.{sampledShown, listedShown, CodedSamples, CodedThins, CodedFlattens};
-
-// The refusal, or 0 and the evaluations.
-#[repr(C)]
-pub struct SampleMade {
-    pub refusal: u32,
-    pub evaluations: usize,
-}
-
-// The refusal, or 0 and how many stops were written with how many evaluations.
-#[repr(C)]
-pub struct ListMade {
-    pub refusal: u32,
-    pub stops: usize,
-    pub evaluations: usize,
-}
-
-fn sampled_shown(sampled: Sampled) -> SampleMade
-    ensures { λ r. ⌜ r ≡ sampledShown sampled ⌝ }
-{
-    match sampled {
-        Sampled::Done(evaluations) => SampleMade {
-            refusal: 0,
-            evaluations,
-        },
-        Sampled::Refused(n) => SampleMade {
-            refusal: n as u32,
-            evaluations: 0,
-        },
-    }
-}
-
-pub fn listed_shown(listed: Listed) -> ListMade
-    ensures { λ r. ⌜ r ≡ listedShown listed ⌝ }
-{
-    match listed {
-        Listed::Done { stops, evaluations } => ListMade {
-            refusal: 0,
-            stops,
-            evaluations,
-        },
-        Listed::Refused(n) => ListMade {
-            refusal: n as u32,
-            stops: 0,
-            evaluations: 0,
-        },
-    }
-}
+ghost use Rattle.sampling.specs.Lent.{lentHeld};
+ghost use Rattle.linearize.specs.Lent.{lentOutput};
+ghost use Rattle.plain.specs.Kinds.{codedRamp};
+ghost use Rattle.colorgrad_c.specs.Lists.{CodedSamples, CodedThins, CodedFlattens};
 
 #[no_mangle]
 pub extern "C" fn colorgrad_sample(

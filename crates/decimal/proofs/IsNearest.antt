@@ -14,9 +14,11 @@ use lib.Ieee.Digits.{size-le, size-reaches}
 use lib.Ieee.Fits.{kept-lt, round-is, round-fits}
 use lib.Ieee.Exact.{HasValue, units-val}
 use lib.Ieee.Nearest.{closest}
-use Rattle.decimal.specs.Nearest.{Sized, far, IsNearest}
+use Rattle.float.specs.Units.{Sized}
+use Rattle.decimal.specs.Nearest.{far, IsNearest}
 use Rattle.float.proofs.Nearest.{stays, moves}
-use Rattle.decimal.proofs.Units.{Full, shape, same-units, last-digit}
+use Rattle.float.proofs.Units.{Full, shape, same-units}
+use Rattle.decimal.proofs.LastDigit.{last-digit}
 use Rattle.decimal.proofs.Neighbours.{Between, full-next, few-next, nearer, tie}
 
 -- ---- what `round` picks: in units the fraction is n / p, and it drops k digits

@@ -4,6 +4,7 @@ pub mod Examples
 pub mod Finite
 pub mod Grammar
 pub mod IsNearest
+pub mod LastDigit
 pub mod Neighbours
 pub mod OneForm
 pub mod Parts
@@ -11,4 +12,3 @@ pub mod Place
 pub mod Scale
 pub mod Quick
 pub mod Theorems
-pub mod Units

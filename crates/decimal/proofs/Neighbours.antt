@@ -6,7 +6,7 @@ use Prim.Native.Nat.{ℕ, _+_, _-_, _*_, _%_, _^_, _≤_, _<_}
 use native.Mathlib.Nat.{le-trans, le-of-eq, le-of-lt, lt-of-not-le, mul-assoc, mul-comm, mul-le-mul-right, eq-of-mul-eq-mul-right}
 use native.Mathlib.Decide.{decLe}
 use native.Mathlib.Omega.{arith}
-use Rattle.decimal.proofs.Units.{Shape, Full, next}
+use Rattle.float.proofs.Units.{Shape, Full, next}
 
 -- ---- how far apart, over plain numbers: n is rest past low, and low + u is the next
 

@@ -13,14 +13,15 @@ use Rattle.decimal.specs.declared.Token.{Token}
 use Rattle.decimal.specs.declared.Token.the-variants.{Number, NoNumber}
 use Rattle.decimal.specs.Decimal.{readOf}
 use Rattle.decimal.specs.Form.{Form}
-use Rattle.decimal.specs.Nearest.{Sized, far, IsNearest}
+use Rattle.float.specs.Units.{Sized}
+use Rattle.decimal.specs.Nearest.{far, IsNearest}
 use Rattle.decimal.specs.Means.{Means, written, other}
 use Rattle.decimal.proofs.Grammar as grammar
 use Rattle.decimal.proofs.Grammar.{SomeForm}
 use Rattle.decimal.proofs.IsNearest as nearest
 use Rattle.decimal.proofs.OneForm as form
 use Rattle.decimal.proofs.Scale.{ten-le}
-use Rattle.decimal.proofs.Units as units
+use Rattle.float.proofs.Units as units
 
 small : {s : List ℕ} {neg : Bool} {d k : ℕ} → Form s neg d k → d < 2 ^ 64
 small f = lt-of-lt-of-le (grammar.form-small f) (lit≤ tt)

@@ -2,14 +2,8 @@
 use mathlib.Core.Path.{_≡_}
 use mathlib.Core.Bool.{Bool}
 use Prim.Native.Nat.{ℕ, _+_, _-_, _*_, _%_, _^_, _≤_}
-use lib.Dec.{T}
-use lib.Ieee.{Float, binary32, fits, toBits}
-use lib.Ieee.Exact.{HasValue}
-
--- y is a finite f32, negative where neg is true, and c times 2 ^ -149 in size: that is the smallest f32 above zero, and every finite f32 is a whole number of it. There is a zero of either sign.
-pub record Sized (y : Float) (neg : Bool) (c : ℕ) : Type 0 where
-  pub one : T (fits binary32 y)
-  pub is : HasValue y neg c (2 ^ 149)
+use lib.Ieee.{Float, binary32, toBits}
+use Rattle.float.specs.Units.{Sized}
 
 -- How far c units of 2 ^ -149 are from d / p: as whole numbers, in units and times p, c * p and d * 2 ^ 149. One of the differences is 0, since - stops there.
 abbrev pub far : ℕ → ℕ → ℕ → ℕ

@@ -12,11 +12,11 @@ use lib.Ieee.{Float}
 use borrow.Author.Tests.{le-ltb}
 use Rattle.blend.specs.declared.Stop.{Stop}
 use Rattle.stops.specs.declared.Kind.{Kind}
-use Rattle.desk.specs.Input.{input, inputOf}
+use Rattle.entries.specs.Input.{input, inputOf}
 use Rattle.desk.specs.Recoloured.{recoloured, SameStops}
 use Rattle.desk.specs.Tool.{deskOf, deskAnswer, deskOutput, mostPrinted, Desks, Prints}
 use Rattle.refresh.specs.declared.edit.Edit.{Edit}
-use Rattle.desk.specs.declared.reading.Edited.the-variants as edit
+use Rattle.entries.specs.declared.reading.Edited.the-variants as edit
 use Rattle.desk.specs.declared.Desked.{Desked}
 use Rattle.desk.specs.declared.Desked.the-variants as desked
 use Rattle.desk.proofs.Fits.{desk-most}

@@ -13,15 +13,15 @@ use Rattle.blend.specs.declared.Rgba.{Rgba}
 use Rattle.blend.specs.declared.Stop.{Stop}
 use Rattle.stops.specs.declared.Kind.the-variants.{Linear, Smoothstep}
 use Rattle.text.specs.Text.{firstOf, restOf, same, starts, fields}
-use Rattle.text.specs.Rows.{Numbers, all, none, addNumber, numbers}
-use Rattle.text.specs.declared.digits.Digits.{Digits}
-use Rattle.text.specs.declared.digits.Digits.the-variants.{Bad, Is}
-use Rattle.desk.specs.Entries.{exactly, channelsAt, toThreshold, thresholdEntry, toStop, stopEntry, indexOf, toChange, changeEntry, editEntry, stopTag, thresholdTag, editTag, kindLinear, kindSmoothstep, entryOf}
+use Rattle.rows.specs.Rows.{Numbers, all, none, addNumber, numbers}
+use Rattle.rows.specs.declared.digits.Digits.{Digits}
+use Rattle.rows.specs.declared.digits.Digits.the-variants.{Bad, Is}
+use Rattle.entries.specs.Entries.{exactly, channelsAt, toThreshold, thresholdEntry, toStop, stopEntry, indexOf, toChange, changeEntry, editEntry, stopTag, thresholdTag, editTag, kindLinear, kindSmoothstep, entryOf}
 use Rattle.desk.specs.Recoloured.{toTab, afterTab, changedLine}
 use Rattle.refresh.specs.declared.edit.Edit.{Edit}
-use Rattle.desk.specs.declared.fields.Entry.{Entry}
-use Rattle.desk.specs.declared.fields.Entry.the-variants as entry
-use Rattle.text.proofs.Read.{numbers-long, head-number}
+use Rattle.entries.specs.declared.fields.Entry.{Entry}
+use Rattle.entries.specs.declared.fields.Entry.the-variants as entry
+use Rattle.rows.proofs.Read.{numbers-long, head-number}
 use Rattle.desk.proofs.Parted.{fields-to, fields-after}
 
 -- ---- which form an entry has

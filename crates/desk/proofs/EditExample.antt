@@ -11,15 +11,15 @@ use Rattle.float.specs.F32.{f0, f1}
 use Rattle.blend.specs.declared.Stop.{Stop}
 use Rattle.stops.specs.declared.Kind.the-variants.{Linear}
 use Rattle.text.specs.Text.{every, atLf, onFirst, lines, same, starts, fields}
-use Rattle.text.specs.Digits.{digitsOf}
-use Rattle.text.specs.Rows.{addNumber, numbers}
-use Rattle.linearize.specs.Constants.{defaultThreshold}
-use Rattle.desk.specs.Entries.{exactly, thresholdEntry, stopEntry, indexOf, changeEntry, editEntry, entryOf}
-use Rattle.desk.specs.Input.{input, fromEnd, fromEdit, stopsOf, afterStops, fromStops, fromThreshold, fromKind, inputOf}
+use Rattle.rows.specs.Digits.{digitsOf}
+use Rattle.rows.specs.Rows.{addNumber, numbers}
+use Rattle.sampling.specs.Constants.{defaultThreshold}
+use Rattle.entries.specs.Entries.{exactly, thresholdEntry, stopEntry, indexOf, changeEntry, editEntry, entryOf}
+use Rattle.entries.specs.Input.{input, fromEnd, fromEdit, stopsOf, afterStops, fromStops, fromThreshold, fromKind, inputOf}
 use Rattle.desk.specs.Recoloured.{toTab, afterTab, changedLine, changedLines, SameStops, EditMade}
 use Rattle.desk.specs.Tool.{deskOf}
 use Rattle.refresh.specs.declared.edit.Edit.{Edit}
-use Rattle.desk.specs.declared.reading.Edited.the-variants as edit
+use Rattle.entries.specs.declared.reading.Edited.the-variants as edit
 use Rattle.desk.proofs.EditedLines.{edited-lines}
 
 bytes : String → List ℕ

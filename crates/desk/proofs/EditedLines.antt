@@ -12,15 +12,15 @@ use Rattle.blend.specs.declared.Rgba.{Rgba}
 use Rattle.blend.specs.declared.Stop.{Stop}
 use Rattle.stops.specs.declared.Kind.{Kind}
 use Rattle.text.specs.Text.{lines}
-use Rattle.linearize.specs.Constants.{defaultThreshold}
-use Rattle.desk.specs.Entries.{entryOf}
-use Rattle.desk.specs.Input.{Input, unread, input, mostBytes, ifStop, ifChange, fromEnd, fromEdit, stopsOf, afterStops, fromStops, fromThreshold, fromKind, inputOf}
+use Rattle.sampling.specs.Constants.{defaultThreshold}
+use Rattle.entries.specs.Entries.{entryOf}
+use Rattle.entries.specs.Input.{Input, unread, input, mostBytes, ifStop, ifChange, fromEnd, fromEdit, stopsOf, afterStops, fromStops, fromThreshold, fromKind, inputOf}
 use Rattle.desk.specs.Recoloured.{recoloured, changedLine, changedLines, SameStops, EditMade}
 use Rattle.desk.specs.Tool.{deskOf}
 use Rattle.refresh.specs.declared.edit.Edit.{Edit}
-use Rattle.desk.specs.declared.fields.Entry.{Entry}
-use Rattle.desk.specs.declared.fields.Entry.the-variants as entry
-use Rattle.desk.specs.declared.reading.Edited.the-variants as edit
+use Rattle.entries.specs.declared.fields.Entry.{Entry}
+use Rattle.entries.specs.declared.fields.Entry.the-variants as entry
+use Rattle.entries.specs.declared.reading.Edited.the-variants as edit
 use Rattle.desk.proofs.ChangedLines.{changed-entry}
 use Rattle.desk.proofs.EditedText.{edited-text}
 

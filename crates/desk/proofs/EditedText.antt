@@ -6,9 +6,10 @@ use mathlib.Core.Path.{_≡_, refl, sym, ap, ap₂, _∙_}
 use mathlib.Core.Bool.{Bool, true, false, cond, _&&_}
 use mathlib.Core.List.{List, [], _∷_}
 use lib.ListN.{length, getD}
+use lib.Dec.{leb}
 use lib.Ieee.{Float, nan, inf, lt}
 use lib.Ieee.Scale.{finite}
-use Rattle.refusals.specs.Refusals.{notFinite, falling}
+use Rattle.refusals.specs.Refusals.{misshapen, notFinite, falling}
 use Rattle.blend.specs.declared.Rgba.{Rgba}
 use Rattle.blend.specs.declared.Stop.{Stop}
 use Rattle.blend.proofs.FiniteLists.{finite-each}
@@ -18,21 +19,24 @@ use Rattle.stops.specs.declared.Kind.{Kind}
 use Rattle.stops.specs.declared.Checked.{Checked}
 use Rattle.stops.specs.declared.Checked.the-variants as checked
 use Rattle.gradient.specs.Ramp.{isGimp, checkOf, minOf, maxOf, colourOf}
-use Rattle.linearize.specs.Kept.{keptOf, refusalOf, coloursOf, listEvaluations}
-use Rattle.linearize.specs.Lent.{Held}
-use Rattle.linearize.specs.Desk.{andThen, farOf, shapeCheck, sampleCheck, heldCheck, pointsIn, fresh, freshEvaluations, sampleAnswer, sampleHeld, flattenEvaluations}
-use Rattle.linearize.proofs.Checks.{ramp-fine}
+use Rattle.thinning.specs.Kept.{keptOf, refusalOf, listEvaluations}
+use Rattle.blend.specs.Channels.{coloursOf}
+use Rattle.sampling.specs.Lent.{Held}
+use Rattle.sampling.specs.Sampling.{andThen, farOf, shapeCheck, sampleCheck, heldCheck, fresh, freshEvaluations, sampleAnswer, sampleHeld}
+use Rattle.linearize.specs.Desk.{pointsIn, flattenEvaluations}
+use Rattle.sampling.proofs.Checks.{ramp-fine}
 use Rattle.refresh.specs.Edit.{changed, edited}
 use Rattle.refresh.specs.RefreshDesk.{editCheck, newEvaluations}
 use Rattle.refresh.specs.declared.edit.Edit.{Edit}
 use Rattle.refresh.proofs.Edits.{colour-other, colour-new, changed-length}
 use Rattle.refresh.proofs.EditChecks.{edit-fine, edit-allowed}
 use Rattle.refresh.proofs.Theorem.{refresh-passes, fresh-renewed}
-use Rattle.desk.specs.Input.{input, positionsIn, channelsIn, inputOf}
+use Rattle.entries.specs.Input.{input, mostKept, positionsIn, channelsIn, inputOf}
+use Rattle.writing.specs.Printed.{refusedText}
 use Rattle.desk.specs.Recoloured.{recoloured, SameStops}
 use Rattle.desk.specs.Tool.{room, madeText, freshText, relistText, editText, blank, inputText, deskOf}
-use Rattle.desk.specs.declared.reading.Edited.the-variants as edit
-use Rattle.desk.proofs.Inputs.{length-positions, length-channels}
+use Rattle.entries.specs.declared.reading.Edited.the-variants as edit
+use Rattle.entries.proofs.Inputs.{length-positions, length-channels}
 use Rattle.desk.proofs.Plain.{read-finite}
 use Rattle.desk.proofs.Heads.{same-text, same-answers}
 
@@ -42,6 +46,12 @@ unfolding positionsIn recoloured
 same-positions [] k c = refl
 same-positions (s ∷ ss) zero c = refl
 same-positions (s ∷ ss) (suc k) c = ap (λ (l : List Float). s .position ∷ l) (same-positions ss k c)
+
+same-count : (ss : List Stop) (k : ℕ) (c : Rgba) → length (recoloured ss k c) ≡ length ss
+unfolding recoloured
+same-count [] k c = refl
+same-count (s ∷ ss) zero c = refl
+same-count (s ∷ ss) (suc k) c = ap suc (same-count ss k c)
 
 changed-channels : (ss : List Stop) (k : ℕ) (c : Rgba) → k < length ss → channelsIn (recoloured ss k c) ≡ changed (channelsIn ss) k c
 unfolding channelsIn recoloured changed
@@ -102,6 +112,10 @@ module _ (ramp : Ramp) (e : Edit) (asked : Float) (was : Held) (same : heldCheck
     go checked.Fine h = edit-done h
 
 -- ---- the tool
+same-either : (t : Bool) (a b c : List ℕ) → SameStops a b → SameStops (cond t a c) (cond t b c)
+same-either true a b c h = h
+same-either false a b c h = same-text refl
+
 -- s has an edit of a stop that is there; s′ has the same stops with that one changed, and no edit
 pub edited-text : (s s′ : List ℕ) {kind : Kind} {asked : Float} {stops : List Stop} {e : Edit} → inputOf s ≡ input kind asked stops (edit.By e) → e .stop < length stops → inputOf s′ ≡ input kind asked (recoloured stops (e .stop) (e .colour)) edit.Not → SameStops (deskOf s) (deskOf s′)
 unfolding deskOf inputText
@@ -116,5 +130,6 @@ edited-text s s′ {kind} {asked} {stops} {e} i h j =
     let old : finiteRgba (colourAt cs k) ≡ true = rw (each (4 * k) (omega arith), each (4 * k + 1) (omega arith), each (4 * k + 2) (omega arith), each (4 * k + 3) (omega arith)) in
     let short : k < length ps = omega (arith, length-positions stops) in
     let ramp = rampOf kind ps cs [] in
-    rw (i, j, same-positions stops k (e .colour), changed-channels stops k (e .colour) h)
-    (edit-fresh ramp e asked blank (sampling-same ramp e there old (f .colour-fine) (f .kind-stops) blank) (sym (edit-fine kind (length ps) e (f .kind-fine) short (f .colour-fine))))
+    rw (i, j, same-count stops k (e .colour), same-positions stops k (e .colour), changed-channels stops k (e .colour) h)
+    (same-either (leb (length stops) mostKept) _ _ (refusedText misshapen)
+    (edit-fresh ramp e asked blank (sampling-same ramp e there old (f .colour-fine) (f .kind-stops) blank) (sym (edit-fine kind (length ps) e (f .kind-fine) short (f .colour-fine)))))

@@ -6,9 +6,10 @@ use mathlib.Core.Path.{_≡_, refl, ap, _∙_}
 use mathlib.Core.Bool.{Bool, true, false, cond}
 use mathlib.Core.List.{List, [], _∷_, _++_}
 use lib.ListN.{length, drop, length-append}
-use lib.Dec.{ltb}
+use lib.Dec.{leb, ltb}
 use lib.Ieee.{Float}
 use borrow.Author.Tests.{ltb-false}
+use Rattle.refusals.specs.Refusals.{misshapen}
 use Rattle.stops.specs.Lent.{Ramp, rampOf}
 use Rattle.stops.specs.Stops.{stopAt}
 use Rattle.stops.specs.Answers.{onFine}
@@ -16,10 +17,12 @@ use Rattle.stops.specs.declared.Checked.{Checked}
 use Rattle.stops.specs.declared.Checked.the-variants as checked
 use Rattle.gradient.specs.Ramp.{maxOf, colourOf}
 use Rattle.linearize.specs.Places.{listOf}
-use Rattle.linearize.specs.Lent.{Held}
-use Rattle.linearize.specs.Desk.{farOf, answerBy, heldCheck, sampleAnswer, fresh, freshEvaluations, flattenEvaluations}
-use Rattle.linearize.specs.declared.Sampled.the-variants as sampled
-use Rattle.linearize.proofs.Answers.{fresh-ready, fresh-bound}
+use Rattle.sampling.specs.Lent.{Held}
+use Rattle.sampling.specs.Sampling.{farOf, heldCheck, sampleAnswer, fresh, freshEvaluations}
+use Rattle.linearize.specs.Desk.{answerBy, flattenEvaluations}
+use Rattle.sampling.specs.declared.Sampled.the-variants as sampled
+use Rattle.linearize.proofs.Records.{fresh-ready}
+use Rattle.sampling.proofs.Answers.{fresh-bound}
 use Rattle.linearize.proofs.Bounds.{list-bound}
 use Rattle.linearize.proofs.Calls.{kept-room}
 use Rattle.linearize.proofs.Following.{list-some, list-most}
@@ -27,11 +30,11 @@ use Rattle.refresh.specs.Edit.{edited}
 use Rattle.refresh.specs.RefreshDesk.{refreshCheck}
 use Rattle.refresh.specs.declared.edit.Edit.{Edit}
 use Rattle.refresh.proofs.RefreshAnswers.{relist-most}
-use Rattle.desk.specs.Input.{Input, unread, input, positionsIn, channelsIn, inputOf}
-use Rattle.desk.specs.Printed.{decimalOf, countText, stopText, rowsText, lineText, unreadText, refusedText, evaluationsWord, listText, Puts}
+use Rattle.entries.specs.Input.{Input, unread, input, mostKept, positionsIn, channelsIn, inputOf}
+use Rattle.writing.specs.Printed.{decimalOf, countText, stopText, rowsText, lineText, unreadText, refusedText, evaluationsWord, listText, Puts}
 use Rattle.desk.specs.Tool.{room, listedText, madeText, onSampled, freshText, relistText, editText, blank, inputText, deskOf, mostPrinted, Prints}
-use Rattle.desk.specs.declared.reading.Edited.the-variants as edit
-use Rattle.desk.proofs.Texts.{length-decimal, length-stop}
+use Rattle.entries.specs.declared.reading.Edited.the-variants as edit
+use Rattle.writing.proofs.Texts.{length-decimal, length-stop}
 use Rattle.desk.proofs.Making.{sets-front}
 
 -- ---- the texts
@@ -121,11 +124,15 @@ module _ (ramp : Ramp) (e : Edit) (asked : Float) where
   edit-most was = sampled-most (heldCheck ramp was) (freshEvaluations ramp asked) _ (relisted-most _ _ (fresh-bound ramp asked (freshEvaluations ramp asked) refl))
 
 -- ---- the tool
+either-most : (t : Bool) (text : List ℕ) (number : ℕ) → length text ≤ mostPrinted → length (cond t text (refusedText number)) ≤ mostPrinted
+either-most true text number h = h
+either-most false text number h = refused-most number
+
 input-most : (i : Input) → length (inputText i) ≤ mostPrinted
 unfolding inputText
 input-most (unread line) = unread-most line
-input-most (input kind asked stops edit.Not) = fresh-most (rampOf kind (positionsIn stops) (channelsIn stops) []) asked blank
-input-most (input kind asked stops (edit.By e)) = edit-most (rampOf kind (positionsIn stops) (channelsIn stops) []) e asked blank
+input-most (input kind asked stops edit.Not) = either-most (leb (length stops) mostKept) _ misshapen (fresh-most (rampOf kind (positionsIn stops) (channelsIn stops) []) asked blank)
+input-most (input kind asked stops (edit.By e)) = either-most (leb (length stops) mostKept) _ misshapen (edit-most (rampOf kind (positionsIn stops) (channelsIn stops) []) e asked blank)
 
 -- the theorem: no input prints more
 pub desk-most : (s : List ℕ) → length (deskOf s) ≤ mostPrinted

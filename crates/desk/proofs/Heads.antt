@@ -12,9 +12,9 @@ use borrow.Author.Tests.{ne-eqb}
 use Rattle.float.proofs.Flags.{both-l, both-r, failed}
 use Rattle.text.specs.Text.{every, onFirst, notTab, fields}
 use Rattle.text.proofs.Bytes.{every-both}
-use Rattle.text.proofs.Fields.{fields-past}
+use Rattle.rows.proofs.Fields.{fields-past}
 use Rattle.linearize.specs.Desk.{listedOf}
-use Rattle.desk.specs.Printed.{decimalOf, countText, rowsText, lineText, refusedText, evaluationsWord, listText}
+use Rattle.writing.specs.Printed.{decimalOf, countText, rowsText, lineText, refusedText, evaluationsWord, listText}
 use Rattle.desk.specs.Recoloured.{firstLine, afterFirst, SameStops}
 use Rattle.desk.specs.Tool.{listedText}
 

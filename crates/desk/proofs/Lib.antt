@@ -1,9 +1,6 @@
 -- Laws that belong to no one function.
-mod Texts
-mod Rows
-mod Others
-mod Inputs
-pub mod Making
+mod Making
+mod Asking
 pub mod Fits
 mod Plain
 mod Heads

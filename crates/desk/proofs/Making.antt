@@ -1,49 +1,47 @@
 -- What the calls make, and what is printed of it. Assumes nothing.
-use Prim.Native.Nat.{ℕ, zero, suc, _+_, _-_, _*_, _/_, _≤_, _<_, min}
+use Prim.Native.Nat.{ℕ, zero, suc, _+_, _*_, _/_, _≤_, _<_, min}
 use native.Mathlib.Omega.{arith}
-use mathlib.Core.Path.{_≡_, refl, sym, ap, ap₂, subst, _∙_}
-use mathlib.Core.Bool.{Bool, true, false, cond, _&&_}
+use mathlib.Core.Path.{_≡_, refl, sym, ap, ap₂, _∙_}
+use mathlib.Core.Bool.{true, false}
 use mathlib.Core.List.{List, [], _∷_, _++_}
-use lib.ListN.{length, take, drop, set, replicate, length-replicate}
+use lib.ListN.{length, take, drop, replicate}
 use lib.Seq.{sets, sets-eq, take-at}
-use lib.Dec.{leb, ltb, eqb}
+use lib.Dec.{ltb}
 use lib.Ieee.{Float}
-use borrow.Author.Tests.{ne-eqb, le-leb, lt-leb, lt-ltb, le-ltb}
-use Rattle.refusals.specs.Refusals.{misshapen}
-use Rattle.refusals.specs.Limits.{mostStops, mostSegments}
-use Rattle.stops.specs.Lent.{Ramp, rampOf, Change, change}
-use Rattle.stops.specs.Stops.{shaped, stopsCheck, stopAt}
+use borrow.Author.Tests.{lt-ltb, le-ltb}
+use Rattle.stops.specs.Lent.{Ramp, Change, change}
+use Rattle.stops.specs.Stops.{stopAt}
 use Rattle.stops.specs.Answers.{onFine}
-use Rattle.stops.specs.declared.Kind.{Kind}
 use Rattle.stops.specs.declared.Checked.{Checked}
 use Rattle.stops.specs.declared.Checked.the-variants as checked
-use Rattle.gradient.specs.Gimp.{segments, gimpShaped, gimpCheck}
-use Rattle.gradient.specs.Ramp.{isGimp, checkOf, colourOf}
-use Rattle.linearize.specs.Midpoints.{Gradient, Far}
-use Rattle.linearize.specs.Kept.{keptOf, refusalOf, roomOf, coloursOf, writtenOf, positionsWritten, channelsWritten, listEvaluations}
-use Rattle.linearize.specs.Lent.{Held, Output, outputOf}
-use Rattle.linearize.specs.Desk.{farOf, answerBy, heldCheck, pointsIn, fresh, flattenEvaluations, withSampling, stopsOfListed, evaluationsOfSampled, sampleCheck, sampleAnswer, written, flattenOutput}
-use Rattle.linearize.specs.Promises.{Samples, Flattens}
+use Rattle.gradient.specs.Ramp.{colourOf}
+use Rattle.sampling.specs.Midpoints.{Gradient, Far}
+use Rattle.thinning.specs.Kept.{keptOf, refusalOf, roomOf, writtenOf, positionsWritten, channelsWritten, listEvaluations}
+use Rattle.blend.specs.Channels.{coloursOf}
+use Rattle.sampling.specs.Lent.{Held}
+use Rattle.linearize.specs.Lent.{Output, outputOf}
+use Rattle.sampling.specs.Sampling.{farOf, heldCheck, fresh, evaluationsOfSampled}
+use Rattle.linearize.specs.Desk.{answerBy, pointsIn, flattenEvaluations, withSampling, stopsOfListed, written, flattenOutput}
+use Rattle.sampling.specs.Promises.{Samples}
+use Rattle.linearize.specs.Promises.{Flattens}
 use Rattle.linearize.specs.declared.Listed.{Listed}
 use Rattle.linearize.specs.declared.Listed.the-variants as listed
-use Rattle.linearize.specs.declared.Sampled.{Sampled}
-use Rattle.linearize.specs.declared.Sampled.the-variants as sampled
-use Rattle.linearize.proofs.Stores.{fill-next, sets-all}
-use Rattle.linearize.proofs.Calls.{kept-room, sample-most}
+use Rattle.sampling.specs.declared.Sampled.{Sampled}
+use Rattle.sampling.specs.declared.Sampled.the-variants as sampled
+use Rattle.linearize.proofs.Calls.{kept-room}
+use Rattle.sampling.proofs.Answers.{sample-most}
 use Rattle.refresh.specs.Edit.{edited}
 use Rattle.refresh.specs.RefreshDesk.{refreshCheck, newEvaluations, refreshOutput, RefreshLists}
 use Rattle.refresh.specs.declared.edit.Edit.{Edit}
-use Rattle.desk.specs.Input.{unread, positionsIn, channelsIn, inputOf}
-use Rattle.desk.specs.Printed.{countText, stopText, rowsText, unreadText, refusedText, stopsWord, evaluationsWord, listText, Puts}
-use Rattle.desk.specs.Steps.{keptStops, Room, Ready, Told, Reads}
-use Rattle.desk.specs.Tool.{room, listedText, keptIn, madeText, freshText, newPoints, relistText, editText, blank, rampText, inputText, deskOf, deskAnswer, deskOutput, Desks}
-use Rattle.desk.specs.declared.reading.Edited.{Edited}
-use Rattle.desk.specs.declared.reading.Edited.the-variants as edit
-use Rattle.desk.specs.declared.reading.Asked.{Asked}
-use Rattle.desk.specs.declared.reading.Asked.the-variants as asked
+use Rattle.writing.specs.Printed.{countText, stopText, rowsText, stopsWord, evaluationsWord, listText, replyText, Puts}
+use Rattle.writing.specs.declared.Reply.{Reply}
+use Rattle.writing.specs.declared.Reply.the-variants as reply
+use Rattle.desk.specs.Steps.{replyOf, Says, Room}
+use Rattle.desk.specs.Tool.{room, listedText, keptIn, madeText, freshText, newPoints, relistText, editText, blank, rampText, deskOf, deskAnswer, deskOutput, Desks}
+use Rattle.entries.specs.declared.reading.Edited.{Edited}
+use Rattle.entries.specs.declared.reading.Edited.the-variants as edit
 use Rattle.desk.specs.declared.Desked.the-variants as desked
-use Rattle.desk.proofs.Texts.{puts-size}
-use Rattle.desk.proofs.Inputs.{length-positions, length-channels}
+use Rattle.writing.proofs.Texts.{puts-size}
 
 -- ---- stores from the start
 pub sets-front : {A : Type 0} (vs l : List A) → length vs ≤ length l → sets l 0 vs ≡ vs ++ drop (length vs) l
@@ -51,7 +49,7 @@ sets-front vs l h =
     let m : 0 + length vs ≡ length vs = omega arith in
     sets-eq vs l 0 (omega arith) ∙ ap (λ (n : ℕ). vs ++ drop n l) m
 
-take-front : {A : Type 0} (vs l : List A) (n : ℕ) → length vs ≡ n → n ≤ length l → take n (sets l 0 vs) ≡ vs
+pub take-front : {A : Type 0} (vs l : List A) (n : ℕ) → length vs ≡ n → n ≤ length l → take n (sets l 0 vs) ≡ vs
 take-front vs l n e h = ap (take n) (sets-front vs l (omega arith)) ∙ take-at vs (drop (length vs) l) n e
 
 -- ---- the list of an answer
@@ -95,18 +93,25 @@ with-answer checked.Fine zero n e s = refl
 room-is : {ps cs : List Float} → Room ps cs → roomOf ps cs ≡ room
 room-is {ps} {cs} w = ap₂ (λ (n m : ℕ). min n (m / 4)) (w .positions) (w .channels)
 
--- ---- what an answer prints
-pub done-fits : {r : Listed} {n e : ℕ} → r ≡ listed.Done n e → stopsOfListed r ≤ room → n ≤ room
-done-fits {r} {n} {e} i h = omega (arith, ap stopsOfListed i)
+-- ---- what is said of an answer
+pub done-fits : {l : Listed} {n e : ℕ} → l ≡ listed.Done n e → stopsOfListed l ≤ room → n ≤ room
+done-fits {l} {n} {e} i h = omega (arith, ap stopsOfListed i)
 
-pub done-text : (ps cs : List Float) {r : Listed} {n e : ℕ} → r ≡ listed.Done n e → listText n e ps cs ≡ listedText r ps cs
-done-text ps cs i = sym (ap (λ (x : Listed). listedText x ps cs) i)
+pub done-reply : {l : Listed} {n e : ℕ} → l ≡ listed.Done n e → reply.Made n e ≡ replyOf l
+done-reply i = sym (ap replyOf i)
 
-pub refused-text : (ps cs : List Float) {r : Listed} {number : ℕ} → r ≡ listed.Refused number → refusedText number ≡ listedText r ps cs
-refused-text ps cs i = sym (ap (λ (x : Listed). listedText x ps cs) i)
+pub refused-reply : {l : Listed} {number : ℕ} → l ≡ listed.Refused number → reply.Refused number ≡ replyOf l
+refused-reply i = sym (ap replyOf i)
 
-pub puts-as : {out out′ : List ℕ} {at r : ℕ} {xs ys : List ℕ} → Puts out out′ at xs r → xs ≡ ys → Puts out out′ at ys r
-puts-as {out} {out′} {at} {r} {xs} {ys} p e = record { next = p .next ∙ ap (λ (l : List ℕ). at + length l) e; written = p .written ∙ ap (sets out at) e }
+listed-reply : (l : Listed) (ps cs : List Float) → replyText (replyOf l) ps cs ≡ listedText l ps cs
+listed-reply (listed.Done n e) ps cs = refl
+listed-reply (listed.Refused number) ps cs = refl
+
+pub says-listed : (l : Listed) {ps cs : List Float} {r : Reply} {text : List ℕ} → r ≡ replyOf l → listedText l ps cs ≡ text → Says text r ps cs
+says-listed l {ps} {cs} e t = record { is = ap (λ (x : Reply). replyText x ps cs) e ∙ listed-reply l ps cs ∙ t }
+
+pub says-as : {ps cs : List Float} {r : Reply} {text other : List ℕ} → Says text r ps cs → text ≡ other → Says other r ps cs
+says-as w e = record { is = w .is ∙ e }
 
 -- ---- a list that was made
 fits-in : (g : Gradient) (far : Far) {ops ocs : List Float} → Room ops ocs → (ts : List Float) → refusalOf g far (roomOf ops ocs) ts ≡ 0 → length (keptOf g far ts) ≤ room
@@ -142,9 +147,9 @@ module _ {ramp : Ramp} {asked : Float} {held : Change Held} {out : Change Output
 
 -- ---- sampling, and then the list after a refresh
 module _ {ramp : Ramp} (e : Edit) {asked : Float} {held : Change Held} {r : Sampled} (w : Samples ramp asked held r) where
-  pub sample-no : {number : ℕ} → r ≡ sampled.Refused number → refusedText number ≡ editText ramp e asked (held .entry)
+  pub sample-no : {ps cs : List Float} {number : ℕ} → r ≡ sampled.Refused number → Says (editText ramp e asked (held .entry)) (reply.Refused number) ps cs
   unfolding editText
-  sample-no i = rw (sym (w .answer) ∙ i)
+  sample-no i = record { is = rw (sym (w .answer) ∙ i) }
 
   module _ {n : ℕ} (i : r ≡ sampled.Done n) where
     pub sample-few : n ≤ 13716
@@ -169,28 +174,6 @@ module _ {ramp : Ramp} (e : Edit) {asked : Float} {held : Change Held} {r : Samp
           made-text (edited ramp e) asked (refreshCheck ramp e (held .exit)) (newPoints ramp e asked (held .exit)) (n + spent) out made v answers (u .output)
           ∙ rw (sym (w .answer) ∙ i) (ap (λ (h : Held). relistText ramp e asked h n) (w .left))
 
--- ---- more stops than a ramp may have
-and-false : (t : Bool) → (t && false) ≡ false
-and-false true = refl
-and-false false = refl
-
-no-codes : (n p c : ℕ) → gimpShaped n p c 0 ≡ false
-unfolding gimpShaped
-no-codes zero p c = refl
-no-codes (suc m) p c = rw (ne-eqb 0 (2 * suc m) (λ e. omega arith)) (and-false (leb 1 (suc m) && leb (suc m) mostSegments && eqb p (3 * suc m) && eqb c (8 * suc m)))
-
-crowded : (kind : Kind) (ps cs : List Float) → keptStops < length ps → checkOf (rampOf kind ps cs []) ≡ checked.Refused misshapen
-unfolding checkOf stopsCheck shaped gimpCheck mostStops
-crowded kind ps cs h = go (isGimp kind) where
-  go : (t : Bool) → cond t (gimpCheck ps cs []) (stopsCheck (rampOf kind ps cs [])) ≡ checked.Refused misshapen
-  go true = rw (no-codes (segments ps) (length ps) (length cs))
-  go false = rw (le-leb 2 (length ps) (omega arith), lt-leb (length ps) 512 h)
-
-crowded-text : (kind : Kind) (ps cs : List Float) (asked : Float) (e : Edited) → keptStops < length ps → refusedText 1 ≡ rampText (rampOf kind ps cs []) asked e
-unfolding freshText madeText editText sampleAnswer sampleCheck
-crowded-text kind ps cs asked edit.Not h = rw (crowded kind ps cs h)
-crowded-text kind ps cs asked (edit.By e) h = rw (crowded kind ps cs h)
-
 -- ---- a ramp with or without an edit
 module _ (ramp : Ramp) (asked : Float) {e : Edited} where
   pub ramp-fresh : e ≡ edit.Not → freshText ramp asked blank ≡ rampText ramp asked e
@@ -198,47 +181,6 @@ module _ (ramp : Ramp) (asked : Float) {e : Edited} where
 
   pub ramp-edited : {d : Edit} → e ≡ edit.By d → editText ramp d asked blank ≡ rampText ramp asked e
   ramp-edited i = sym (ap (rampText ramp asked) i)
-
--- ---- what was read
-module _ {s : List ℕ} {ps ps′ cs cs′ : List Float} {r : Asked} (w : Reads s ps ps′ cs cs′ r) where
-  pub reads-unread : {line : ℕ} → r ≡ asked.Unread line → inputOf s ≡ unread line
-  unfolding Told
-  reads-unread i = subst (λ (x : Asked). Told s ps ps′ cs cs′ x) i (w .told)
-
-  pub reads-ready : {kind : Kind} {x : Float} {n : ℕ} {e : Edited} → r ≡ asked.Ramp kind x n e → Ready s ps ps′ cs cs′ kind x n e
-  unfolding Told
-  reads-ready i = subst (λ (x : Asked). Told s ps ps′ cs cs′ x) i (w .told)
-
--- ---- the tool
-module _ {s : List ℕ} {ps ps′ cs cs′ : List Float} {kind : Kind} {asked : Float} {n : ℕ} {e : Edited} (w : Ready s ps ps′ cs cs′ kind asked n e) where
-  is-ramp : deskOf s ≡ rampText (rampOf kind (positionsIn (w .stops)) (channelsIn (w .stops)) []) asked e
-  unfolding deskOf inputText
-  is-ramp = ap inputText (w .is)
-
-  pub too-many-stops : keptStops < n → refusedText 1 ≡ deskOf s
-  too-many-stops h = crowded-text kind (positionsIn (w .stops)) (channelsIn (w .stops)) asked e (omega (arith, length-positions (w .stops), w .count)) ∙ sym is-ramp
-
-  pub ramp-read : length ps ≡ 512 → length cs ≡ 2048 → n ≤ 512 → rampText (rampOf kind (take n ps′) (take (4 * n) cs′) []) asked e ≡ deskOf s
-  ramp-read p c h =
-      ap₂ (λ (x y : List Float). rampText (rampOf kind x y []) asked e)
-      (ap (take n) (w .positions) ∙ take-front (positionsIn (w .stops)) ps n (length-positions (w .stops) ∙ sym (w .count)) (omega arith))
-      (ap (take (4 * n)) (w .channels) ∙ take-front (channelsIn (w .stops)) cs (4 * n) (omega (arith, length-channels (w .stops), w .count)) (omega arith))
-      ∙ sym is-ramp
-
-pub unread-text : (s : List ℕ) {line : ℕ} → inputOf s ≡ unread line → unreadText line ≡ deskOf s
-unfolding deskOf inputText
-unread-text s i = sym (ap inputText i)
-
--- ---- zeros
-pub zeros-next : (l : List ℕ) (i : ℕ) → set (sets l 0 (replicate i 0)) i 0 ≡ sets l 0 (replicate (i + 1) 0)
-zeros-next l i =
-    let m : i + 1 - 0 ≡ i + 1 = omega arith in
-    fill-next l 0 i i 0 (omega arith) (omega arith) ∙ ap (λ (n : ℕ). sets l 0 (replicate n 0)) m
-
-pub zeros-done : (l : List ℕ) (i : ℕ) → i ≤ length l → length l ≤ i → sets l 0 (replicate i 0) ≡ replicate (length l) 0
-zeros-done l i a b =
-    let e : i ≡ length l = omega arith in
-    sets-all l (replicate i 0) (length-replicate i 0 ∙ e) ∙ ap (λ (n : ℕ). replicate n 0) e
 
 -- ---- the output
 module _ (s : List ℕ) {out mid : List ℕ} {n : ℕ} (p : Puts out mid 0 (deskOf s) n) where

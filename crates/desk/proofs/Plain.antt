@@ -16,19 +16,19 @@ use Rattle.stops.specs.Stops.{finiteRgba}
 use Rattle.stops.specs.declared.Kind.{Kind}
 use Rattle.gradient.specs.Ramp.{isGimp}
 use Rattle.text.specs.Text.{same, starts, fields, lines}
-use Rattle.text.specs.Rows.{Numbers, all, none, numbers}
-use Rattle.text.specs.declared.digits.Digits.{Digits}
-use Rattle.text.specs.declared.digits.Digits.the-variants.{Bad, Is}
-use Rattle.text.proofs.Read.{Finite, numbers-finite}
-use Rattle.linearize.specs.Constants.{defaultThreshold}
+use Rattle.rows.specs.Rows.{Numbers, all, none, numbers}
+use Rattle.rows.specs.declared.digits.Digits.{Digits}
+use Rattle.rows.specs.declared.digits.Digits.the-variants.{Bad, Is}
+use Rattle.rows.proofs.Read.{Finite, numbers-finite}
+use Rattle.sampling.specs.Constants.{defaultThreshold}
 use Rattle.refresh.specs.RefreshDesk.{refreshable}
-use Rattle.desk.specs.Entries.{exactly, toThreshold, thresholdEntry, toStop, stopEntry, indexOf, toChange, changeEntry, editEntry, stopTag, thresholdTag, editTag, kindLinear, kindSmoothstep, entryOf}
-use Rattle.desk.specs.Input.{Input, unread, input, mostBytes, ifRamp, ifThreshold, ifStop, ifChange, fromEnd, fromEdit, stopsOf, afterStops, fromStops, fromThreshold, fromKind, inputOf, channelsIn}
+use Rattle.entries.specs.Entries.{exactly, toThreshold, thresholdEntry, toStop, stopEntry, indexOf, toChange, changeEntry, editEntry, stopTag, thresholdTag, editTag, kindLinear, kindSmoothstep, entryOf}
+use Rattle.entries.specs.Input.{Input, unread, input, mostBytes, ifRamp, ifThreshold, ifStop, ifChange, fromEnd, fromEdit, stopsOf, afterStops, fromStops, fromThreshold, fromKind, inputOf, channelsIn}
 use Rattle.refresh.specs.declared.edit.Edit.{Edit}
-use Rattle.desk.specs.declared.fields.Entry.{Entry}
-use Rattle.desk.specs.declared.fields.Entry.the-variants as entry
-use Rattle.desk.specs.declared.reading.Edited.{Edited}
-use Rattle.desk.specs.declared.reading.Edited.the-variants as edit
+use Rattle.entries.specs.declared.fields.Entry.{Entry}
+use Rattle.entries.specs.declared.fields.Entry.the-variants as entry
+use Rattle.entries.specs.declared.reading.Edited.{Edited}
+use Rattle.entries.specs.declared.reading.Edited.the-variants as edit
 
 -- ---- entries
 

@@ -13,15 +13,15 @@ use Rattle.blend.specs.declared.Stop.{Stop}
 use Rattle.stops.specs.declared.Kind.{Kind}
 use Rattle.text.specs.Text.{every, atLf, onFirst, lines}
 use Rattle.text.proofs.Bytes.{every-both, every-drop}
-use Rattle.text.proofs.Fields.{few-fields}
-use Rattle.desk.specs.Entries.{entryOf}
-use Rattle.desk.specs.Input.{Input, unread, input, mostBytes, ifStop, fromKind, inputOf}
+use Rattle.rows.proofs.Fields.{few-fields}
+use Rattle.entries.specs.Entries.{entryOf}
+use Rattle.entries.specs.Input.{Input, unread, input, mostBytes, ifStop, fromKind, inputOf}
 use Rattle.desk.specs.Recoloured.{toTab, afterTab, changedLine, changedLines, SameStops, inLine, textOf, unbroken}
 use Rattle.desk.specs.Tool.{deskOf}
 use Rattle.refresh.specs.declared.edit.Edit.{Edit}
-use Rattle.desk.specs.declared.fields.Entry.{Entry}
-use Rattle.desk.specs.declared.fields.Entry.the-variants as entry
-use Rattle.desk.specs.declared.reading.Edited.the-variants as edit
+use Rattle.entries.specs.declared.fields.Entry.{Entry}
+use Rattle.entries.specs.declared.fields.Entry.the-variants as entry
+use Rattle.entries.specs.declared.reading.Edited.the-variants as edit
 use Rattle.desk.proofs.ChangedLines.{edit-fields}
 use Rattle.desk.proofs.EditedLines.{edited-lines}
 

@@ -1,7 +1,4 @@
--- What the tool reads, and what it prints.
-pub mod Entries
-pub mod Input
-pub mod Printed
+-- The tool: its calls, and what it prints of them.
 pub mod Recoloured
 pub mod Steps
 pub mod Tool

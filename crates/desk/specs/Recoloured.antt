@@ -8,11 +8,11 @@ use lib.Dec.{eqb}
 use Rattle.blend.specs.declared.Rgba.{Rgba}
 use Rattle.blend.specs.declared.Stop.{Stop}
 use Rattle.text.specs.Text.{every, lines, fields}
-use Rattle.desk.specs.Entries.{stopTag, entryOf}
-use Rattle.desk.specs.Input.{mostBytes, ifStop}
-use Rattle.desk.specs.Printed.{refusedText}
+use Rattle.entries.specs.Entries.{stopTag, entryOf}
+use Rattle.entries.specs.Input.{mostBytes, ifStop}
+use Rattle.writing.specs.Printed.{refusedText}
 use Rattle.refresh.specs.declared.edit.Edit.{Edit}
-use Rattle.desk.specs.declared.fields.Entry.the-variants as entry
+use Rattle.entries.specs.declared.fields.Entry.the-variants as entry
 
 -- the stops with another colour at stop k
 unfoldable pub recoloured : List Stop → ℕ → Rgba → List Stop

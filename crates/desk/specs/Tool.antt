@@ -4,27 +4,30 @@ use mathlib.Core.Path.{_≡_}
 use mathlib.Core.Bool.{cond}
 use mathlib.Core.List.{List, [], _++_}
 use lib.ListN.{length, drop, replicate}
-use lib.Dec.{ltb}
+use lib.Dec.{leb, ltb}
 use lib.Ieee.{Float}
 use Rattle.float.specs.F32.{f0}
+use Rattle.refusals.specs.Refusals.{misshapen}
 use Rattle.stops.specs.Lent.{Ramp, rampOf}
 use Rattle.stops.specs.declared.Checked.{Checked}
 use Rattle.gradient.specs.Ramp.{colourOf}
-use Rattle.linearize.specs.Constants.{cells, recordLength}
-use Rattle.linearize.specs.Kept.{keptOf, refusalOf, coloursOf, listEvaluations}
-use Rattle.linearize.specs.Lent.{Held, heldOf}
-use Rattle.linearize.specs.Desk.{farOf, answerBy, heldCheck, pointsIn, fresh, sampleAnswer, sampleHeld, flattenEvaluations}
+use Rattle.sampling.specs.Constants.{cells, recordLength}
+use Rattle.thinning.specs.Kept.{keptOf, refusalOf, listEvaluations}
+use Rattle.blend.specs.Channels.{coloursOf}
+use Rattle.sampling.specs.Lent.{Held, heldOf}
+use Rattle.sampling.specs.Sampling.{farOf, heldCheck, fresh, sampleAnswer, sampleHeld}
+use Rattle.linearize.specs.Desk.{answerBy, pointsIn, flattenEvaluations}
 use Rattle.linearize.specs.declared.Listed.{Listed}
 use Rattle.linearize.specs.declared.Listed.the-variants as listed
-use Rattle.linearize.specs.declared.Sampled.{Sampled}
-use Rattle.linearize.specs.declared.Sampled.the-variants as sampled
+use Rattle.sampling.specs.declared.Sampled.{Sampled}
+use Rattle.sampling.specs.declared.Sampled.the-variants as sampled
 use Rattle.refresh.specs.Edit.{edited}
 use Rattle.refresh.specs.RefreshDesk.{refreshCheck, renewed, newEvaluations}
-use Rattle.desk.specs.Input.{Input, unread, input, positionsIn, channelsIn, inputOf}
-use Rattle.desk.specs.Printed.{unreadText, refusedText, listText}
+use Rattle.entries.specs.Input.{Input, unread, input, mostKept, positionsIn, channelsIn, inputOf}
+use Rattle.writing.specs.Printed.{unreadText, refusedText, listText}
 use Rattle.refresh.specs.declared.edit.Edit.{Edit}
-use Rattle.desk.specs.declared.reading.Edited.{Edited}
-use Rattle.desk.specs.declared.reading.Edited.the-variants as edit
+use Rattle.entries.specs.declared.reading.Edited.{Edited}
+use Rattle.entries.specs.declared.reading.Edited.the-variants as edit
 use Rattle.desk.specs.declared.Desked.{Desked}
 use Rattle.desk.specs.declared.Desked.the-variants as desked
 
@@ -82,9 +85,11 @@ abbrev pub rampText : Ramp → Float → Edited → List ℕ
 rampText ramp asked edit.Not = freshText ramp asked blank
 rampText ramp asked (edit.By e) = editText ramp e asked blank
 
+-- more stops than the tool keeps are refused, whatever the library allows
 unfoldable pub inputText : Input → List ℕ
 inputText (unread line) = unreadText line
-inputText (input kind asked stops e) = rampText (rampOf kind (positionsIn stops) (channelsIn stops) []) asked e
+inputText (input kind asked stops e) =
+    cond (leb (length stops) mostKept) (rampText (rampOf kind (positionsIn stops) (channelsIn stops) []) asked e) (refusedText misshapen)
 
 -- what is printed for these bytes
 unfoldable pub deskOf : List ℕ → List ℕ

@@ -1,22 +1,21 @@
 -- The bits of a fraction rounded to binary32, from a long division. Assumes nothing.
 use mathlib.Core.Path.{_≡_, refl, sym, ap, _∙_, subst}
 use mathlib.Core.Logic.{inl, inr}
-use mathlib.Core.Bool.{Bool, true, false, cond, not}
-use Prim.Native.Nat.{ℕ, zero, _+_, _-_, _*_, _/_, _%_, _^_, _≤_, _<_, compare}
+use mathlib.Core.Bool.{Bool, true, false, cond}
+use Prim.Native.Nat.{ℕ, _+_, _-_, _*_, _/_, _%_, _^_, _≤_, _<_, compare}
 use native.Mathlib.Nat.{le-trans, le-of-eq, lt-of-lt-of-le, lt-of-le-of-lt, lt-of-not-le, not-le-of-lt, eq-or-lt-of-le, mul-comm, mul-assoc, mul-left-comm, zero-mul, mul-pos, mul-div-cancel, div-div-eq-div-mul, le-div-iff-mul-le, div-lt-iff-lt-mul}
 use native.Mathlib.Omega.{arith}
 use lib.Arith.{digits-div, digits-mod}
-use lib.Dec.{T, lit<, lit≤}
+use lib.Dec.{lit<, lit≤}
 use lib.IntN.{ℤ}
 use lib.Pow.{pow-add, pow-pos, pow-mono, shl-lt, shl-shr}
-use lib.Ieee.{Float, nan, inf, fin, binary32, up, down, size, nearest, units, round, toBits, ofBits, nanBits}
+use lib.Ieee.{Float, nan, inf, fin, binary32, up, down, size, nearest, units, round, toBits, ofBits}
 use lib.Ieee.Digits.{size-lt, size-le}
 use lib.Ieee.Fits.{down-pos, nearest-le, core, round-is, round-fits}
-use lib.Ieee.Bits.{nanBits-above, ofBits-toBits}
+use lib.Ieee.Bits.{ofBits-toBits}
 use lib.Ieee.Exact.{HasValue, units-val}
 use lib.Ieee.Nearest.{closest, closest-same, div-same, nearest-ge}
 use lib.Ieee.Scale.{round-same}
-use borrow.Author.Tests.{le-ltb}
 
 -- ---- how many digits a number has
 size-gt : (n j : ℕ) → 2 ^ j ≤ n → j < size n
@@ -25,7 +24,7 @@ size-gt n j h = lt-of-not-le (λ (g : size n ≤ j). not-le-of-lt (lt-of-lt-of-l
 pin : (z j : ℕ) → z ≤ j + 1 → j < z → z ≡ j + 1
 pin z j a b = omega arith
 
-size-is : (n j : ℕ) → 2 ^ j ≤ n → n < 2 ^ (j + 1) → size n ≡ j + 1
+pub size-is : (n j : ℕ) → 2 ^ j ≤ n → n < 2 ^ (j + 1) → size n ≡ j + 1
 size-is n j a b = pin (size n) j (size-le n (j + 1) b) (size-gt n j a)
 
 -- with k digits cut off, n is m, of j + 1 digits
@@ -161,8 +160,5 @@ bits-zero s p P = ap (toBits binary32) (round-same binary32 s 0 p 0 1 P (lit< tt
     at false = refl
 
 -- ---- bits back to a value
-pub no-nan : (b : ℕ) → b % 2147483648 < 2139095040 → T (not (nanBits binary32 b))
-no-nan b h = subst (λ (x : Bool). T (not x)) (sym (nanBits-above binary32 b ∙ le-ltb 2139095040 (b % 2147483648) (omega arith))) tt
-
 pub bits-back : (s : Bool) (d p : ℕ) → ofBits binary32 (toBits binary32 (round binary32 s d p)) ≡ round binary32 s d p
 bits-back s d p = ofBits-toBits binary32 (round binary32 s d p) (round-fits binary32 s d p)

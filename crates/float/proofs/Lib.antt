@@ -1,12 +1,17 @@
 pub mod Flags
+pub mod SignedOrder
 pub mod Order
 pub mod Finite
 pub mod Patterns
 pub mod Fields
 pub mod Fraction
+pub mod Units
+pub mod UnitsOrder
+pub mod PatternOrder
 pub mod Nearest
 pub mod Counted
 pub mod Signs
 pub mod WholePart
+pub mod SignedRound
 pub mod Rounding
 pub mod Midpoint

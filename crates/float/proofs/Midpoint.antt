@@ -3,25 +3,25 @@
 -- The midpoint is itself within the bound, so it goes on by induction over halvings. Assumes nothing.
 use mathlib.Core.Path.{_≡_, refl, sym, ap, _∙_, subst}
 use mathlib.Core.Logic.{_⊎_, inl, inr}
-use Prim.Native.Nat.{ℕ, zero, suc, _+_, _-_, _*_, _%_, _^_, _≤_, _<_}
-use native.Mathlib.Nat.{le-of-eq, lt-of-lt-of-le, lt-of-le-of-lt, lt-of-not-le, not-le-of-lt, mul-le-mul-right, mul-lt-mul-of-pos-right, mul-assoc, mul-one, zero-mul, mul-pos, pow-suc}
-use native.Mathlib.Decide.{decLe}
+use Prim.Native.Nat.{ℕ, suc, _*_, _^_, _≤_, _<_}
+use native.Mathlib.Nat.{le-of-eq, lt-of-lt-of-le, lt-of-le-of-lt, mul-le-mul-right, mul-lt-mul-of-pos-right, mul-assoc, mul-pos, pow-suc}
 use native.Mathlib.Omega.{arith}
-use mathlib.Core.Bool.{Bool, true, false, _&&_, true≢false}
-use lib.Dec.{T, leb, ltb, eqb, leb→le, ltb→lt, lit<}
-use lib.IntN.{ℤ, pos, negsuc}
-use lib.Pow.{pow-add, pow-pos, pow-mono, pow-lt, shl-lt}
+use mathlib.Core.Bool.{Bool, true, false, true≢false}
+use lib.Dec.{T, ltb→lt, lit<, lit≤}
+use lib.IntN.{ℤ, pos}
+use lib.Pow.{pow-mono}
 use lib.Ieee.{Float, nan, inf, fin, binary32, up, down, round, div, neg, ofBits, le, lt, fits}
-use lib.Ieee.Fits.{and-l, and-r, down-pos, div-fits}
+use lib.Ieee.Fits.{down-pos, div-fits}
 use lib.Ieee.Exact.{HasValue, round-exact}
 use lib.Ieee.Order.{transfer}
 use lib.Ieee.Positive.{den, den-pos}
 use lib.Ieee.Scale.{round-same, finite}
 use Rattle.float.specs.F32.{_⊕_, _⊘_, f2}
 use Rattle.float.specs.Number.{top, Within}
+use Rattle.float.proofs.Units.{sized, shape, few-units}
 use Rattle.float.proofs.Order as order
-use Rattle.float.proofs.Order.{LeP, P→le}
-use Rattle.float.proofs.Rounding.{Rounds, rounds-le, round-rounds, pro, con, le→linear, add-rounds, half-rounds}
+use Rattle.float.proofs.SignedOrder.{LeP, P→le}
+use Rattle.float.proofs.SignedRound.{Rounds, rounds-le, round-rounds, pro, con, le→linear, add-rounds, half-rounds}
 
 -- ---- halving keeps the order, and a sum lies on the same side of twice a number as both terms of the number
 twice-pos : (d : ℕ) → 0 < d → 0 < 2 * d
@@ -53,71 +53,6 @@ module _ (x y z : Float) (fx : T (finite x)) (fy : T (finite y)) (fz : T (finite
       let a = mul-le-mul-right (den y) (le→linear z x fz fx h) in
       let b = mul-le-mul-right (den x) (le→linear z y fz fy k) in
       rounds-le (twice-rounds z fz) (add-rounds x y fx fy) (den-pos z) (mul-pos (den-pos x) (den-pos y)) (omega arith)
-
--- ---- an f32 below 2 ^ 127 is q * 2 ^ j units, and so is its double
-record Shape (n : ℕ) (g : ℤ) : Type 0 where
-  q : ℕ
-  j : ℕ
-  small : q < 2 ^ 24
-  room : q * 2 ^ suc j < 2 ^ 277
-  is : n * up g * 2 ^ 149 ≡ q * 2 ^ j * down g
-
-what-fits : (s : Bool) (m : ℕ) (e : ℤ) → T (fits binary32 (fin s (suc m) e)) → (suc m < 2 ^ 24) × (down e ≤ 2 ^ 149)
-unfolding fits
-what-fits s m e t =
-    let a = eqb (suc m % 2) 1 in
-    let b = ltb (suc m) (2 ^ 24) in
-    let c = leb (down e) (2 ^ 149) in
-    let d = ltb (suc m * up e) (2 ^ 128 * down e) in
-    let abc = and-l (a && b && c) d t in
-    (ltb→lt (suc m) (2 ^ 24) (and-r a b (and-l (a && b) c abc)), leb→le (down e) (2 ^ 149) (and-r (a && b) c abc))
-
-pow-le-back : (i j : ℕ) → 2 ^ i ≤ 2 ^ j → i ≤ j
-pow-le-back i j h = go (decLe i j)
-  where
-    go : Dec (i ≤ j) → i ≤ j
-    go (yes e) = e
-    go (no f) = absurd (not-le-of-lt (pow-lt (lt-of-not-le f)) h)
-
-shape-whole : (m k : ℕ) → m < 2 ^ 24 → m * 2 ^ k < 2 ^ 127 * 1 → Shape m (pos k)
-shape-whole m k h l =
-    let e : m * 2 ^ k * 2 ^ 149 ≡ m * 2 ^ (k + 149) = mul-assoc m (2 ^ k) (2 ^ 149) ∙ ap (λ (x : ℕ). m * x) (sym (pow-add 2 k 149)) in
-    let w : m * 2 ^ k * 2 ^ 150 ≡ m * 2 ^ (k + 150) = mul-assoc m (2 ^ k) (2 ^ 150) ∙ ap (λ (x : ℕ). m * x) (sym (pow-add 2 k 150)) in
-    record {
-      q = m;
-      j = k + 149;
-      small = h;
-      room = subst (λ (x : ℕ). x < 2 ^ 277) (w ∙ ap (λ (x : ℕ). m * 2 ^ x) (more k)) (mul-lt-mul-of-pos-right {m = m * 2 ^ k} {n = 2 ^ 127} l (pow-pos 150));
-      is = e ∙ sym (mul-one (m * 2 ^ (k + 149)));
-    }
-  where
-    more : (k : ℕ) → k + 150 ≡ suc (k + 149)
-    more k = omega arith
-
-shape-part : (m k : ℕ) → m < 2 ^ 24 → suc k ≤ 149 → Shape m (negsuc k)
-shape-part m k h l =
-    let g = 149 - suc k in
-    let e : g + suc k ≡ 149 = omega arith in
-    let p : 2 ^ g * 2 ^ suc k ≡ 2 ^ 149 = sym (pow-add 2 g (suc k)) ∙ ap (λ (x : ℕ). 2 ^ x) e in
-    record {
-      q = m;
-      j = g;
-      small = h;
-      room = lt-of-lt-of-le (shl-lt 24 (suc g) h) (pow-mono {i = 24 + suc g} {j = 277} (omega arith));
-      is = ap (λ (x : ℕ). x * 2 ^ 149) (mul-one m) ∙ ap (λ (x : ℕ). m * x) (sym p) ∙ sym (mul-assoc m (2 ^ g) (2 ^ suc k));
-    }
-
-shape : (s : Bool) (m : ℕ) (e : ℤ) → T (fits binary32 (fin s m e)) → m * up e < 2 ^ 127 * down e → Shape m e
-shape s zero e t h =
-    record {
-      q = 0;
-      j = 0;
-      small = lit< tt;
-      room = lit< tt;
-      is = ap (λ (x : ℕ). x * 2 ^ 149) (zero-mul (up e)) ∙ sym (zero-mul (down e));
-    }
-shape s (suc m) (pos k) t h = shape-whole (suc m) k (what-fits s m (pos k) t .0) h
-shape s (suc m) (negsuc k) t h = let w = what-fits s m (negsuc k) t in shape-part (suc m) k (w .0) (pow-le-back (suc k) 149 (w .1))
 
 -- ---- doubling and halving is the identity there
 same-value : (x y : Float) (s : Bool) (a c : ℕ) → 0 < c → HasValue x s a c → HasValue y s a c → T (le x y)
@@ -161,13 +96,19 @@ record Halves (z : Float) : Type 0 where
   below : T (le z (twice z ⊘ f2))
   above : T (le (twice z ⊘ f2) z)
 
+-- below 2 ^ 127 an f32 is q * 2 ^ j units, and its double, which has as many digits, is an f32 too
 halves : (s : Bool) (m : ℕ) (e : ℤ) → T (fits binary32 (fin s m e)) → m * up e < 2 ^ 127 * down e → Halves (fin s m e)
 halves s m e t h =
-    let w = shape s m e t h in
+    let z = sized s m e t in
+    let w = shape (z .1) in
     let a = m * up e in
     let c = down e in
-    let d : HasValue (round binary32 s (2 * a) c) s (2 * a) c = round-exact binary32 s (2 * a) c (w .q) (suc (w .j)) (down-pos e) (w .small) (w .room) (doubled a c (w .q) (w .j) (2 ^ 149) (w .is)) in
-    let v : HasValue (round binary32 s a c) s a c = round-exact binary32 s a c (w .q) (w .j) (down-pos e) (w .small) (half-room (w .q) (w .j) (w .room)) (w .is) in
+    let q = w .m in
+    let j = w .g in
+    let is : a * 2 ^ 149 ≡ q * 2 ^ j * c = z .1 .is .1 ∙ ap (λ (x : ℕ). x * c) (w .is) in
+    let few : q * 2 ^ j < 2 ^ 276 = subst (λ (x : ℕ). x < 2 ^ 276) (w .is) (few-units a c (z .0) 127 (z .1 .is .1) h) in
+    let d : HasValue (round binary32 s (2 * a) c) s (2 * a) c = round-exact binary32 s (2 * a) c q (suc j) (down-pos e) (w .small) (twice-room q j few) (doubled a c q j (2 ^ 149) is) in
+    let v : HasValue (round binary32 s a c) s a c = round-exact binary32 s a c q j (down-pos e) (w .small) (lt-of-lt-of-le few (pow-mono {i = 276} {j = 277} (lit≤ tt))) is in
     let b : HasValue (twice (fin s m e) ⊘ f2) s a c = subst (λ (y : Float). HasValue y s a c) (sym (half-value (twice (fin s m e)) s a c (down-pos e) d)) v in
     record {
       whole = value-finite (twice (fin s m e)) s (2 * a) c d;
@@ -178,11 +119,8 @@ halves s m e t h =
     doubled : (a c q j u : ℕ) → a * u ≡ q * 2 ^ j * c → 2 * a * u ≡ q * 2 ^ suc j * c
     doubled a c q j u e = rw pow-suc (omega arith)
 
-    half-room : (q j : ℕ) → q * 2 ^ suc j < 2 ^ 277 → q * 2 ^ j < 2 ^ 277
-    half-room q j h = lt-of-le-of-lt (rw pow-suc (more q (2 ^ j))) h
-      where
-        more : (q p : ℕ) → q * p ≤ q * (p * 2)
-        more q p = omega arith
+    twice-room : (q j : ℕ) → q * 2 ^ j < 2 ^ 276 → q * 2 ^ suc j < 2 ^ 277
+    twice-room q j h = lt-of-le-of-lt (le-of-eq (ap (λ (x : ℕ). q * x) (pow-suc 2 j) ∙ sym (mul-assoc q (2 ^ j) 2))) (mul-lt-mul-of-pos-right {m = q * 2 ^ j} {n = 2 ^ 276} h (lit< tt))
 
 -- ---- the bound that keeps sums finite: 2 ^ 127
 top-is : top ≡ fin false 1 (pos 127)

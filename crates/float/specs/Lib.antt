@@ -1,2 +1,3 @@
 pub mod F32
 pub mod Number
+pub mod Units

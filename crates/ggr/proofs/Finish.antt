@@ -1,24 +1,30 @@
 -- The whole read: the order of the refusals, the zeroing, the name. Assumes nothing.
-use Prim.Native.Nat.{ℕ, _-_, _*_, _≤_, _<_}
+use Prim.Native.Nat.{ℕ, _-_, _*_, _≤_}
+use native.Mathlib.Nat.{sub-zero}
 use native.Mathlib.Omega.{arith}
 use mathlib.Core.Path.{_≡_, refl, sym, ap, _∙_}
 use mathlib.Core.Bool.{true, false}
-use mathlib.Core.List.{List, [], _∷_}
-use lib.ListN.{length, take, drop, replicate, drop-of-length-le}
+use mathlib.Core.List.{List, []}
+use lib.ListN.{length, drop, replicate, length-replicate}
+use lib.Seq.{sets}
 use lib.Ieee.{Float}
 use Rattle.refusals.specs.Limits.{mostSegments}
 use Rattle.float.specs.F32.{f0}
+use Rattle.slices.proofs.Stores.{sets-all}
 use Rattle.blend.specs.declared.Rgba.{Rgba}
+use Rattle.stops.specs.Lent.{Change, change}
+use Rattle.stops.specs.Stops.{finiteRgba}
 use Rattle.gradient.specs.declared.gimp.Segment.{Segment}
+use Rattle.text.specs.Text.{lines}
+use Rattle.segment.specs.Store.{Store, storeOf}
+use Rattle.header.specs.declared.Lead.{Lead}
+use Rattle.header.specs.declared.Lead.the-variants.{Counted, Refuse}
+use Rattle.header.specs.Head.{headOf, nameIn}
+use Rattle.header.specs.Leads.{headBy, leadFits, Leads}
 use Rattle.ggr.specs.declared.Answer.{Answer}
 use Rattle.ggr.specs.declared.Answer.the-variants.{Read, Refused}
-use Rattle.ggr.specs.declared.header.Lead.{Lead}
-use Rattle.ggr.specs.declared.header.Lead.the-variants.{Counted, Refuse}
-use Rattle.text.specs.Text.{unmark, lines, firstOf, restOf, trimStart, trimEnd, trim}
-use Rattle.text.specs.Places.{LineAt}
-use Rattle.stops.specs.Stops.{finiteRgba}
-use Rattle.ggr.specs.File.{orEmpty, textLines, Outcome, found, refused, segments, fromLines, fitText, fileOf, answerOf, numberOfAnswer, lineOfAnswer, segmentsOfAnswer, numberIn, lineIn, segmentsIn, positionsOf, channelsOf, codesOf, written, roomOf, Done, black, whenRead, nameOf}
-use Rattle.ggr.specs.Steps.{leads, leadFits, LeadsTo, Filled}
+use Rattle.ggr.specs.File.{Outcome, found, refused, segments, fromHead, fitText, fileOf, answerOf, numberOfAnswer, lineOfAnswer, segmentsOfAnswer, numberIn, lineIn, segmentsIn, written, roomOf, Done, transparent, whenRead, nameOf}
+use Rattle.ggr.specs.Steps.{Filled}
 
 -- ---- the order of the refusals
 module _ (room : ℕ) (fg bg : Rgba) (s : List ℕ) where
@@ -34,27 +40,26 @@ module _ (room : ℕ) (fg bg : Rgba) (s : List ℕ) where
   unfolding fileOf
   file-text e f g = rw (e, f, g)
 
-  pub file-lines : finiteRgba fg ≡ true → finiteRgba bg ≡ true → fitText s ≡ true → fileOf room fg bg s ≡ fromLines room fg bg (textLines s)
+pub filled-as : (o o' : Outcome) (store : Change Store) (r : Answer) → o ≡ o' → Filled o' store r → Filled o store r
+filled-as o o' store r e w = rw e w
+
+-- ---- where the header leads, read with the room that there is
+module _ (fg bg : Rgba) (s : List ℕ) {room asked : ℕ} (q : asked ≡ room) (e : finiteRgba fg ≡ true) (f : finiteRgba bg ≡ true) (g : fitText s ≡ true) {r : Lead} (w : Leads asked s r) where
+  file-head : fileOf room fg bg s ≡ fromHead fg bg (headBy r s)
   unfolding fileOf
-  file-lines e f g = rw (e, f, g)
+  file-head = rw (e, f, g) (ap (λ (n : ℕ). fromHead fg bg (headOf n s)) (sym q) ∙ ap (fromHead fg bg) (w .same))
 
-pub filled-as : (o o' : Outcome) (r : Answer) (p c : List Float) (k : List ℕ) (p' c' : List Float) (k' : List ℕ) → o ≡ o' → Filled o' r p c k p' c' k' → Filled o r p c k p' c' k'
-filled-as o o' r p c k p' c' k' e w = rw e w
+  pub file-refuse : (a b : ℕ) → r ≡ Refuse a b → fileOf room fg bg s ≡ refused a b
+  unfolding headBy fromHead
+  file-refuse a b h = file-head ∙ rw h
 
--- ---- where the header leads
-module _ (room : ℕ) (o : Rgba → Rgba → Outcome) (r : Lead) (s : List ℕ) (w : LeadsTo room o r s) where
-  pub lead-refuse : (a b : ℕ) → r ≡ Refuse a b → (fg bg : Rgba) → o fg bg ≡ refused a b
-  unfolding leads
-  lead-refuse a b e fg bg = w .same fg bg ∙ rw e
+  pub file-counted : (n at : ℕ) → r ≡ Counted n at → fileOf room fg bg s ≡ segments fg bg n 4 (lines (drop at s))
+  unfolding headBy fromHead
+  file-counted n at h = file-head ∙ rw h
 
-  module _ (n at : ℕ) (e : r ≡ Counted n at) where
-    pub lead-fits : (n ≤ mostSegments) × (n ≤ room)
-    unfolding leadFits
-    lead-fits = rw e at (w .fits)
-
-    pub lead-counted : (fg bg : Rgba) → o fg bg ≡ segments fg bg n 4 (lines (drop at s))
-    unfolding leads
-    lead-counted fg bg = w .same fg bg ∙ rw e
+pub lead-fits : {room : ℕ} {s : List ℕ} {r : Lead} → Leads room s r → (n at : ℕ) → r ≡ Counted n at → (n ≤ mostSegments) × (n ≤ room)
+unfolding leadFits
+lead-fits w n at e = rw e at (w .fits)
 
 pub room-fits : (n p c k : ℕ) → n ≤ roomOf p c k → (3 * n ≤ p) × (8 * n ≤ c) × (2 * n ≤ k)
 unfolding roomOf
@@ -66,7 +71,11 @@ told : (o : Outcome) → (numberOfAnswer (answerOf o) ≡ numberIn o) × (lineOf
 told (found gs) = (refl, refl, refl)
 told (refused a b) = (refl, refl, refl)
 
-module _ (o : Outcome) (r : Answer) (p c : List Float) (k : List ℕ) (p' c' : List Float) (k' : List ℕ) (w : Filled o r p c k p' c' k') where
+-- a slice set to zero from its start
+all-zero : {A : Type 0} (z : A) (l : List A) → sets l 0 (replicate (length l - 0) z) ≡ replicate (length l) z
+all-zero z l = ap (λ (n : ℕ). sets l 0 (replicate n z)) (sub-zero (length l)) ∙ sets-all l (replicate (length l) z) (length-replicate (length l) z)
+
+module _ (o : Outcome) (r : Answer) (store : Change Store) (w : Filled o store r) where
   found-by : (o : Outcome) (n : ℕ) → r ≡ Read n → r ≡ answerOf o → (gs : List Segment) × (o ≡ found gs)
   found-by (found gs) n e f = (gs, refl)
   found-by (refused a b) n e f = absurd (let z : _≡_ {A = ℕ} 0 1 = cc in omega arith)
@@ -75,46 +84,33 @@ module _ (o : Outcome) (r : Answer) (p c : List Float) (k : List ℕ) (p' c' : L
   refused-by (found gs) a b e f = absurd (let z : _≡_ {A = ℕ} 0 1 = cc in omega arith)
   refused-by (refused x y) a b e f = cc
 
-  pub done-read : (n : ℕ) → r ≡ Read n → Done o r p c k p' c' k'
-  done-read n e =
-      let g = found-by o n e (w .answer) in
-      record {
-        answer = w .answer;
-        number = rw (w .answer) (told o .0);
-        line = rw (w .answer) (told o .1);
-        segments-read = rw (w .answer) (told o .2);
-        positions = w .positions (g .0) (g .1);
-        channels = w .channels (g .0) (g .1);
-        codes = w .codes (g .0) (g .1);
-      }
+  done : (after : Store) → after ≡ written o (store .entry) → Done o (change (store .entry) after) r
+  done after e = record {
+    answer = w .answer;
+    number = rw (w .answer) (told o .0);
+    line = rw (w .answer) (told o .1);
+    segments-read = rw (w .answer) (told o .2);
+    left = e;
+  }
 
-  pub done-refused : (a b : ℕ) → r ≡ Refused a b → length p' ≡ length p → length c' ≡ length c → length k' ≡ length k
-      → (p″ c″ : List Float) (k″ : List ℕ) → p″ ≡ replicate (length p') f0 → c″ ≡ replicate (length c') f0 → k″ ≡ replicate (length k') 0 → Done o r p c k p″ c″ k″
-  unfolding written
-  done-refused a b e lp lc lk p″ c″ k″ ep ec ek =
-      let g = refused-by o a b e (w .answer) in
-      record {
-        answer = w .answer;
-        number = rw (w .answer) (told o .0);
-        line = rw (w .answer) (told o .1);
-        segments-read = rw (w .answer) (told o .2);
-        positions = ep ∙ ap (λ (n : ℕ). replicate n f0) lp ∙ ap (λ (x : Outcome). written f0 positionsOf x p) (sym g);
-        channels = ec ∙ ap (λ (n : ℕ). replicate n f0) lc ∙ ap (λ (x : Outcome). written f0 channelsOf x c) (sym g);
-        codes = ek ∙ ap (λ (n : ℕ). replicate n 0) lk ∙ ap (λ (x : Outcome). written 0 codesOf x k) (sym g);
-      }
+  pub done-read : (n : ℕ) → r ≡ Read n → Done o store r
+  done-read n e = let g = found-by o n e (w .answer) in done (store .exit) (w .left (g .0) (g .1))
+
+  module _ (lp : length (store .exit .positions) ≡ length (store .entry .positions)) (lc : length (store .exit .channels) ≡ length (store .entry .channels)) (lk : length (store .exit .codes) ≡ length (store .entry .codes)) where
+    pub done-refused : (a b : ℕ) → r ≡ Refused a b → (p c : List Float) (k : List ℕ)
+        → p ≡ sets (store .exit .positions) 0 (replicate (length (store .exit .positions) - 0) f0)
+        → c ≡ sets (store .exit .channels) 0 (replicate (length (store .exit .channels) - 0) f0)
+        → k ≡ replicate (length (store .exit .codes)) 0 → Done o (change (store .entry) (storeOf p c k)) r
+    unfolding written
+    done-refused a b e p c k ep ec ek =
+        let g = refused-by o a b e (w .answer) in
+        let zp : p ≡ replicate (length (store .entry .positions)) f0 = ep ∙ all-zero f0 (store .exit .positions) ∙ ap (λ (n : ℕ). replicate n f0) lp in
+        let zc : c ≡ replicate (length (store .entry .channels)) f0 = ec ∙ all-zero f0 (store .exit .channels) ∙ ap (λ (n : ℕ). replicate n f0) lc in
+        let zk : k ≡ replicate (length (store .entry .codes)) 0 = ek ∙ ap (λ (n : ℕ). replicate n 0) lk in
+        done (storeOf p c k) (rw (zp, zc, zk) (ap (λ (x : Outcome). written x (store .entry)) (sym g)))
 
 -- ---- the name
-or-rest : (ls : List (List ℕ)) → restOf (orEmpty ls) ≡ restOf ls
-unfolding orEmpty restOf
-or-rest [] = refl
-or-rest (l ∷ ls) = refl
-
-rest-text : (s : List ℕ) → restOf (textLines s) ≡ restOf (lines (unmark s))
-unfolding textLines restOf unmark lines
-rest-text [] = refl
-rest-text (b ∷ s) = or-rest (lines (unmark (b ∷ s)))
-
-module _ (s : List ℕ) (r : Answer) (e : r ≡ answerOf (fileOf mostSegments black black s)) where
+module _ (s : List ℕ) (r : Answer) (e : r ≡ answerOf (fileOf mostSegments transparent transparent s)) where
   is-found : (o : Outcome) (n : ℕ) → r ≡ Read n → r ≡ answerOf o → (x : List ℕ) → whenRead o x ≡ x
   unfolding whenRead
   is-found (found gs) n f g x = refl
@@ -127,19 +123,8 @@ module _ (s : List ℕ) (r : Answer) (e : r ≡ answerOf (fileOf mostSegments bl
 
   pub name-none : (a b : ℕ) → r ≡ Refused a b → [] ≡ nameOf s
   unfolding nameOf
-  name-none a b f = sym (is-refused (fileOf mostSegments black black s) a b f e _)
+  name-none a b f = sym (is-refused (fileOf mostSegments transparent transparent s) a b f e _)
 
-  -- line 1 starts at a, line 2 at `at`
-  module _ (n : ℕ) (f : r ≡ Read n) (a one at : ℕ) (m : drop a s ≡ unmark s) (v : LineAt s a one at) (end next : ℕ) (w : LineAt s at end next) where
-    line-2 : firstOf (restOf (textLines s)) ≡ take (end - at) (drop at s)
-    line-2 = ap firstOf (rest-text s ∙ ap (λ (u : List ℕ). restOf (lines u)) (sym m) ∙ sym (v .rest)) ∙ sym (w .first)
-
-    pub name-read : trim (drop 5 (take (end - at) (drop at s))) ≡ nameOf s
-    unfolding nameOf
-    name-read = ap (λ (x : List ℕ). trim (drop 5 x)) (sym line-2) ∙ sym (is-found (fileOf mostSegments black black s) n f e _)
-
-    pub name-short : length (take (end - at) (drop at s)) < 5 → [] ≡ nameOf s
-    unfolding trim trimEnd trimStart
-    name-short h =
-        let z : length (take (end - at) (drop at s)) ≤ 5 = omega arith in
-        sym (ap trim (drop-of-length-le (take (end - at) (drop at s)) z)) ∙ name-read
+  pub name-read : (n : ℕ) → r ≡ Read n → nameIn s ≡ nameOf s
+  unfolding nameOf
+  name-read n f = sym (is-found (fileOf mostSegments transparent transparent s) n f e _)

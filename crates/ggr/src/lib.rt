@@ -1,42 +1,19 @@
 // Reads GIMP gradient files: the segments, written into lent slices, and the name.
 use blend::Rgba;
+use header::name_part;
 use refusals::MOST_SEGMENTS;
-use text::line_at;
-use text::marks;
-use text::trimmed;
+use slices::zero_bytes;
+use slices::zero_from;
 ghost use mathlib.Core.Path.{_≡_};
-ghost use lib.ListN.{length, replicate};
-ghost use Rattle.float.specs.F32.{f0};
-ghost use Rattle.ggr.specs.File.{Done, fileOf, roomOf, nameOf};
+ghost use Rattle.segment.specs.Store.{lentStore};
+ghost use Rattle.ggr.specs.File.{Reading, nameOf};
 
 mod fill;
-mod header;
-mod segment;
 
 // How many segments were read, or document 01's number of the refusal and its line, 0 if none.
 pub enum Answer {
     Read(usize),
     Refused(u8, usize),
-}
-
-fn zero_floats(p: &mut [f32])
-    ensures { λ r. ⌜ now (p .exit) ≡ replicate (length (now (p .entry))) f0 ⌝ }
-{
-    let mut i = 0;
-    while i < p.len() {
-        p[i] = 0.0;
-        i += 1;
-    }
-}
-
-fn zero_bytes(p: &mut [u8])
-    ensures { λ r. ⌜ now (p .exit) ≡ replicate (length (now (p .entry))) 0 ⌝ }
-{
-    let mut i = 0;
-    while i < p.len() {
-        p[i] = 0;
-        i += 1;
-    }
 }
 
 // Reads a file. A segment is 3 positions (left, middle, right), 8 channels (left, right) and 2 codes (blending,
@@ -49,12 +26,12 @@ pub fn read(
     channels: &mut [f32],
     codes: &mut [u8],
 ) -> Answer
-    ensures { λ r. ⌜ Done (fileOf (roomOf (length (now (positions .entry))) (length (now (channels .entry))) (length (now (codes .entry)))) foreground background (now (text .entry))) r (now (positions .entry)) (now (channels .entry)) (now (codes .entry)) (now (positions .exit)) (now (channels .exit)) (now (codes .exit)) ⌝ }
+    ensures { λ r. ⌜ Reading foreground background (now (text .entry)) (lentStore positions channels codes) r ⌝ }
 {
     let r = fill::read_into(text, foreground, background, positions, channels, codes);
     let Answer::Read(_) = r else {
-        zero_floats(positions);
-        zero_floats(channels);
+        zero_from(positions, 0);
+        zero_from(channels, 0);
         zero_bytes(codes);
         return r;
     };
@@ -65,7 +42,7 @@ pub fn read(
 pub fn name(text: &[u8]) -> &[u8]
     ensures { λ r. ⌜ now r ≡ nameOf (now (text .entry)) ⌝ }
 {
-    let black = Rgba {
+    let transparent = Rgba {
         r: 0.0,
         g: 0.0,
         b: 0.0,
@@ -76,8 +53,8 @@ pub fn name(text: &[u8]) -> &[u8]
     let mut codes = [0u8; 2 * MOST_SEGMENTS];
     let r = read(
         text,
-        black,
-        black,
+        transparent,
+        transparent,
         &mut positions,
         &mut channels,
         &mut codes,
@@ -85,14 +62,5 @@ pub fn name(text: &[u8]) -> &[u8]
     let Answer::Read(_) = r else {
         return &text[..0];
     };
-    let start = marks(text);
-    let first = line_at(text, start);
-    let at = first.next;
-    let second = line_at(text, at);
-    let end = second.end;
-    let line = &text[at..end];
-    if line.len() < 5 {
-        return &text[..0];
-    }
-    trimmed(&line[5..])
+    name_part(text)
 }

@@ -17,7 +17,7 @@ use Rattle.blend.specs.Finite.{allFinite}
 use Rattle.blend.specs.declared.Rgba.{Rgba}
 use Rattle.stops.specs.Stops.{colourAt}
 use Rattle.stops.specs.declared.Checked.the-variants.{Fine, Refused}
-use Rattle.gradient.specs.Gimp.{segments, leftAt, middleAt, rightAt, blendingAt, colouringAt, stepCode, increasingCode, decreasingCode, carried, allCarried, gimpShaped, gimpCheck, segmentFor, along, linearFactor, increasing, decreasing, bent, blended, gimpSegment, segmentColour, offDomain, gimpColour}
+use Rattle.gradient.specs.Gimp.{segments, leftAt, middleAt, rightAt, blendingAt, colouringAt, stepCode, increasingCode, decreasingCode, carried, allCarried, gimpShaped, gimpCheck, segmentFound, along, linearFactor, increasing, decreasing, bent, blended, gimpSegment, segmentColour, offDomain, gimpColour}
 use Rattle.gradient.specs.declared.gimp.Segment.{Segment}
 
 -- ---- a code past the end
@@ -139,7 +139,7 @@ pub segment-is : (ps cs : List Float) (ks : List ℕ) (i : ℕ) {l m r : Float} 
 unfolding gimpSegment
 segment-is ps cs ks i l m r p q b k = cc
 
-pub inside : (ps cs : List Float) (ks : List ℕ) (t : Float) {o : Bool} {i : ℕ} {g : Segment} {z : Rgba} → o ≡ offDomain t → o ≡ false → i ≡ segmentFor ps t → g ≡ gimpSegment ps cs ks i → z ≡ segmentColour g t → z ≡ gimpColour ps cs ks t
+pub inside : (ps cs : List Float) (ks : List ℕ) (t : Float) {o : Bool} {i : ℕ} {g : Segment} {z : Rgba} → o ≡ offDomain t → o ≡ false → i ≡ segmentFound ps t → g ≡ gimpSegment ps cs ks i → z ≡ segmentColour g t → z ≡ gimpColour ps cs ks t
 unfolding gimpColour
 inside ps cs ks t o f e g z = z ∙ ap (λ (x : Segment). segmentColour x t) (g ∙ ap (gimpSegment ps cs ks) e) ∙ simp (sym o ∙ f)
 

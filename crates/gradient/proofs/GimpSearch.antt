@@ -15,7 +15,7 @@ use Rattle.float.proofs.Order.{le-trans, le-lt-trans, lt-le-trans, lt→le, le�
 use Rattle.float.specs.F32.{f0, f1}
 use Rattle.stops.specs.Stops.{posAt}
 use Rattle.stops.specs.Place.{Rising}
-use Rattle.gradient.specs.Gimp.{segments, leftAt, rightAt, search, segmentFor, offDomain}
+use Rattle.gradient.specs.Gimp.{segments, leftAt, rightAt, search, segmentFound, offDomain}
 
 -- one turn, at segment mid: up and down are what the two halves give
 abbrev turn : Bool → Bool → Bool → ℕ → ℕ → ℕ → ℕ → ℕ
@@ -59,8 +59,8 @@ module _ (ps : List Float) (t : Float) where
     unfolding search
     met h = let e : high - low ≡ 0 = omega arith in ap (λ (n : ℕ). search n ps t tried low high) e
 
-  pub begun : search (segments ps - 0) ps t 0 0 (segments ps) ≡ segmentFor ps t
-  unfolding segmentFor
+  pub begun : search (segments ps - 0) ps t 0 0 (segments ps) ≡ segmentFound ps t
+  unfolding segmentFound
   begun = let e : segments ps - 0 ≡ segments ps = omega arith in ap (λ (n : ℕ). search n ps t 0 0 (segments ps)) e
 
   -- a segment is found among those that there are
@@ -80,12 +80,12 @@ module _ (ps : List Float) (t : Float) where
       each true false false e u d m = m (ltb-true low high e)
       each false above below e u d m = a
 
-  pub found-within : segmentFor ps t ≤ segments ps
-  unfolding segmentFor
+  pub found-within : segmentFound ps t ≤ segments ps
+  unfolding segmentFound
   found-within = within (segments ps) 0 0 (segments ps) (segments ps) (omega arith) (omega arith)
 
-  pub found-inside : 1 ≤ segments ps → segmentFor ps t < segments ps
-  unfolding segmentFor
+  pub found-inside : 1 ≤ segments ps → segmentFound ps t < segments ps
+  unfolding segmentFound
   found-inside h = let w = within (segments ps) 0 0 (segments ps) (segments ps - 1) (omega arith) (omega arith) in omega arith
 
   -- where the positions rise, a segment that t lies strictly inside is the one that is found
@@ -118,8 +118,8 @@ module _ (ps : List Float) (t : Float) where
         go mid (yes p) (no q) l u v = let h = lt-of-not-le q in simp (passed mid h) (u h)
         go mid (no p) q l u v = let h = lt-of-not-le p in simp (not-passed mid (omega arith) l, ahead mid h l) (v h)
 
-    pub strict-hit : segmentFor ps t ≡ i
-    unfolding segmentFor
+    pub strict-hit : segmentFound ps t ≡ i
+    unfolding segmentFound
     strict-hit = strict (segments ps) 0 0 (segments ps) (omega arith) (omega arith) there (omega arith)
 
     -- and where they lie in the domain, so does t

@@ -97,8 +97,8 @@ search (suc left) ps t tried low high =
     (cond (lt (rightAt ps mid) t) (search left ps t mid (mid + 1) high) (cond (lt t (leftAt ps mid)) (search left ps t mid low mid) mid))
     tried
 
-unfoldable pub segmentFor : List Float → Float → ℕ
-segmentFor ps t = search (segments ps) ps t 0 0 (segments ps)
+unfoldable pub segmentFound : List Float → Float → ℕ
+segmentFound ps t = search (segments ps) ps t 0 0 (segments ps)
 
 -- ---- the factor
 -- where x lies from left, 0, to right, 1; a length below 2^-23 makes it 0.5
@@ -142,4 +142,4 @@ offDomain t = lt t f0 || lt f1 t || isNan t
 
 unfoldable pub gimpColour : List Float → List Float → List ℕ → Float → Rgba
 gimpColour ps cs ks t =
-    cond (offDomain t) black (segmentColour (gimpSegment ps cs ks (segmentFor ps t)) t)
+    cond (offDomain t) black (segmentColour (gimpSegment ps cs ks (segmentFound ps t)) t)

@@ -1,3 +1,2 @@
 pub mod Gimp
 pub mod Ramp
-pub mod Sharp

@@ -1,5 +1,6 @@
-// GIMP segments: their check, and their colour at t. Segment i has positions 3i.. (left, middle, right),
+// GIMP segments: their check, the search for one, and their colour at t. Segment i has positions 3i.. (left, middle, right),
 // channels 8i.. (left r g b a, right r g b a) and codes 2i.. (blending, colouring).
+use crate::blending::segment_colour;
 use blend::Rgba;
 use blend::utils;
 use refusals::MISSHAPEN;
@@ -11,7 +12,9 @@ ghost use Prim.Native.Nat.{_*_, _≤_};
 ghost use lib.ListN.{length, getD};
 ghost use Rattle.refusals.specs.Limits.{mostSegments};
 ghost use Rattle.stops.specs.Answers.{Checks};
-ghost use Rattle.gradient.specs.Gimp.{segments, carried, allCarried, gimpShaped, gimpCheck, segmentFor, along, linearFactor, increasing, decreasing, bent, blended, gimpSegment, segmentColour, offDomain, gimpColour};
+ghost use Rattle.gradient.specs.Gimp.{segments, carried, allCarried, gimpShaped, gimpCheck, segmentFound, gimpSegment, offDomain, gimpColour};
+pub use crate::blending::blend;
+pub use crate::blending::place_along;
 
 // The codes carried: of blending, and of colouring.
 pub const LINEAR: u8 = 0;
@@ -35,9 +38,6 @@ pub struct Segment {
     pub blending: u8,
     pub colouring: u8,
 }
-
-// 2^-23.
-const EPSILON: f32 = 0.00000011920928955078125;
 
 pub fn is_carried(blending: u8, colouring: u8) -> bool
     ensures { λ r. ⌜ r ≡ carried blending colouring ⌝ }
@@ -112,7 +112,7 @@ pub fn check(positions: &[f32], channels: &[f32], codes: &[u8]) -> Checked
 
 // The segment whose colour is taken: the first hit, and in a gap the one tried last.
 pub fn find_segment(positions: &[f32], t: f32) -> usize
-    ensures { λ r. ⌜ r ≡ segmentFor (now (positions .entry)) t ⌝ }
+    ensures { λ r. ⌜ r ≡ segmentFound (now (positions .entry)) t ⌝ }
 {
     let mut low = 0;
     let mut high = positions.len() / 3;
@@ -163,80 +163,6 @@ fn segment_at(positions: &[f32], channels: &[f32], codes: &[u8], i: usize) -> Se
         blending,
         colouring,
     }
-}
-
-// Where x lies from left, 0, to right, 1.
-pub fn place_along(left: f32, right: f32, x: f32) -> f32
-    ensures { λ r. ⌜ r ≡ along left right x ⌝ }
-{
-    let length = right - left;
-    if length < EPSILON {
-        return 0.5;
-    }
-    (x - left) / length
-}
-
-fn calc_linear_factor(middle: f32, place: f32) -> f32
-    ensures { λ r. ⌜ r ≡ linearFactor middle place ⌝ }
-{
-    if place <= middle {
-        if middle < EPSILON {
-            return 0.0;
-        }
-        return 0.5 * place / middle;
-    }
-    if 1.0 - middle < EPSILON {
-        return 1.0;
-    }
-    0.5 + 0.5 * (place - middle) / (1.0 - middle)
-}
-
-fn spherical_increasing(f: f32) -> f32
-    ensures { λ r. ⌜ r ≡ increasing f ⌝ }
-{
-    sqrt::root(1.0 - (f - 1.0) * (f - 1.0))
-}
-
-fn spherical_decreasing(f: f32) -> f32
-    ensures { λ r. ⌜ r ≡ decreasing f ⌝ }
-{
-    1.0 - sqrt::root(1.0 - f * f)
-}
-
-fn bend(blending: u8, f: f32) -> f32
-    ensures { λ r. ⌜ r ≡ bent blending f ⌝ }
-{
-    if blending == SPHERICAL_INCREASING {
-        return spherical_increasing(f);
-    }
-    if blending == SPHERICAL_DECREASING {
-        return spherical_decreasing(f);
-    }
-    f
-}
-
-// The one rule of blending: the colour at a place of the segment. Both the place and the pivot, which is the place of the
-// middle, are counted from the left end, 0, to the right end, 1: painting works out the pivot once for many points.
-pub fn blend(g: Segment, pivot: f32, place: f32) -> Rgba
-    ensures { λ r. ⌜ r ≡ blended g pivot place ⌝ }
-{
-    if g.blending == STEP {
-        if place >= pivot {
-            return g.rcolor;
-        }
-        return g.lcolor;
-    }
-    let f = bend(g.blending, calc_linear_factor(pivot, place));
-    utils::interpolate_linear(g.lcolor, g.rcolor, f)
-}
-
-// The colour of a segment at t, which need not lie in it.
-fn segment_colour(g: Segment, t: f32) -> Rgba
-    ensures { λ r. ⌜ r ≡ segmentColour g t ⌝ }
-{
-    let pivot = place_along(g.left, g.right, g.middle);
-    let place = place_along(g.left, g.right, t);
-    blend(g, pivot, place)
 }
 
 pub fn is_off_domain(t: f32) -> bool

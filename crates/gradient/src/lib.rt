@@ -7,8 +7,8 @@ ghost use Rattle.stops.specs.Lent.{lentRamp};
 ghost use Rattle.stops.specs.Answers.{Checks};
 ghost use Rattle.gradient.specs.Ramp.{isGimp, checkOf, anyColour, minIn, maxIn};
 
+pub mod blending;
 pub mod gimp;
-pub mod sharp;
 
 pub fn is_gimp(kind: Kind) -> bool
     ensures { λ r. ⌜ r ≡ isGimp kind ⌝ }

@@ -5,26 +5,9 @@ use Prim.Native.Nat.{ℕ, zero, suc, _+_, _*_, _≤_}
 use native.Mathlib.Omega.{arith}
 use lib.ListN.{length, length-append}
 use lib.Ieee.{Float}
-use Rattle.linearize.specs.Midpoints.{Gradient, Far}
-use Rattle.linearize.specs.Cells.{summed, cellTries, triesOf, samplingEvaluations}
-use Rattle.linearize.specs.Kept.{nearOf, stays, thinned, weighed, keptOf, weighedOf, refusalOf, listEvaluations}
+use Rattle.sampling.specs.Midpoints.{Gradient, Far}
+use Rattle.thinning.specs.Kept.{nearOf, stays, thinned, weighed, keptOf, weighedOf, refusalOf, listEvaluations}
 use Rattle.linearize.specs.Desk.{evaluationsOfListed, listedOf, listAnswer}
-use Rattle.linearize.proofs.Rows.{cell-tries-most}
-
-pub summed-most : (f : ℕ → ℕ) (k : ℕ) → ((i : ℕ) → f i ≤ 127) → summed f k ≤ 127 * k
-unfolding summed
-summed-most f zero h = omega arith
-summed-most f (suc k) h = omega (arith, summed-most f k h, h k)
-
-module _ (g : Gradient) (far : Far) (lo hi : Float) where
-  -- 36 · 127 stretches are tried at most
-  pub tries-bound : triesOf g far lo hi ≤ 4572
-  unfolding triesOf
-  tries-bound = omega (arith, summed-most (cellTries g far lo hi) 36 (cell-tries-most g far lo hi))
-
-  pub sampling-bound : samplingEvaluations g far lo hi ≤ 13716
-  unfolding samplingEvaluations
-  sampling-bound = omega (arith, tries-bound)
 
 -- of n + 1 points after the first, at most n are weighed and n + 1 kept
 thinned-most : (g : Gradient) (far : Far) (last x : Float) (rest : List Float)

@@ -10,20 +10,22 @@ use Rattle.stops.specs.declared.Checked.{Checked}
 use Rattle.stops.specs.declared.Checked.the-variants as checked
 use Rattle.stops.specs.Lent.{Ramp, change}
 use Rattle.gradient.specs.Ramp.{minOf, maxOf, colourOf}
-use Rattle.linearize.specs.Lent.{Held, Output}
-use Rattle.linearize.specs.Cells.{rowsOf, countsOf}
+use Rattle.sampling.specs.Lent.{Held}
+use Rattle.linearize.specs.Lent.{Output}
+use Rattle.sampling.specs.Cells.{rowsOf, countsOf}
 use Rattle.linearize.specs.Places.{listOf}
-use Rattle.linearize.specs.Midpoints.{Gradient, Far}
-use Rattle.linearize.specs.Kept.{keptOf, stopRefusal, firstRefusal, refusalFrom, refusalOf, listEvaluations}
-use Rattle.linearize.specs.Desk.{evaluationsOfSampled, evaluationsOfListed, stopsOfListed, farOf, valueBy, heldCheck, thinCheck, pointsIn, room, fresh, freshEvaluations, sampleEvaluations, flattenEvaluations}
-use Rattle.linearize.specs.Promises.{Samples, Thins, Flattens}
-use Rattle.linearize.specs.declared.Sampled.{Sampled}
+use Rattle.sampling.specs.Midpoints.{Gradient, Far}
+use Rattle.thinning.specs.Kept.{keptOf, stopRefusal, firstRefusal, refusalFrom, refusalOf, listEvaluations}
+use Rattle.sampling.specs.Sampling.{farOf, heldCheck, fresh, freshEvaluations}
+use Rattle.linearize.specs.Desk.{evaluationsOfListed, stopsOfListed, valueBy, thinCheck, pointsIn, room, flattenEvaluations}
+use Rattle.linearize.specs.Promises.{Thins, Flattens}
 use Rattle.linearize.specs.declared.Listed.{Listed}
-use Rattle.linearize.proofs.Bounds.{sampling-bound, list-bound}
-use Rattle.linearize.proofs.Filling.{sampled-ready}
+use Rattle.sampling.proofs.Bounds.{sampling-bound}
+use Rattle.linearize.proofs.Bounds.{list-bound}
+use Rattle.linearize.proofs.Records.{sampled-ready}
 use Rattle.linearize.proofs.Following.{list-some, list-most}
 use Rattle.linearize.proofs.Checks.{ready}
-use Rattle.linearize.proofs.Stops.{has-room}
+use Rattle.thinning.proofs.Stops.{has-room}
 
 value-most : (check : Checked) (k n most : ℕ) → (check ≡ checked.Fine → n ≤ most) → valueBy check k n ≤ most
 value-most checked.Fine zero n most h = h refl
@@ -53,15 +55,6 @@ value-room checked.Fine (suc k) n room h = omega arith
 value-room (checked.Refused r) k n room h = omega arith
 
 module _ (ramp : Ramp) (asked : Float) (was : Held) where
-  -- ---- sampling: 13,716 at most
-  sampling-most : sampleEvaluations ramp asked was ≤ 13716
-  unfolding sampleEvaluations freshEvaluations
-  sampling-most = value-most (heldCheck ramp was) 0 _ 13716 (λ e. sampling-bound (colourOf ramp) (farOf asked) (minOf ramp) (maxOf ramp))
-
-  module _ (is : Held) (r : Sampled) (w : Samples ramp asked (change was is) r) where
-    pub sample-most : evaluationsOfSampled r ≤ 13716
-    sample-most = omega (arith, w .evaluations, sampling-most)
-
   module _ (out out′ : Output) (r : Listed) where
     -- ---- thinning: 13,821 + 4,609 at most
     module _ (w : Thins ramp asked was (change out out′) r) where

@@ -1,92 +1,25 @@
 -- Laws of the refusals 1 to 5. Assumes nothing.
 use mathlib.Core.Path.{_≡_, refl, sym, ap, _∙_}
-use mathlib.Core.Bool.{Bool, true, false, cond, _&&_, _||_}
+use mathlib.Core.Bool.{Bool, true, false, cond, _&&_}
 use mathlib.Core.List.{List, [], _∷_}
 use Prim.Native.Nat.{ℕ, zero, suc, _+_, _≤_, _<_}
 use native.Mathlib.Numerals.{add-one}
 use native.Mathlib.Omega.{arith}
-use borrow.Author.Tests.{eq-eqb, ne-eqb, eqb-true, le-leb, lt-leb, leb-true}
-use lib.Dec.{eqb, leb}
+use borrow.Author.Tests.{le-leb, lt-leb, leb-true}
+use lib.Dec.{leb}
 use lib.ListN.{length, drop, getD, drop-of-length-le}
 use lib.Seq.{drop-cons}
-use lib.Ieee.{Float, neg, lt}
-use Rattle.refusals.specs.Refusals.{farDomain, badRecord}
+use lib.Ieee.{Float}
+use Rattle.refusals.specs.Refusals.{badRecord}
 use Rattle.float.proofs.Flags.{both-l, both-r}
 use Rattle.stops.specs.declared.Checked.{Checked}
 use Rattle.stops.specs.declared.Checked.the-variants as checked
 use Rattle.stops.specs.Lent.{Ramp}
-use Rattle.gradient.specs.Ramp.{checkOf, minOf, maxOf}
-use Rattle.linearize.specs.Lent.{Held}
-use Rattle.linearize.specs.Constants.{farthest}
-use Rattle.linearize.specs.Desk.{beyondOf, andThen, countsGood, shapeCheck, countsCheck, sampleCheck, heldCheck, thinCheck}
-use Rattle.linearize.specs.Promises.{Ready}
-
--- a number below minus 1e38, or tested against 1e38
-pub beyond-low : (x : Float) → lt x (neg farthest) ≡ true → true ≡ beyondOf x
-unfolding beyondOf
-beyond-low x h = simp h
-
-pub beyond-high : (x : Float) → lt x (neg farthest) ≡ false → lt farthest x ≡ beyondOf x
-unfolding beyondOf
-beyond-high x h = simp h
-
-module _ (lo hi : Float) (n m : ℕ) where
-  pub low-beyond : beyondOf lo ≡ true → checked.Refused farDomain ≡ shapeCheck lo hi n m
-  unfolding shapeCheck
-  low-beyond h = simp h
-
-  module _ (l : beyondOf lo ≡ false) where
-    pub high-beyond : beyondOf hi ≡ true → checked.Refused farDomain ≡ shapeCheck lo hi n m
-    unfolding shapeCheck
-    high-beyond h = simp (l, h)
-
-    module _ (h : beyondOf hi ≡ false) where
-      pub rows-wrong : (n ≡ 4608 → ⊥) → checked.Refused badRecord ≡ shapeCheck lo hi n m
-      unfolding shapeCheck
-      rows-wrong k = simp (l, h, ne-eqb n 4608 k)
-
-      pub counts-wrong : n ≡ 4608 → (m ≡ 36 → ⊥) → checked.Refused badRecord ≡ shapeCheck lo hi n m
-      unfolding shapeCheck
-      counts-wrong e k = simp (l, h, eq-eqb n 4608 e, ne-eqb m 36 k)
-
-      pub shape-fine : n ≡ 4608 → m ≡ 36 → checked.Fine ≡ shapeCheck lo hi n m
-      unfolding shapeCheck
-      shape-fine e k = simp (l, h, eq-eqb n 4608 e, eq-eqb m 36 k)
-
-module _ (ramp : Ramp) (n m : ℕ) where
-  pub first-refuses : (k : ℕ) → checkOf ramp ≡ checked.Refused k → checked.Refused k ≡ sampleCheck ramp n m
-  unfolding sampleCheck
-  first-refuses k e = simp e
-
-  pub first-passes : (r : Checked) (lo hi : Float) → checkOf ramp ≡ checked.Fine → lo ≡ minOf ramp → hi ≡ maxOf ramp → r ≡ shapeCheck lo hi n m
-      → r ≡ sampleCheck ramp n m
-  unfolding sampleCheck
-  first-passes r lo hi e p q h = h ∙ rw (p, q, e)
-
-pub passes-both : (a b : Checked) → andThen a b ≡ checked.Fine → (a ≡ checked.Fine) × (b ≡ checked.Fine)
-passes-both checked.Fine b e = (refl, e)
-passes-both (checked.Refused k) b e = let z : _≡_ {A = ℕ} 0 1 = cc in absurd (omega arith)
-
-tested : (a b : Bool) → cond a (checked.Refused farDomain) (cond b checked.Fine (checked.Refused badRecord)) ≡ checked.Fine → b ≡ true
-tested true b h = let z : _≡_ {A = ℕ} 0 1 = cc in absurd (omega arith)
-tested false true h = refl
-tested false false h = let z : _≡_ {A = ℕ} 0 1 = cc in absurd (omega arith)
-
-shape-lengths : (lo hi : Float) (n m : ℕ) → shapeCheck lo hi n m ≡ checked.Fine → (n ≡ 4608) × (m ≡ 36)
-unfolding shapeCheck
-shape-lengths lo hi n m h =
-    let b = tested (beyondOf lo || beyondOf hi) (eqb n 4608 && eqb m 36) h in
-    (eqb-true n 4608 (both-l (eqb n 4608) (eqb m 36) b), eqb-true m 36 (both-r (eqb n 4608) (eqb m 36) b))
-
--- what a check that is passed tells
-module _ (ramp : Ramp) (n m : ℕ) (h : sampleCheck ramp n m ≡ checked.Fine) where
-  pub ramp-fine : checkOf ramp ≡ checked.Fine
-  unfolding sampleCheck
-  ramp-fine = passes-both (checkOf ramp) (shapeCheck (minOf ramp) (maxOf ramp) n m) h .0
-
-  pub record-lengths : (n ≡ 4608) × (m ≡ 36)
-  unfolding sampleCheck
-  record-lengths = shape-lengths (minOf ramp) (maxOf ramp) n m (passes-both (checkOf ramp) (shapeCheck (minOf ramp) (maxOf ramp) n m) h .1)
+use Rattle.sampling.specs.Lent.{Held}
+use Rattle.sampling.specs.Sampling.{heldCheck}
+use Rattle.sampling.proofs.Checks.{passes-both, record-lengths}
+use Rattle.linearize.specs.Desk.{countsGood, countsCheck, thinCheck}
+use Rattle.linearize.specs.Inner.{Ready}
 
 -- ---- the counts
 

@@ -2,7 +2,7 @@
 use mathlib.Core.Path.{_≡_, refl, _∙_}
 use mathlib.Core.Bool.{Bool, true, false}
 use mathlib.Core.List.{List, [], _∷_}
-use Prim.Native.Nat.{ℕ, zero, suc, _+_, _-_, _*_, _≤_, _<_}
+use Prim.Native.Nat.{ℕ, zero, suc, _+_, _*_, _≤_, _<_}
 use native.Mathlib.Numerals.{add-one}
 use native.Mathlib.Omega.{arith}
 use borrow.Author.Tests.{lt-ltb, le-ltb, ltb-true, ltb-false}
@@ -10,11 +10,11 @@ use lib.Dec.{ltb}
 use lib.ListN.{length, take, drop, getD, length-append, length-drop, List·getD-append}
 use lib.Seq.{length-take-le, getD-append-add, getD-take, getD-drop, drop-cons, take-length}
 use lib.Ieee.{Float, nan}
-use Rattle.linearize.specs.Cells.{joined, summed}
+use Rattle.sampling.specs.Cells.{joined, summed}
 use Rattle.linearize.specs.Places.{rowPoints, listOf, firstPlace, nextPlace, pointAt, follow, pointsBefore, Within}
-use Rattle.linearize.specs.Promises.{Ready}
+use Rattle.linearize.specs.Inner.{Ready}
 use Rattle.linearize.specs.declared.Place.{Place}
-use Rattle.linearize.proofs.Joined.{length-summed, summed-mono, item}
+use Rattle.sampling.proofs.Joined.{length-summed, summed-mono, item}
 
 -- ---- the next place
 

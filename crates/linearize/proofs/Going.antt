@@ -7,15 +7,16 @@ use native.Mathlib.Omega.{arith}
 use lib.ListN.{length, drop, drop-of-length-le}
 use lib.Seq.{drop-cons}
 use lib.Ieee.{Float, nan}
-use Rattle.linearize.specs.Midpoints.{Gradient, Far}
+use Rattle.sampling.specs.Midpoints.{Gradient, Far}
 use Rattle.linearize.specs.Places.{listOf, firstPlace, nextPlace, pointAt, pointsBefore, Within}
-use Rattle.linearize.specs.Walk.{Run, run, emitRun, stepRun, Outcome, outcome}
-use Rattle.linearize.specs.Promises.{Coloured, Ready, Started, Thinned}
+use Rattle.thinning.specs.Walk.{Run, run, emitRun, stepRun, Outcome, outcome}
+use Rattle.sampling.specs.Inner.{Coloured}
+use Rattle.linearize.specs.Inner.{Ready, Started, Thinned}
 use Rattle.linearize.specs.declared.Place.{Place}
-use Rattle.linearize.specs.declared.Point.{Point}
-use Rattle.linearize.specs.declared.Progress.{Progress}
+use Rattle.sampling.specs.declared.Point.{Point}
+use Rattle.thinning.specs.declared.Progress.{Progress}
 use Rattle.linearize.proofs.Following.{second-within, second-before, list-most, point-is, before-next, next-within, more-follow, before-end}
-use Rattle.linearize.proofs.Walks.{Emitted, emitted-as, Stepped, stepped, last-stop}
+use Rattle.thinning.proofs.Walks.{Emitted, emitted-as, Stepped, stepped, last-stop}
 
 module _ (g : Gradient) (far : Far) (room : ℕ) (rows : List Float) (counts : List ℕ) (max : Float) (r₀ : Run) where
   pub record Going (ps cs : List Float) (s : Progress) (p : Place) (x : Point) : Type 0 where
@@ -72,7 +73,7 @@ module _ (g : Gradient) (far : Far) (room : ℕ) (rows : List Float) (counts : L
         ∙ rw (point-is rows counts max ok p (w .within), ← w .point, ← add-one, ← next-before, from-next)
 
     step-of : Stepped g far room (run s ps cs) x y (run s′ ps′ cs′)
-    step-of = rw e (stepped g far room (run s ps cs) x y (w .kept) (w .coloured) cy (w .going))
+    step-of = rw e (stepped g far room (run s ps cs) x y (w .kept) (w .coloured) cy (w .going) (omega (arith, w .few, more-follow rows counts max ok p (w .within) lt, list-most rows counts max ok)))
 
     to-start : outcome g far room (run s ps cs) (x .t ∷ y .t ∷ drop (suc (pointsBefore counts q)) ts) ≡ outcome g far room r₀ (drop 1 ts)
     to-start = ap (λ (l : List Float). outcome g far room (run s ps cs) l) (sym from-here) ∙ w .same

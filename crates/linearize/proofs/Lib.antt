@@ -1,18 +1,10 @@
-pub mod Stores
-pub mod Joined
-pub mod Tabled
-pub mod Thresholds
-pub mod Halves
-pub mod Rows
-pub mod OneCell
-pub mod Filling
+-- Laws that belong to no one function.
+pub mod Records
 pub mod Bounds
 pub mod Checks
-pub mod Answers
-pub mod Stops
-pub mod Walks
 pub mod Following
 pub mod Going
 pub mod Lists
+pub mod Answers
+pub mod Relisting
 pub mod Calls
-pub mod Edges

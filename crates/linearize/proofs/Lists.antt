@@ -1,23 +1,24 @@
 -- A list made: its answer and both outputs, from what the run over its points has come to. Assumes nothing.
 use mathlib.Core.Path.{_≡_, refl, sym, ap, _∙_}
 use mathlib.Core.List.{List, _∷_}
-use Prim.Native.Nat.{ℕ, zero, suc, _+_, _-_, _*_}
+use Prim.Native.Nat.{ℕ, zero, suc, _+_, _-_, _*_, _≤_}
 use native.Mathlib.Omega.{arith}
 use lib.ListN.{length, getD, drop, replicate, length-replicate}
 use lib.Seq.{sets, length-sets}
 use lib.Ieee.{Float}
 use Rattle.float.specs.F32.{f0}
-use Rattle.linearize.specs.Midpoints.{Gradient, Far}
-use Rattle.linearize.specs.Kept.{thinned, weighed, keptOf, weighedOf, refusalOf, writtenOf, positionsWritten, channelsWritten, listEvaluations}
-use Rattle.linearize.specs.Walk.{Run, run, Outcome, comesTo, outcome, Ends}
-use Rattle.linearize.specs.Desk.{evaluationsOfListed, listedOf, listAnswer, withSampling}
-use Rattle.linearize.specs.Promises.{ListMade}
-use Rattle.linearize.specs.declared.Point.{Point}
-use Rattle.linearize.specs.declared.Progress.{Progress}
+use Rattle.sampling.specs.Midpoints.{Gradient, Far}
+use Rattle.thinning.specs.Counts.{sumOf}
+use Rattle.thinning.specs.Kept.{thinned, weighed, keptOf, weighedOf, refusalOf, writtenOf, positionsWritten, channelsWritten, listEvaluations}
+use Rattle.thinning.specs.Walk.{Run, run, Outcome, comesTo, outcome, Ends}
+use Rattle.linearize.specs.Desk.{evaluationsOfListed, listedOf, listAnswer, withSampling, afterSpending}
+use Rattle.linearize.specs.Inner.{ListMade}
+use Rattle.sampling.specs.declared.Point.{Point}
+use Rattle.thinning.specs.declared.Progress.{Progress}
 use Rattle.linearize.specs.declared.Listed.{Listed}
 use Rattle.linearize.specs.declared.Listed.the-variants as listed
-use Rattle.linearize.proofs.Stores.{sets-all}
-use Rattle.linearize.proofs.Walks.{Emitted}
+use Rattle.slices.proofs.Stores.{sets-all}
+use Rattle.thinning.proofs.Walks.{Emitted}
 
 module _ (k stops evaluations : ℕ) where
   pub refused-answer : (k ≡ 0 → ⊥) → listed.Refused k ≡ listedOf k stops evaluations
@@ -30,15 +31,20 @@ module _ (k stops evaluations : ℕ) where
   pub done-answer : k ≡ 0 → listed.Done stops evaluations ≡ listedOf k stops evaluations
   done-answer z = rw z
 
--- an answer with the evaluations of a sampling added, by its case
-pub spent-done : (made : Listed) (s e : ℕ) → made ≡ listed.Done s e → evaluationsOfListed made ≡ e
-spent-done made s e h = rw h
+-- an answer with the evaluations before it added, by its case
+pub after-refused : (n k : ℕ) (made : Listed) → made ≡ listed.Refused k → listed.Refused k ≡ afterSpending n made
+after-refused n k made h = rw h
 
-pub with-refused : (n k : ℕ) (made : Listed) → made ≡ listed.Refused k → listed.Refused k ≡ withSampling n made
-with-refused n k made h = rw h
+pub after-done : (n s e all : ℕ) (made : Listed) → made ≡ listed.Done s e → all ≡ sumOf n e → listed.Done s all ≡ afterSpending n made
+after-done n s e all made h k = rw (h, k)
 
-pub with-done : (n s e : ℕ) (made : Listed) → made ≡ listed.Done s e → listed.Done s (n + e) ≡ withSampling n made
-with-done n s e made h = rw h
+-- a ramp's evaluations are few, and all counted: 13,716 of a sampling, and 32,146 of a flattening after it
+few : (n : ℕ) (made : Listed) → n ≤ 13716 → evaluationsOfListed made ≤ 32146 → afterSpending n made ≡ withSampling n made
+few n (listed.Refused k) h i = refl
+few n (listed.Done s e) h i = let f : sumOf n e ≡ n + e = omega arith in rw f
+
+pub after-few : (n : ℕ) (made : Listed) {r : Listed} → r ≡ afterSpending n made → n ≤ 13716 → evaluationsOfListed made ≤ 32146 → r ≡ withSampling n made
+after-few n made e h i = e ∙ few n made h i
 
 module _ (k : ℕ) (out : List Float) where
   pub zeroed : (out′ : List Float) → (k ≡ 0 → ⊥) → out′ ≡ sets out 0 (replicate (length out - 0) f0) → out′ ≡ writtenOf k out

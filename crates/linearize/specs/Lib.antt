@@ -1,11 +1,6 @@
-pub mod Constants
-pub mod Difference
-pub mod Midpoints
-pub mod Cells
-pub mod Segments
-pub mod Places
-pub mod Kept
-pub mod Walk
-pub mod Desk
-pub mod Promises
 pub mod Lent
+pub mod Places
+pub mod Desk
+pub mod Inner
+pub mod Promises
+pub mod Relist

@@ -6,8 +6,8 @@ use Prim.Native.Nat.{ℕ, zero, suc, _+_, _*_, _<_}
 use lib.Dec.{ltb}
 use lib.ListN.{take, drop, getD}
 use lib.Ieee.{Float, nan}
-use Rattle.linearize.specs.Constants.{cells, rowLength}
-use Rattle.linearize.specs.Cells.{joined, summed}
+use Rattle.sampling.specs.Constants.{cells, rowLength}
+use Rattle.sampling.specs.Cells.{joined, summed}
 use Rattle.linearize.specs.declared.Place.{Place}
 
 -- row i's points

@@ -1,84 +1,27 @@
-// Flattening a ramp: sampling it cell by cell into a lent record, and thinning the record to stops.
-use blend::Rgba;
+// Flattening a ramp: sampling it into a lent record, and thinning the record to stops.
+use crate::kept::kept_good;
+use crate::kept::refused_by;
 use refusals::BAD_RECORD;
-use refusals::FAR_DOMAIN;
+pub use sampling::Sampled;
+pub use sampling::Sampler;
+use sampling::check_sample;
+use sampling::cutoff_of;
+pub use sampling::resample;
+pub use sampling::sample;
 use stops::Checked;
 use stops::Kind;
+use thinning::sum;
 ghost use mathlib.Core.Path.{_≡_};
-ghost use Prim.Native.Nat.{_≤_};
+ghost use Rattle.linearize.specs.Relist.{Relists};
 ghost use Rattle.stops.specs.Answers.{Checks};
-ghost use Rattle.linearize.specs.Constants.{thresholdOf};
-ghost use Rattle.linearize.specs.Desk.{evaluationsOfListed, beyondOf, shapeCheck, countsCheck, sampleCheck, thinCheck, withSampling};
+ghost use Rattle.linearize.specs.Desk.{countsCheck, thinCheck, afterSpending};
 ghost use Rattle.stops.specs.Lent.{lentRamp, old};
-ghost use Rattle.linearize.specs.Lent.{lentHeld, lentOutput};
-ghost use Rattle.linearize.specs.Promises.{Samples, Thins, Flattens};
+ghost use Rattle.sampling.specs.Lent.{lentHeld};
+ghost use Rattle.linearize.specs.Lent.{lentOutput};
+ghost use Rattle.linearize.specs.Promises.{Thins, Flattens};
 
-pub mod cells;
-pub mod difference;
-mod segments;
-pub mod thinning;
-
-// The shape of a record, the depth of the halving, the thresholds, and how far a domain may reach.
-pub struct Sampler {
-    pub threshold: f32,
-}
-
-impl Sampler {
-    pub const CELLS: usize = 36;
-
-    pub const DEPTH: usize = 7;
-
-    pub const ROW: usize = 128;
-
-    pub const DEFAULT: f32 = 0.007;
-
-    pub const LEAST: f32 = 0.001;
-
-    pub const MOST: f32 = 0.035;
-
-    pub const FARTHEST: f32 = 100000000000000000000000000000000000000.0;
-
-    // A threshold that is not finite becomes the default, another one is clamped.
-    pub fn new(threshold: f32) -> Self
-        ensures { λ r. ⌜ r .threshold ≡ thresholdOf threshold ⌝ }
-    {
-        if !float::is_finite(threshold) {
-            return Self {
-                threshold: Self::DEFAULT,
-            };
-        }
-        if threshold < Self::LEAST {
-            return Self {
-                threshold: Self::LEAST,
-            };
-        }
-        if threshold > Self::MOST {
-            return Self {
-                threshold: Self::MOST,
-            };
-        }
-        Self { threshold }
-    }
-}
-
-// A number and its colour, so that no point is evaluated twice. The colour comes first, so that a point is read in the
-// same parts in which it was written.
-pub(crate) struct Point {
-    pub(crate) colour: Rgba,
-    pub(crate) t: f32,
-}
-
-// Where the next point goes, and how many stretches were tried.
-pub(crate) struct Halved {
-    pub(crate) at: usize,
-    pub(crate) tries: usize,
-}
-
-// What sampling answers: the evaluations, or the number of the refusal.
-pub enum Sampled {
-    Done(usize),
-    Refused(u8),
-}
+mod kept;
+mod listing;
 
 // What making a list answers.
 pub enum Listed {
@@ -90,100 +33,6 @@ pub enum Listed {
 pub(crate) struct Place {
     pub(crate) row: usize,
     pub(crate) index: usize,
-}
-
-// The last point kept, how many stops were written and how many points weighed, and the refusal (0 for none).
-pub(crate) struct Progress {
-    pub(crate) last: Point,
-    pub(crate) stops: usize,
-    pub(crate) tried: usize,
-    pub(crate) refusal: u8,
-}
-
-// Beyond plus or minus 1e38.
-fn beyond(x: f32) -> bool
-    ensures { λ r. ⌜ r ≡ beyondOf x ⌝ }
-{
-    if x < -Sampler::FARTHEST {
-        return true;
-    }
-    x > Sampler::FARTHEST
-}
-
-// Refusal 4 of a domain, then 5 of a record's lengths.
-fn check_shape(min: f32, max: f32, rows: usize, counts: usize) -> Checked
-    ensures { λ r. ⌜ r ≡ shapeCheck min max rows counts ⌝ }
-{
-    if beyond(min) {
-        return Checked::Refused(FAR_DOMAIN);
-    }
-    if beyond(max) {
-        return Checked::Refused(FAR_DOMAIN);
-    }
-    if rows != Sampler::CELLS * Sampler::ROW {
-        return Checked::Refused(BAD_RECORD);
-    }
-    if counts != Sampler::CELLS {
-        return Checked::Refused(BAD_RECORD);
-    }
-    Checked::Fine
-}
-
-// Refusals 1 to 5 of a sampling.
-fn check_sample(
-    kind: Kind,
-    positions: &[f32],
-    channels: &[f32],
-    codes: &[u8],
-    rows: usize,
-    counts: usize,
-) -> Checked
-    ensures { λ r. ⌜ r ≡ sampleCheck (lentRamp kind positions channels codes) rows counts ⌝ }
-{
-    match gradient::check(kind, positions, channels, codes) {
-        Checked::Refused(n) => Checked::Refused(n),
-        Checked::Fine => check_shape(
-            gradient::min_of(kind, positions),
-            gradient::max_of(kind, positions),
-            rows,
-            counts,
-        ),
-    }
-}
-
-// Samples a ramp into the lent record. A refusal leaves the record as it was.
-pub fn sample(
-    kind: Kind,
-    positions: &[f32],
-    channels: &[f32],
-    codes: &[u8],
-    threshold: f32,
-    rows: &mut [f32],
-    counts: &mut [u8],
-) -> Sampled
-    ensures { λ r. ⌜ Samples (lentRamp kind positions channels codes) threshold (lentHeld rows counts) r ⌝ }
-{
-    match check_sample(kind, positions, channels, codes, rows.len(), counts.len()) {
-        Checked::Refused(n) => Sampled::Refused(n),
-        Checked::Fine => {
-            let cutoff = difference::cutoff_of(threshold);
-            let min = gradient::min_of(kind, positions);
-            let max = gradient::max_of(kind, positions);
-            let n = cells::sample_cells(
-                kind,
-                positions,
-                channels,
-                codes,
-                cutoff,
-                min,
-                max,
-                rows,
-                counts,
-            );
-            let evaluations = 3 * n;
-            Sampled::Done(evaluations)
-        }
-    }
 }
 
 // Refusal 5 of a count that is 0 or above 128.
@@ -238,9 +87,9 @@ pub fn thin(
     match check_thin(kind, positions, channels, codes, rows, counts) {
         Checked::Refused(n) => Listed::Refused(n),
         Checked::Fine => {
-            let cutoff = difference::cutoff_of(threshold);
+            let cutoff = cutoff_of(threshold);
             let max = gradient::max_of(kind, positions);
-            thinning::thin_record(
+            listing::thin_record(
                 kind,
                 positions,
                 channels,
@@ -256,15 +105,14 @@ pub fn thin(
     }
 }
 
-// The answer of a list with the evaluations of its sampling added.
-fn with_sampling(n: usize, made: Listed) -> Listed
-    requires { ⌜ (n ≤ 13716) × (evaluationsOfListed made ≤ 18430) ⌝ }
-    ensures { λ r. ⌜ r ≡ withSampling n made ⌝ }
+// The answer of a list with the evaluations spent before it added, as many as a count can hold.
+pub fn after(spent: usize, made: Listed) -> Listed
+    ensures { λ r. ⌜ r ≡ afterSpending spent made ⌝ }
 {
     match made {
-        Listed::Refused(k) => Listed::Refused(k),
+        Listed::Refused(number) => Listed::Refused(number),
         Listed::Done { stops, evaluations } => {
-            let all = n + evaluations;
+            let all = sum(spent, evaluations);
             Listed::Done {
                 stops,
                 evaluations: all,
@@ -273,8 +121,58 @@ fn with_sampling(n: usize, made: Listed) -> Listed
     }
 }
 
-// A fresh sampling into the lent record, then the list of its points. Refusals 1 to 5 leave all as it was; after 7 to 9 the record is
-// the fresh one and the outputs are zero.
+// Samples a ramp into the lent record but for the cells kept, then makes the list of its points. Refusals 1 to 5 leave all
+// as it was; after 7 to 9 the record is the one sampled anew and the outputs are zero. The ramp is checked once.
+pub fn relist(
+    kind: Kind,
+    positions: &[f32],
+    channels: &[f32],
+    codes: &[u8],
+    threshold: f32,
+    keep: [bool; 36],
+    rows: &mut [f32],
+    counts: &mut [u8],
+    out_positions: &mut [f32],
+    out_channels: &mut [f32],
+) -> Listed
+    ensures { λ r. ⌜ Relists (lentRamp kind positions channels codes) threshold keep (lentHeld rows counts) (lentOutput «out_positions» «out_channels») r ⌝ }
+{
+    if !kept_good(keep, counts) {
+        return refused_by(check_sample(kind, positions, channels, codes, rows.len(), counts.len()));
+    }
+    match resample(
+        kind,
+        positions,
+        channels,
+        codes,
+        threshold,
+        keep,
+        rows,
+        counts,
+    ) {
+        Sampled::Refused(n) => Listed::Refused(n),
+        Sampled::Done(n) => {
+            let cutoff = cutoff_of(threshold);
+            let max = gradient::max_of(kind, positions);
+            let made = listing::thin_record(
+                kind,
+                positions,
+                channels,
+                codes,
+                cutoff,
+                max,
+                rows,
+                counts,
+                out_positions,
+                out_channels,
+            );
+            after(n, made)
+        }
+    }
+}
+
+// A fresh sampling into the lent record, then the list of its points. Refusals 1 to 5 leave all as it was; after 7 to 9 the
+// record is the fresh one and the outputs are zero.
 pub fn flatten(
     kind: Kind,
     positions: &[f32],
@@ -288,24 +186,16 @@ pub fn flatten(
 ) -> Listed
     ensures { λ r. ⌜ Flattens (lentRamp kind positions channels codes) threshold (lentHeld rows counts) (lentOutput «out_positions» «out_channels») r ⌝ }
 {
-    match sample(kind, positions, channels, codes, threshold, rows, counts) {
-        Sampled::Refused(n) => Listed::Refused(n),
-        Sampled::Done(n) => {
-            let cutoff = difference::cutoff_of(threshold);
-            let max = gradient::max_of(kind, positions);
-            let made = thinning::thin_record(
-                kind,
-                positions,
-                channels,
-                codes,
-                cutoff,
-                max,
-                rows,
-                counts,
-                out_positions,
-                out_channels,
-            );
-            with_sampling(n, made)
-        }
-    }
+    relist(
+        kind,
+        positions,
+        channels,
+        codes,
+        threshold,
+        [false; 36],
+        rows,
+        counts,
+        out_positions,
+        out_channels,
+    )
 }

@@ -1,5 +1,2 @@
-pub mod Filling
 pub mod Painting
 pub mod Searching
-pub mod Hits
-pub mod Orders

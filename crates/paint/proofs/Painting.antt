@@ -1,18 +1,21 @@
 -- The answers of `at` and `paint`, from what the check gave. Assumes nothing.
-use mathlib.Core.Path.{_≡_, sym, _∙_, ap, fun-ext}
-use mathlib.Core.Bool.{false}
+use mathlib.Core.Path.{_≡_, refl, sym, _∙_, ap, fun-ext}
+use mathlib.Core.Bool.{true, false, true≢false}
 use mathlib.Core.List.{List, _∷_, []}
-use Prim.Native.Nat.{ℕ, _*_, _≤_, _<_}
-use lib.ListN.{length, replicate}
+use Prim.Native.Nat.{ℕ, _-_, _*_, _≤_, _<_}
+use native.Mathlib.Omega.{arith}
+use lib.ListN.{length, replicate, length-replicate}
+use lib.Seq.{sets}
 use lib.Ieee.{Float}
 use borrow.Author.Tests.{lt-ltb, le-ltb}
 use Rattle.refusals.specs.Refusals.{noRoom}
 use Rattle.float.specs.F32.{f0}
+use Rattle.slices.proofs.Stores.{sets-all}
 use Rattle.blend.specs.declared.Rgba.{Rgba}
 use Rattle.stops.specs.Place.{Rising}
 use Rattle.stops.specs.Pair.{colourIn}
 use Rattle.stops.specs.Near.{placeNear, pairOr, segmentFor, segmentIn}
-use Rattle.stops.specs.declared.Kind.the-variants.{CatmullRom, Gimp}
+use Rattle.stops.specs.declared.Kind.the-variants.{Linear, Smoothstep, Sharp, Basis, CatmullRom, Gimp}
 use Rattle.stops.specs.declared.Place.{Place}
 use Rattle.stops.specs.Lent.{Ramp}
 use Rattle.stops.specs.declared.Kind.{Kind}
@@ -26,11 +29,18 @@ use Rattle.gradient.proofs.Same.{same-colour}
 use Rattle.gradient.proofs.Valid.{valid}
 use Rattle.gradient.proofs.GimpLaws.{fine-shape}
 use Rattle.paint.specs.Answers.{atAnswer, paintCheck, paintAnswer}
-use Rattle.paint.specs.Canvas.{paintedOver, roomOf, canvas}
+use Rattle.paint_segments.specs.Over.{paintedOver, segmentsOver}
+use Rattle.paint_segments.specs.Within.{Fits}
+use Rattle.paint_segments.proofs.Fitting.{over-fit}
+use Rattle.paint.specs.Canvas.{colourRoom, canvas}
 use Rattle.paint.specs.Promises.{AtIs, PaintIs}
-use Rattle.paint.specs.Unchecked.{Cut, stopColour, Ready}
+use Rattle.paint.specs.Within.{isCatmull, stopColour, Paintable}
 use Rattle.paint.specs.declared.Answer.the-variants as answer
 use Rattle.paint.specs.declared.Painted.the-variants as painted
+
+-- ---- the answers
+zeroed : (out : List Float) → sets out 0 (replicate (length out - 0) f0) ≡ replicate (length out) f0
+zeroed out = let e : length out - 0 ≡ length out = omega arith in ap (λ (n : ℕ). sets out 0 (replicate n f0)) e ∙ sets-all out (replicate (length out) f0) (length-replicate (length out) f0)
 
 module _ (ramp : Ramp) where
   module _ {n : ℕ} (no : checkOf ramp ≡ checked.Refused n) where
@@ -53,14 +63,14 @@ module _ (ramp : Ramp) where
         }
 
     module _ (ts out : List Float) {out′ : List Float} where
-      pub no-room : roomOf out < length ts → out′ ≡ replicate (length out) f0 → PaintIs ramp ts out out′ (painted.Refused noRoom)
+      pub no-room : colourRoom out < length ts → out′ ≡ sets out 0 (replicate (length out - 0) f0) → PaintIs ramp ts out out′ (painted.Refused noRoom)
       unfolding paintCheck paintAnswer canvas
-      no-room l e = let b = lt-ltb (roomOf out) (length ts) l in record { number = simp (yes, b); answer = simp (yes, b); contents = e ∙ simp (yes, b) }
+      no-room l e = let b = lt-ltb (colourRoom out) (length ts) l in record { number = simp (yes, b); answer = simp (yes, b); contents = e ∙ zeroed out ∙ simp (yes, b) }
 
-      pub done : length ts ≤ roomOf out → out′ ≡ paintedOver (colourOf ramp) ts out → PaintIs ramp ts out out′ painted.Done
+      pub done : length ts ≤ colourRoom out → out′ ≡ paintedOver (colourOf ramp) ts out → PaintIs ramp ts out out′ painted.Done
       unfolding paintCheck paintAnswer canvas
       done l e =
-          let b = le-ltb (roomOf out) (length ts) l in
+          let b = le-ltb (colourRoom out) (length ts) l in
           record {
             number = simp (yes, b);
             answer = simp (yes, b);
@@ -68,6 +78,14 @@ module _ (ramp : Ramp) where
           }
 
 -- ---- each kind's colours
+catmull : (kind : Kind) → isCatmull kind ≡ true → kind ≡ CatmullRom
+catmull Linear h = absurd (true≢false (sym h))
+catmull Smoothstep h = absurd (true≢false (sym h))
+catmull Sharp h = absurd (true≢false (sym h))
+catmull Basis h = absurd (true≢false (sym h))
+catmull CatmullRom h = refl
+catmull Gimp h = absurd (true≢false (sym h))
+
 module _ (kind : Kind) (ps cs : List Float) (two : 2 ≤ length ps) (rising : Rising ps) (t : Float) {c : Rgba} {w : Place} where
   pub near-colour : (k : ℕ) → w ≡ placeNear ps t k → c ≡ colourIn kind ps cs t w → c ≡ stopColour kind ps cs t
   near-colour k p e = e ∙ ap (λ (u : Place). colourIn kind ps cs t u) (p ∙ near-same ps two rising t k)
@@ -78,28 +96,32 @@ kept-colour ps cs two rising t k {w = w} {s = s} p q r e =
     near-colour CatmullRom ps cs two rising t k p (e ∙ segment-colour ps cs t w k (r ∙ ap (λ (i : ℕ). segmentFor cs (length ps) i) q))
 
 module _ (ramp : Ramp) (ts out : List Float) where
-  -- stops of the kind v
-  module _ (v : Kind) (stops : isGimp v ≡ false) (h : ramp .kind ≡ v) where
+  module _ (stops : isGimp (ramp .kind) ≡ false) where
     not-gimp : (t : Float) → stopColour (ramp .kind) (ramp .positions) (ramp .channels) t ≡ colourOf ramp t
     unfolding colourOf
-    not-gimp t = simp (ap isGimp h ∙ stops)
+    not-gimp t = simp stops
 
     pub as-stops : {out′ : List Float} → out′ ≡ paintedOver (stopColour (ramp .kind) (ramp .positions) (ramp .channels)) ts out → out′ ≡ paintedOver (colourOf ramp) ts out
     as-stops e = e ∙ ap (λ (g : Float → Rgba). paintedOver g ts out) (fun-ext not-gimp)
 
-    pub as-kept : {out′ : List Float} → out′ ≡ paintedOver (stopColour v (ramp .positions) (ramp .channels)) ts out → out′ ≡ paintedOver (colourOf ramp) ts out
-    as-kept e = as-stops (e ∙ ap (λ (u : Kind). paintedOver (stopColour u (ramp .positions) (ramp .channels)) ts out) (sym h))
+    pub as-kept : {out′ : List Float} → isCatmull (ramp .kind) ≡ true → out′ ≡ paintedOver (stopColour CatmullRom (ramp .positions) (ramp .channels)) ts out → out′ ≡ paintedOver (colourOf ramp) ts out
+    as-kept h e = as-stops (e ∙ ap (λ (u : Kind). paintedOver (stopColour u (ramp .positions) (ramp .channels)) ts out) (sym (catmull (ramp .kind) h)))
 
-    pub ready : checkOf ramp ≡ checked.Fine → 4 * length ts ≤ length out → Ready (ramp .positions) (ramp .channels) ts out
-    ready fine l = let ok = valid ramp (ap isGimp h ∙ stops) fine in record { two = ok .sized .least; rising = ok .rising; four = ok .sized .four; room = l }
+    pub paintable : checkOf ramp ≡ checked.Fine → 4 * length ts ≤ length out → Paintable (ramp .positions) (ramp .channels) ts out
+    paintable fine l = let ok = valid ramp stops fine in record { two = ok .sized .least; rising = ok .rising; four = ok .sized .four; room = l }
 
-  pub cut : ramp .kind ≡ Gimp → checkOf ramp ≡ checked.Fine → Cut (ramp .positions) (ramp .channels) (ramp .codes)
-  unfolding checkOf
-  cut h fine = let s = fine-shape (ramp .positions) (ramp .channels) (ramp .codes) (sym (simp (ap isGimp h)) ∙ fine) in record { least = s .least; channels = s .channels; codes = s .codes }
+  module _ (gimp : isGimp (ramp .kind) ≡ true) where
+    is-gimp : (t : Float) → gimpColour (ramp .positions) (ramp .channels) (ramp .codes) t ≡ colourOf ramp t
+    unfolding colourOf
+    is-gimp t = simp gimp
 
-  is-gimp : ramp .kind ≡ Gimp → (t : Float) → gimpColour (ramp .positions) (ramp .channels) (ramp .codes) t ≡ colourOf ramp t
-  unfolding colourOf
-  is-gimp h t = simp (ap isGimp h)
+    fits : checkOf ramp ≡ checked.Fine → 4 * length ts ≤ length out → Fits (ramp .positions) (ramp .channels) (ramp .codes) ts out
+    unfolding checkOf
+    fits fine l =
+        let s = fine-shape (ramp .positions) (ramp .channels) (ramp .codes) (sym (simp gimp) ∙ fine) in
+        record { cut = record { least = s .least; channels = s .channels; codes = s .codes }; room = l }
 
-  pub as-gimp : {out′ : List Float} → ramp .kind ≡ Gimp → out′ ≡ paintedOver (gimpColour (ramp .positions) (ramp .channels) (ramp .codes)) ts out → out′ ≡ paintedOver (colourOf ramp) ts out
-  as-gimp h e = e ∙ ap (λ (g : Float → Rgba). paintedOver g ts out) (fun-ext (is-gimp h))
+    pub as-gimp : {out′ : List Float} → checkOf ramp ≡ checked.Fine → 4 * length ts ≤ length out → out′ ≡ segmentsOver (ramp .positions) (ramp .channels) (ramp .codes) ts out → out′ ≡ paintedOver (colourOf ramp) ts out
+    as-gimp fine l e =
+        e ∙ over-fit (ramp .positions) (ramp .channels) (ramp .codes) ts out (fits fine l)
+        ∙ ap (λ (g : Float → Rgba). paintedOver g ts out) (fun-ext is-gimp)

@@ -3,7 +3,7 @@ use mathlib.Core.Path.{_≡_, refl, sym, _∙_, ap, subst}
 use mathlib.Core.Bool.{true, false}
 use mathlib.Core.List.{List}
 use Prim.Native.Nat.{ℕ, zero, suc, _+_, _-_, _*_, _/_, _≤_, _<_, _^_}
-use native.Mathlib.Nat.{pow-succ', mul-le-mul-left}
+use native.Mathlib.Nat.{pow-succ'}
 use native.Mathlib.Omega.{arith}
 use lib.ListN.{length}
 use lib.Ieee.{Float, le, ne}
@@ -21,7 +21,7 @@ use Rattle.stops.proofs.Narrowing.{Bracket}
 use Rattle.stops.proofs.Quarters.{first-part, quarter, ends-two, ends-one}
 use Rattle.stops.proofs.Nearby.{near-pair, near-same}
 use Rattle.stops.proofs.Valid.{pair-inside}
-use Rattle.paint.specs.Unchecked.{Span, Sought, Placed, stopColour}
+use Rattle.paint.specs.Within.{Span, Sought, Placed, stopColour}
 
 -- ---- powers of two
 pub record Power (n : ℕ) : Type 0 where
@@ -57,10 +57,6 @@ quartered n p h = go (p .width) (p .power)
 pub record Around (ps : List Float) (t : Float) (base size : ℕ) : Type 0 where
   pub bracket : Bracket ps t base size
   pub power : Power size
-
--- at most three quarters are passed over
-pub passed-over : (q x y z : ℕ) → x ≤ 1 → y ≤ 1 → z ≤ 1 → q * (x + y + z) ≤ q * 3
-passed-over q x y z a b c = mul-le-mul-left q (omega arith)
 
 module _ (ps : List Float) (t : Float) (span : ℕ) (S : Sought ps t span) where
   pub started : {low b : ℕ} → low ≡ length ps - 1 - span → b ≡ isBelow ps t low → Around ps t (low * b) span

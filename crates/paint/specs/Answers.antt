@@ -16,14 +16,14 @@ use Rattle.paint.specs.declared.Answer.the-variants as answer
 use Rattle.paint.specs.declared.Painted.{Painted}
 use Rattle.paint.specs.declared.Painted.the-variants as painted
 
-abbrev pub numberOfAnswer : Answer → ℕ
-numberOfAnswer (answer.Colour c) = 0
-numberOfAnswer (answer.Refused n) = n
+abbrev pub numberOfAt : Answer → ℕ
+numberOfAt (answer.Colour c) = 0
+numberOfAt (answer.Refused n) = n
 
 -- the value beside it: a colour, or none; no answer has a line
-abbrev pub coloursOfAnswer : Answer → List Rgba
-coloursOfAnswer (answer.Colour c) = c ∷ []
-coloursOfAnswer (answer.Refused n) = []
+abbrev pub coloursOfAt : Answer → List Rgba
+coloursOfAt (answer.Colour c) = c ∷ []
+coloursOfAt (answer.Refused n) = []
 
 abbrev pub numberOfPainted : Painted → ℕ
 numberOfPainted painted.Done = 0

@@ -1,4 +1,4 @@
 pub mod Answers
 pub mod Canvas
-pub mod Unchecked
 pub mod Promises
+pub mod Within

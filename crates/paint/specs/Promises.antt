@@ -6,18 +6,18 @@ use lib.Ieee.{Float}
 use Rattle.stops.specs.Lent.{Ramp}
 use Rattle.gradient.specs.Ramp.{checkOf, colourOf}
 use Rattle.stops.specs.Answers.{numberOfChecked, onFine}
-use Rattle.paint.specs.Answers.{numberOfAnswer, coloursOfAnswer, numberOfPainted, atAnswer, paintCheck, paintAnswer}
-use Rattle.paint.specs.Canvas.{roomOf, canvas}
+use Rattle.paint.specs.Answers.{numberOfAt, coloursOfAt, numberOfPainted, atAnswer, paintCheck, paintAnswer}
+use Rattle.paint.specs.Canvas.{colourRoom, canvas}
 use Rattle.paint.specs.declared.Answer.{Answer}
 use Rattle.paint.specs.declared.Painted.{Painted}
 
 module _ (ramp : Ramp) where
   pub record AtIs (t : Float) (r : Answer) : Type 0 where
-    pub number : numberOfAnswer r ≡ numberOfChecked (checkOf ramp)
-    pub colours : coloursOfAnswer r ≡ onFine (checkOf ramp) (colourOf ramp t ∷ []) (λ n. [])
+    pub number : numberOfAt r ≡ numberOfChecked (checkOf ramp)
+    pub colours : coloursOfAt r ≡ onFine (checkOf ramp) (colourOf ramp t ∷ []) (λ n. [])
     pub answer : r ≡ atAnswer ramp t
 
   pub record PaintIs (ts out out′ : List Float) (r : Painted) : Type 0 where
-    pub number : numberOfPainted r ≡ numberOfChecked (paintCheck ramp (length ts) (roomOf out))
-    pub answer : r ≡ paintAnswer ramp (length ts) (roomOf out)
+    pub number : numberOfPainted r ≡ numberOfChecked (paintCheck ramp (length ts) (colourRoom out))
+    pub answer : r ≡ paintAnswer ramp (length ts) (colourRoom out)
     pub contents : out′ ≡ canvas ramp ts out

@@ -7,21 +7,18 @@ use stops::Kind;
 use stops::near;
 ghost use mathlib.Core.Path.{_≡_};
 ghost use Prim.Native.Nat.{_+_, _*_, _≤_};
-ghost use lib.ListN.{length, replicate};
+ghost use lib.ListN.{length};
 ghost use lib.Seq.{sets};
-ghost use Rattle.float.specs.F32.{f0};
-ghost use Rattle.stops.specs.Stops.{colourAt};
+ghost use Rattle.blend.specs.Channels.{channelsOf};
+ghost use Rattle.stops.specs.Lent.{old, new, rampIn, lentRamp};
 ghost use Rattle.stops.specs.Near.{segmentFor};
 ghost use Rattle.stops.specs.declared.Checked.the-variants.{Fine};
-ghost use Rattle.gradient.specs.Gimp.{gimpColour};
-ghost use Rattle.stops.specs.Lent.{old, new, rampIn, lentRamp};
 ghost use Rattle.gradient.specs.Ramp.{checkOf, colourOf};
-ghost use Rattle.paint.specs.Canvas.{channelsOf, paintedOver};
+ghost use Rattle.paint_segments.specs.Over.{paintedOver};
 ghost use Rattle.paint.specs.Promises.{AtIs, PaintIs};
-ghost use Rattle.paint.specs.Unchecked.{Cut, stopColour, Ready};
+ghost use Rattle.paint.specs.Within.{isCatmull, stopColour, Paintable};
 
 mod pairs;
-mod segments;
 
 // The colour at t, or the number of the refusal.
 pub enum Answer {
@@ -44,56 +41,22 @@ pub fn at(kind: Kind, positions: &[f32], channels: &[f32], codes: &[u8], t: f32)
     }
 }
 
-fn clear(out: &mut [f32])
-    ensures { λ _. ⌜ now (out .exit) ≡ replicate (length (now (out .entry))) f0 ⌝ }
+// Stores a colour where there is room for it: `stops` has the same store for any output, with tests, which each point would
+// pay for here.
+fn put_colour(out: &mut [f32], k: usize, c: Rgba)
+    requires { ⌜ k + 4 ≤ length (now out) ⌝ }
+    ensures { λ _. ⌜ new out ≡ sets (old out) k (channelsOf c) ⌝ }
 {
-    let mut i = 0;
-    while i < out.len() {
-        out[i] = 0.0;
-        i += 1;
-    }
-}
-
-// Colour i, read without a test.
-pub(crate) fn colour(channels: &[f32], i: usize) -> Rgba
-    requires { ⌜ 4 * i + 4 ≤ length (now channels) ⌝ }
-    ensures { λ r. ⌜ r ≡ colourAt (now (channels .entry)) i ⌝ }
-{
-    let at = 4 * i;
-    Rgba {
-        r: channels[at],
-        g: channels[at + 1],
-        b: channels[at + 2],
-        a: channels[at + 3],
-    }
-}
-
-pub(crate) fn put(out: &mut [f32], at: usize, c: Rgba)
-    requires { ⌜ at + 4 ≤ length (now out) ⌝ }
-    ensures { λ _. ⌜ now (out .exit) ≡ sets (now (out .entry)) at (channelsOf c) ⌝ }
-{
-    out[at] = c.r;
-    out[at + 1] = c.g;
-    out[at + 2] = c.b;
-    out[at + 3] = c.a;
-}
-
-// GIMP segments at ts: a segment is held while the points lie in it.
-fn paint_gimp(positions: &[f32], channels: &[f32], codes: &[u8], ts: &[f32], out: &mut [f32])
-    requires { ⌜ Cut (now positions) (now channels) (now codes) × (4 * length (now ts) ≤ length (now out)) ⌝ }
-    ensures { λ _. ⌜ now (out .exit) ≡ paintedOver (gimpColour (now (positions .entry)) (now (channels .entry)) (now (codes .entry))) (now (ts .entry)) (now (out .entry)) ⌝ }
-{
-    let orderly = segments::is_orderly(positions);
-    let mut i = 0;
-    while i < ts.len() {
-        i = segments::paint_on(positions, channels, codes, ts, out, orderly, i);
-    }
+    out[k] = c.r;
+    out[k + 1] = c.g;
+    out[k + 2] = c.b;
+    out[k + 3] = c.a;
 }
 
 // Stops at ts. The pair of the last point is tried before the search.
 fn paint_stops(kind: Kind, positions: &[f32], channels: &[f32], ts: &[f32], out: &mut [f32])
-    requires { ⌜ Ready (now positions) (now channels) (now ts) (now out) ⌝ }
-    ensures { λ _. ⌜ now (out .exit) ≡ paintedOver (stopColour kind (now (positions .entry)) (now (channels .entry))) (now (ts .entry)) (now (out .entry)) ⌝ }
+    requires { ⌜ Paintable (now positions) (now channels) (now ts) (now out) ⌝ }
+    ensures { λ _. ⌜ new out ≡ paintedOver (stopColour kind (old positions) (old channels)) (old ts) (old out) ⌝ }
 {
     let span = pairs::span_of(positions.len());
     let mut k = 0;
@@ -103,7 +66,7 @@ fn paint_stops(kind: Kind, positions: &[f32], channels: &[f32], ts: &[f32], out:
         let place = pairs::find_place(positions, t, k, span);
         k = near::pair_or(place, k);
         let c = pairs::colour_in(kind, positions, channels, t, place);
-        put(out, 4 * i, c);
+        put_colour(out, 4 * i, c);
         i += 1;
     }
 }
@@ -111,7 +74,7 @@ fn paint_stops(kind: Kind, positions: &[f32], channels: &[f32], ts: &[f32], out:
 // The segment of pair j, where s is that of pair k.
 fn renewed(channels: &[f32], n: usize, s: [[f32; 4]; 4], k: usize, j: usize) -> [[f32; 4]; 4]
     requires { ⌜ s ≡ segmentFor (now channels) n k ⌝ }
-    ensures { λ r. ⌜ r ≡ segmentFor (now (channels .entry)) n j ⌝ }
+    ensures { λ r. ⌜ r ≡ segmentFor (old channels) n j ⌝ }
 {
     if j == k {
         return s;
@@ -121,8 +84,8 @@ fn renewed(channels: &[f32], n: usize, s: [[f32; 4]; 4], k: usize, j: usize) -> 
 
 // Catmull-Rom stops at ts. A segment costs twelve roots, so it is kept while the pair stays.
 fn paint_catmull(positions: &[f32], channels: &[f32], ts: &[f32], out: &mut [f32])
-    requires { ⌜ Ready (now positions) (now channels) (now ts) (now out) ⌝ }
-    ensures { λ _. ⌜ now (out .exit) ≡ paintedOver (stopColour Kind.CatmullRom (now (positions .entry)) (now (channels .entry))) (now (ts .entry)) (now (out .entry)) ⌝ }
+    requires { ⌜ Paintable (now positions) (now channels) (now ts) (now out) ⌝ }
+    ensures { λ _. ⌜ new out ≡ paintedOver (stopColour Kind.CatmullRom (old positions) (old channels)) (old ts) (old out) ⌝ }
 {
     let n = positions.len();
     let mut k = 1;
@@ -136,8 +99,21 @@ fn paint_catmull(positions: &[f32], channels: &[f32], ts: &[f32], out: &mut [f32
         s = fresh;
         k = j;
         let c = near::segment_colour(positions, channels, s, t, place);
-        put(out, 4 * i, c);
+        put_colour(out, 4 * i, c);
         i += 1;
+    }
+}
+
+fn is_catmull(kind: Kind) -> bool
+    ensures { λ r. ⌜ r ≡ isCatmull kind ⌝ }
+{
+    match kind {
+        Kind::Linear => false,
+        Kind::Smoothstep => false,
+        Kind::Sharp => false,
+        Kind::Basis => false,
+        Kind::CatmullRom => true,
+        Kind::Gimp => false,
     }
 }
 
@@ -151,16 +127,17 @@ fn paint_all(
 )
     requires { ⌜ checkOf (rampIn kind positions channels codes) ≡ Fine ⌝ }
     requires { ⌜ 4 * length (now ts) ≤ length (now out) ⌝ }
-    ensures { λ _. ⌜ now (out .exit) ≡ paintedOver (colourOf (lentRamp kind positions channels codes)) (now (ts .entry)) (now (out .entry)) ⌝ }
+    ensures { λ _. ⌜ new out ≡ paintedOver (colourOf (lentRamp kind positions channels codes)) (old ts) (old out) ⌝ }
 {
-    match kind {
-        Kind::Linear => paint_stops(kind, positions, channels, ts, out),
-        Kind::Smoothstep => paint_stops(kind, positions, channels, ts, out),
-        Kind::Sharp => paint_stops(kind, positions, channels, ts, out),
-        Kind::Basis => paint_stops(kind, positions, channels, ts, out),
-        Kind::CatmullRom => paint_catmull(positions, channels, ts, out),
-        Kind::Gimp => paint_gimp(positions, channels, codes, ts, out),
+    if gradient::is_gimp(kind) {
+        paint_segments::paint(positions, channels, codes, ts, out);
+        return;
     }
+    if is_catmull(kind) {
+        paint_catmull(positions, channels, ts, out);
+        return;
+    }
+    paint_stops(kind, positions, channels, ts, out)
 }
 
 // Checks once, then writes the colours at ts into out, four channels for each.
@@ -178,7 +155,7 @@ pub fn paint(
         Checked::Refused(n) => Painted::Refused(n),
         Checked::Fine => {
             if out.len() / 4 < ts.len() {
-                clear(out);
+                slices::zero_from(out, 0);
                 return Painted::Refused(NO_ROOM);
             }
             paint_all(kind, positions, channels, codes, ts, out);

@@ -1,5 +1,4 @@
 // Stops that passed the check, read without the tests that it made: the place of t, and the colour there.
-use crate::colour;
 use blend::Rgba;
 use blend::Stop;
 use blend::linear;
@@ -9,12 +8,12 @@ use stops::Kind;
 use stops::Place;
 use stops::near;
 ghost use mathlib.Core.Path.{_≡_};
-ghost use Prim.Native.Nat.{_*_, _≤_, _<_};
+ghost use Prim.Native.Nat.{_+_, _*_, _≤_, _<_};
 ghost use lib.ListN.{length};
-ghost use Rattle.stops.specs.Stops.{stopAt};
+ghost use Rattle.stops.specs.Stops.{colourAt, stopAt};
 ghost use Rattle.stops.specs.Place.{Rising, firstAt, placeOf};
 ghost use Rattle.stops.specs.Pair.{between};
-ghost use Rattle.paint.specs.Unchecked.{Span, Sought, Placed, stopColour};
+ghost use Rattle.paint.specs.Within.{Span, Sought, Placed, stopColour};
 
 // The largest power of two below n.
 pub(crate) fn span_of(n: usize) -> usize
@@ -71,6 +70,20 @@ pub(crate) fn find_place(positions: &[f32], t: f32, k: usize, span: usize) -> Pl
         return Place::Nowhere;
     }
     Place::Between(search(positions, t, span))
+}
+
+// Colour i, read without a test.
+fn colour(channels: &[f32], i: usize) -> Rgba
+    requires { ⌜ 4 * i + 4 ≤ length (now channels) ⌝ }
+    ensures { λ r. ⌜ r ≡ colourAt (now (channels .entry)) i ⌝ }
+{
+    let at = 4 * i;
+    Rgba {
+        r: channels[at],
+        g: channels[at + 1],
+        b: channels[at + 2],
+        a: channels[at + 3],
+    }
 }
 
 fn stop_at(positions: &[f32], channels: &[f32], i: usize) -> Stop

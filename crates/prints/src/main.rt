@@ -2,39 +2,20 @@
 // A number is 8 hex digits of its bits.
 ghost use Prim.Native.Nat.{_+_, _≤_, _<_};
 ghost use lib.ListN.{length};
+use crate::show::bits;
+use crate::show::number;
+use crate::show::out;
+use crate::show::refused;
+use crate::show::row;
 use blend::Rgba;
 use decimal::Token;
-use gradient::sharp::Built;
-use libc::STDOUT_FILENO;
 use linearize::Listed;
 use linearize::Sampler;
 use paint::Answer;
+use sharp_ramp::Built;
 use stops::Kind;
 
-fn out(s: &[u8]) {
-    io::write_all(STDOUT_FILENO, s);
-}
-
-fn number(n: usize) {
-    io::print_decimal(STDOUT_FILENO, n as u64);
-}
-
-fn bits(x: f32) {
-    io::print_hex(STDOUT_FILENO, float::to_bits(x) as u64, 8);
-}
-
-// Each number of xs, with a blank before it.
-fn row(xs: &[f32]) {
-    for i in 0..xs.len() {
-        out(b" ");
-        bits(xs[i]);
-    }
-}
-
-fn refused(n: u8) {
-    out(b"refused ");
-    number(n as usize);
-}
+mod show;
 
 // The first channel of a ramp at t.
 fn red(label: &[u8], kind: Kind, positions: &[f32], channels: &[f32], codes: &[u8], t: f32) {

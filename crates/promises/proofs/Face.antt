@@ -5,16 +5,17 @@ use Prim.Native.Nat.{ℕ}
 use mathlib.Core.Path.{_≡_, sym, _∙_, ap}
 use Rattle.sqrt.proofs.Theorems.{cutoff-unique}
 use Rattle.stops.specs.declared.Kind.{Kind}
-use Rattle.colorgrad_c.specs.Kinds.{kindOf, onKind, Shows}
-use Rattle.colorgrad_c.specs.declared.kinds.Coded.{Coded}
-use Rattle.colorgrad_c.specs.declared.kinds.Coded.the-variants.{Of, Unknown}
+use Rattle.plain.specs.Ramps.{builtShown}
+use Rattle.plain.specs.Kinds.{kindOf, onKind, Shows}
+use Rattle.plain.specs.declared.kinds.Coded.{Coded}
+use Rattle.plain.specs.declared.kinds.Coded.the-variants.{Of, Unknown}
 use Rattle.promises.proofs.Parts.{rows-of, counts-of, positions-of, channels-of}
+use Rattle.promises.proofs.Segment as stored
 use Rattle.promises.specs.Law.{Coincide, coincide, answer, _with_, both}
 use Rattle.colorgrad_c.proofs.leaves.colorgrad_root.Reads as of-root
 use Rattle.colorgrad_c.proofs.leaves.colorgrad_cutoff.Reads as of-cutoff
 use Rattle.colorgrad_c.proofs.leaves.colorgrad_threshold.Reads as of-threshold
 use Rattle.colorgrad_c.proofs.leaves.colorgrad_token.Reads as of-token
-use Rattle.colorgrad_c.proofs.kinds.kind_of.Reads as of-kind-of
 use Rattle.colorgrad_c.proofs.ramps.colorgrad_check.Reads as of-check
 use Rattle.colorgrad_c.proofs.ramps.colorgrad_domain.Reads as of-domain
 use Rattle.colorgrad_c.proofs.ramps.colorgrad_at.Reads as of-at
@@ -23,7 +24,6 @@ use Rattle.colorgrad_c.proofs.ramps.colorgrad_sharp.Reads as of-sharp
 use Rattle.colorgrad_c.proofs.gimp.colorgrad_read.Reads as of-read
 use Rattle.colorgrad_c.proofs.gimp.colorgrad_name.Reads as of-name
 use Rattle.colorgrad_c.proofs.tool.colorgrad_desk.Reads as of-desk
-use Rattle.colorgrad_c.proofs.lists.listed_shown.Reads as of-listed-shown
 use Rattle.colorgrad_c.proofs.lists.colorgrad_sample.Reads as of-sample
 use Rattle.colorgrad_c.proofs.lists.colorgrad_thin.Reads as of-thin
 use Rattle.colorgrad_c.proofs.lists.colorgrad_flatten.Reads as of-flatten
@@ -42,17 +42,11 @@ threshold κs a = coincide (λ r e w. w)
 pub token : (κs : Lfts 1) (a : _) → Coincide (of-token.Learnt κs a) answer
 token κs a = coincide (λ r e w. w)
 
-pub kind-of : (κs : Lfts 0) (a : _) → Coincide (of-kind-of.Learnt κs a) answer
-kind-of κs a = coincide (λ r e w. w)
-
-pub listed-shown : (κs : Lfts 0) (a : _) → Coincide (of-listed-shown.Learnt κs a) answer
-listed-shown κs a = coincide (λ r e w. w)
-
 pub sharp : (κs : Lfts 3) (a : _) → Coincide (of-sharp.Learnt κs a) (λ r e. r with now (e .1 .1 .1 .1 .0) with now (e .1 .1 .1 .1 .1 .0))
-sharp κs a = coincide (λ r e w. both (w .0) (both (w .1 .0) (w .1 .1)))
+sharp κs a = coincide (λ r e w. both (w .shown ∙ ap builtShown (w .promised .answer)) (both (w .promised .positions) (w .promised .channels)))
 
 pub read : (κs : Lfts 4) (a : _) → Coincide (of-read.Learnt κs a) (λ r e. r with now (e .1 .1 .1 .0) with now (e .1 .1 .1 .1 .0) with now (e .1 .1 .1 .1 .1 .0))
-read κs a = coincide (λ r e w. both (w .shown) (both (w .done .positions) (both (w .done .channels) (w .done .codes))))
+read κs a = coincide (λ r e w. both (w .shown) (both (stored.positions-of (w .done .left)) (both (stored.channels-of (w .done .left)) (stored.codes-of (w .done .left)))))
 
 pub name : (κs : Lfts 2) (a : _) → Coincide (of-name.Learnt κs a) (λ r e. r with now (e .1 .0))
 name κs a = coincide (λ r e w. both (w .0) (w .1))
@@ -73,12 +67,12 @@ module _ {A E : Type 0} {P : Kind → A → E → Type 0} {Q : A → E → Type 
     by-code : {X : Type 0} {rest : E → X} → ((kind : Kind) → Coincide (P kind) (λ (a : A) (e : E). a with rest e)) → Coincide Q (λ (a : A) (e : E). a with rest e)
         → Coincide (λ (b : B) (e : E). Shows code (λ (kind : Kind) (a : A). P kind a e) (λ (a : A). Q a e) show b) (λ (b : B) (e : E). b with rest e)
     by-code {X} {rest} known unknown r s e f v w =
-        let same = by-kind known unknown (kindOf code) (v .answer) (w .answer) e f (v .promised) (w .promised) in
-        both (v .shown ∙ ap (λ (x : A × X). show (x .0)) same ∙ sym (w .shown)) (ap (λ (x : A × X). x .1) same)
+        let same = by-kind known unknown (kindOf code) (v .shows .answer) (w .shows .answer) e f (v .shows .promised) (w .shows .promised) in
+        both (v .shows .shown ∙ ap (λ (x : A × X). show (x .0)) same ∙ sym (w .shows .shown)) (ap (λ (x : A × X). x .1) same)
 
     by-code-alone : ((kind : Kind) → Coincide (P kind) answer) → Coincide Q answer
         → Coincide (λ (b : B) (e : E). Shows code (λ (kind : Kind) (a : A). P kind a e) (λ (a : A). Q a e) show b) answer
-    by-code-alone known unknown r s e f v w = v .shown ∙ ap show (by-kind known unknown (kindOf code) (v .answer) (w .answer) e f (v .promised) (w .promised)) ∙ sym (w .shown)
+    by-code-alone known unknown r s e f v w = v .shows .shown ∙ ap show (by-kind known unknown (kindOf code) (v .shows .answer) (w .shows .answer) e f (v .shows .promised) (w .shows .promised)) ∙ sym (w .shows .shown)
 
 -- with the record
 pub sample : (κs : Lfts 5) (a : _) → Coincide (of-sample.Learnt κs a) (λ r e. r with now (e .1 .1 .1 .1 .1 .0) with now (e .1 .1 .1 .1 .1 .1 .0))

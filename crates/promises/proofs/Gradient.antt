@@ -1,21 +1,18 @@
--- `gradient`: every call on a ramp of any kind or on GIMP segments, and building sharp ramps.
+-- `gradient`: every call on a ramp of any kind or on GIMP segments.
 use contract.Lifetimes.{Lfts}
-use denote.Ref.{now}
-use Rattle.promises.specs.Law.{Coincide, coincide, answer, _with_, both}
+use Rattle.promises.specs.Law.{Coincide, coincide, answer}
 use Rattle.gradient.proofs.is_gimp.Reads as of-is-gimp
 use Rattle.gradient.proofs.check.Reads as of-check
 use Rattle.gradient.proofs.min_of.Reads as of-min-of
 use Rattle.gradient.proofs.max_of.Reads as of-max-of
 use Rattle.gradient.proofs.colour_at.Reads as of-colour-at
-use Rattle.gradient.proofs.sharp.is_steady.Reads as of-is-steady
 use Rattle.gradient.proofs.gimp.find_segment.Reads as of-find-segment
-use Rattle.gradient.proofs.gimp.place_along.Reads as of-place-along
-use Rattle.gradient.proofs.gimp.blend.Reads as of-blend
+use Rattle.gradient.proofs.blending.place_along.Reads as of-place-along
+use Rattle.gradient.proofs.blending.blend.Reads as of-blend
 use Rattle.gradient.proofs.gimp.is_off_domain.Reads as of-is-off-domain
 use Rattle.gradient.proofs.gimp.is_carried.Reads as of-is-carried
 use Rattle.gradient.proofs.gimp.check.Reads as of-check-segments
 use Rattle.gradient.proofs.gimp.colour_at.Reads as of-colour-at-segments
-use Rattle.gradient.proofs.sharp.build.Reads as of-build
 
 pub is-gimp : (κs : Lfts 0) (a : _) → Coincide (of-is-gimp.Learnt κs a) answer
 is-gimp κs a = coincide (λ r e w. w)
@@ -31,9 +28,6 @@ max-of κs a = coincide (λ r e w. w)
 
 pub colour-at : (κs : Lfts 3) (a : _) → Coincide (of-colour-at.Learnt κs a) answer
 colour-at κs a = coincide (λ r e w. w)
-
-pub is-steady : (κs : Lfts 1) (a : _) → Coincide (of-is-steady.Learnt κs a) answer
-is-steady κs a = coincide (λ r e w. w)
 
 pub is-carried : (κs : Lfts 0) (a : _) → Coincide (of-is-carried.Learnt κs a) answer
 is-carried κs a = coincide (λ r e w. w)
@@ -55,7 +49,3 @@ is-off-domain κs a = coincide (λ r e w. w)
 
 pub colour-at-segments : (κs : Lfts 3) (a : _) → Coincide (of-colour-at-segments.Learnt κs a) answer
 colour-at-segments κs a = coincide (λ r e w. w)
-
--- with both lent outputs
-pub build : (κs : Lfts 3) (a : _) → Coincide (of-build.Learnt κs a) (λ r e. r with now (e .1 .1 .1 .1 .0) with now (e .1 .1 .1 .1 .1 .0))
-build κs a = coincide (λ r e w. both (w .answer) (both (w .positions) (w .channels)))

@@ -1,6 +1,7 @@
 -- The slices of a record and of outputs, from what a promise says of them whole. Assumes nothing.
 use mathlib.Core.Path.{_≡_, ap}
-use Rattle.linearize.specs.Lent.{Held, Output}
+use Rattle.sampling.specs.Lent.{Held}
+use Rattle.linearize.specs.Lent.{Output}
 
 pub rows-of : {h k : Held} → h ≡ k → h .rows ≡ k .rows
 rows-of e = ap (λ (x : Held). x .rows) e

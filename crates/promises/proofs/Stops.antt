@@ -1,18 +1,20 @@
 -- `stops`: every call on any slices at all.
 use contract.Lifetimes.{Lfts}
+use denote.Ref.{now}
 use Rattle.promises.specs.Law.{Coincide, coincide, answer}
 use Rattle.stops.proofs.less.Reads as of-less
-use Rattle.stops.proofs.item.Reads as of-item
-use Rattle.stops.proofs.colour.Reads as of-colour
-use Rattle.stops.proofs.stop.Reads as of-stop
-use Rattle.stops.proofs.is_finite_colour.Reads as of-is-finite-colour
-use Rattle.stops.proofs.check.Reads as of-check
-use Rattle.stops.proofs.below.Reads as of-below
-use Rattle.stops.proofs.find_place.Reads as of-find-place
-use Rattle.stops.proofs.left_of.Reads as of-left-of
-use Rattle.stops.proofs.right_of.Reads as of-right-of
-use Rattle.stops.proofs.colour_in.Reads as of-colour-in
-use Rattle.stops.proofs.colour_at.Reads as of-colour-at
+use Rattle.stops.proofs.channels.item.Reads as of-item
+use Rattle.stops.proofs.channels.colour.Reads as of-colour
+use Rattle.stops.proofs.channels.stop.Reads as of-stop
+use Rattle.stops.proofs.rules.is_finite_colour.Reads as of-is-finite-colour
+use Rattle.stops.proofs.rules.check.Reads as of-check
+use Rattle.stops.proofs.search.below.Reads as of-below
+use Rattle.stops.proofs.search.find_place.Reads as of-find-place
+use Rattle.stops.proofs.between.left_of.Reads as of-left-of
+use Rattle.stops.proofs.between.right_of.Reads as of-right-of
+use Rattle.stops.proofs.between.colour_in.Reads as of-colour-in
+use Rattle.stops.proofs.between.colour_at.Reads as of-colour-at
+use Rattle.stops.proofs.channels.put_colour.Reads as of-put-colour
 use Rattle.stops.proofs.near.is_between.Reads as of-is-between
 use Rattle.stops.proofs.near.find_place.Reads as of-find-place-near
 use Rattle.stops.proofs.near.pair_or.Reads as of-pair-or
@@ -69,3 +71,7 @@ segment-for κs a = coincide (λ r e w. w)
 
 pub segment-colour : (κs : Lfts 2) (a : _) → Coincide (of-segment-colour.Learnt κs a) answer
 segment-colour κs a = coincide (λ r e w. w)
+
+-- the output
+pub put-colour : (κs : Lfts 1) (a : _) → Coincide (of-put-colour.Learnt κs a) (λ r e. now (e .0))
+put-colour κs a = coincide (λ r e w. w)

@@ -14,8 +14,6 @@ use Rattle.text.proofs.starts_with.Reads as of-starts-with
 use Rattle.text.proofs.is_same.Reads as of-is-same
 use Rattle.text.proofs.marks.Reads as of-marks
 use Rattle.text.proofs.trimmed.Reads as of-trimmed
-use Rattle.text.proofs.digits.digits_of.Reads as of-digits-of
-use Rattle.text.proofs.rows.row_at.Reads as of-row-at
 
 place : (s u : List ℕ) (r : ℕ) → r ≤ length s → drop r s ≡ u → r ≡ length s - length u
 place s u r h e = omega (arith, length-drop r s, ap (λ (l : List ℕ). length l) e)
@@ -42,10 +40,3 @@ marks κs a = coincide (λ r e w. place (now (a .0)) _ r (w .0) (w .1))
 
 pub trimmed : (κs : Lfts 1) (a : _) → Coincide (of-trimmed.Learnt κs a) (λ r e. now r)
 trimmed κs a = coincide (λ r e w. w)
-
-pub digits-of : (κs : Lfts 1) (a : _) → Coincide (of-digits-of.Learnt κs a) answer
-digits-of κs a = coincide (λ r e w. w)
-
--- the numbers, how many, and where what follows them starts
-pub row-at : (κs : Lfts 1) (a : _) → Coincide (of-row-at.Learnt κs a) (λ r e. r .d with r .n with r .next)
-row-at κs a = coincide (λ r e w. both (w .values) (both (w .count) (w .goes-on)))

@@ -11,13 +11,13 @@ use lib.ListN.{length, take, drop, getD, length-drop}
 use lib.Seq.{take-all, drop-at, drop-append-le, take-append-le}
 use lib.Ieee.{Float}
 use Rattle.float.proofs.Flags.{both-l, both-r}
-use Rattle.linearize.specs.Constants.{cells, depth, rowLength}
-use Rattle.linearize.specs.Midpoints.{Gradient, Far, midOf, keeps, halves, tries}
-use Rattle.linearize.specs.Cells.{edgeOf, pointsOf, padded, rowOf, joined, cellRow, cellCount, cellTries, rowsOf, countsOf}
-use Rattle.refresh.specs.Stretch.{midsOutside, clearOf, cellClear}
-use Rattle.linearize.proofs.Joined.{length-joined, single}
-use Rattle.linearize.proofs.Rows.{cell-length}
-use Rattle.refresh.specs.Anew.{anewRow, anewCount, anewRows, anewCounts}
+use Rattle.sampling.specs.Constants.{cells, depth, rowLength}
+use Rattle.sampling.specs.Midpoints.{Gradient, Far, midOf, keeps, halves, tries}
+use Rattle.sampling.specs.Cells.{edgeOf, pointsOf, padded, rowOf, joined, cellRow, cellCount, cellTries, rowsOf, countsOf}
+use Rattle.reach.specs.Stretch.{midsOutside, clearOf, cellClear}
+use Rattle.sampling.proofs.Joined.{length-joined, single}
+use Rattle.sampling.proofs.Rows.{cell-length}
+use Rattle.sampling.specs.Anew.{anewRow, anewCount, anewRows, anewCounts}
 
 module _ (g h : Gradient) (far : Far) (out : Float → Bool) (agree : (t : Float) → out t ≡ true → g t ≡ h t) where
   same-keeps : (t0 t1 : Float) → out t0 ≡ true → out t1 ≡ true → out (midOf t0 t1) ≡ true → keeps g far t0 t1 ≡ keeps h far t0 t1
@@ -61,7 +61,7 @@ module _ (g h : Gradient) (far : Far) (out : Float → Bool) (agree : (t : Float
     same-tries = in-cell .1
 
 -- ---- what stands at cell i of a record
-joined-same : {A : Type 0} (f k : ℕ → List A) (n : ℕ) → ((i : ℕ) → i < n → f i ≡ k i) → joined f n ≡ joined k n
+pub joined-same : {A : Type 0} (f k : ℕ → List A) (n : ℕ) → ((i : ℕ) → i < n → f i ≡ k i) → joined f n ≡ joined k n
 unfolding joined
 joined-same f k zero h = refl
 joined-same f k (suc n) h = rw (joined-same f k n (λ i l. h i (omega arith)), h n (omega arith))
@@ -102,7 +102,7 @@ module _ (g : Gradient) (far : Far) (lo hi : Float) (i : ℕ) (l : i < cells) wh
 
 -- ---- the theorem: refreshed is fresh
 module _ (g h : Gradient) (far : Far) (out : Float → Bool) (agree : (t : Float) → out t ≡ true → g t ≡ h t) (lo hi : Float) where
-  row-anew : (i : ℕ) → i < cells → anewRow h far out lo hi (rowsOf g far lo hi) i ≡ cellRow h far lo hi i
+  row-anew : (i : ℕ) → i < cells → anewRow h far (cellClear out lo hi) lo hi (rowsOf g far lo hi) i ≡ cellRow h far lo hi i
   unfolding anewRow
   row-anew i l = go (cellClear out lo hi i) refl
     where
@@ -110,7 +110,7 @@ module _ (g h : Gradient) (far : Far) (out : Float → Bool) (agree : (t : Float
       go true e = row-at g far lo hi i l ∙ same-row g h far out agree lo hi i e
       go false e = refl
 
-  count-anew : (i : ℕ) → i < cells → anewCount h far out lo hi (countsOf g far lo hi) i ≡ cellCount h far lo hi i
+  count-anew : (i : ℕ) → i < cells → anewCount h far (cellClear out lo hi) lo hi (countsOf g far lo hi) i ≡ cellCount h far lo hi i
   unfolding anewCount
   count-anew i l = go (cellClear out lo hi i) refl
     where
@@ -118,10 +118,10 @@ module _ (g h : Gradient) (far : Far) (out : Float → Bool) (agree : (t : Float
       go true e = count-at g far lo hi i l ∙ same-count g h far out agree lo hi i e
       go false e = refl
 
-  pub refreshed-rows : anewRows h far out lo hi (rowsOf g far lo hi) ≡ rowsOf h far lo hi
+  pub refreshed-rows : anewRows h far (cellClear out lo hi) lo hi (rowsOf g far lo hi) ≡ rowsOf h far lo hi
   unfolding anewRows rowsOf
-  refreshed-rows = joined-same (anewRow h far out lo hi (rowsOf g far lo hi)) (cellRow h far lo hi) cells row-anew
+  refreshed-rows = joined-same (anewRow h far (cellClear out lo hi) lo hi (rowsOf g far lo hi)) (cellRow h far lo hi) cells row-anew
 
-  pub refreshed-counts : anewCounts h far out lo hi (countsOf g far lo hi) ≡ countsOf h far lo hi
+  pub refreshed-counts : anewCounts h far (cellClear out lo hi) lo hi (countsOf g far lo hi) ≡ countsOf h far lo hi
   unfolding anewCounts countsOf
-  refreshed-counts = joined-same (λ i. anewCount h far out lo hi (countsOf g far lo hi) i ∷ []) (λ i. cellCount h far lo hi i ∷ []) cells (λ i l. ap (λ (n : ℕ). n ∷ []) (count-anew i l))
+  refreshed-counts = joined-same (λ i. anewCount h far (cellClear out lo hi) lo hi (countsOf g far lo hi) i ∷ []) (λ i. cellCount h far lo hi i ∷ []) cells (λ i l. ap (λ (n : ℕ). n ∷ []) (count-anew i l))

@@ -10,27 +10,31 @@ use Rattle.stops.specs.Answers.{onFine}
 use Rattle.stops.specs.declared.Checked.{Checked}
 use Rattle.stops.specs.declared.Checked.the-variants as checked
 use Rattle.gradient.specs.Ramp.{checkOf, minOf, maxOf, colourOf}
-use Rattle.linearize.specs.Constants.{cells, recordLength}
-use Rattle.linearize.specs.Cells.{cellRow, cellCount}
-use Rattle.linearize.specs.Lent.{Held, Output}
-use Rattle.linearize.specs.Desk.{farOf, heldCheck, fresh, sampleAnswer, sampleHeld, flattenOutput}
-use Rattle.linearize.specs.Promises.{Samples, Thins, Flattens}
-use Rattle.linearize.specs.declared.Sampled.{Sampled}
-use Rattle.linearize.specs.declared.Sampled.the-variants as sampled
+use Rattle.sampling.specs.Constants.{cells, recordLength}
+use Rattle.sampling.specs.Cells.{cellRow, cellCount}
+use Rattle.sampling.specs.Lent.{Held}
+use Rattle.linearize.specs.Lent.{Output}
+use Rattle.sampling.specs.Sampling.{farOf, heldCheck, fresh, sampleAnswer, sampleHeld}
+use Rattle.linearize.specs.Desk.{flattenOutput}
+use Rattle.sampling.specs.Promises.{Samples}
+use Rattle.linearize.specs.Promises.{Thins, Flattens}
+use Rattle.sampling.specs.declared.Sampled.{Sampled}
+use Rattle.sampling.specs.declared.Sampled.the-variants as sampled
 use Rattle.linearize.specs.declared.Listed.{Listed}
-use Rattle.linearize.proofs.Answers as Sampling
-use Rattle.linearize.proofs.Checks.{ready, ramp-fine, record-lengths}
-use Rattle.refresh.specs.Stretch.{cellClear}
+use Rattle.sampling.proofs.Answers as Sampling
+use Rattle.linearize.proofs.Checks.{ready}
+use Rattle.sampling.proofs.Checks.{ramp-fine, record-lengths}
+use Rattle.reach.specs.Stretch.{cellClear}
 use Rattle.refresh.specs.Edit.{edited}
-use Rattle.refresh.specs.RefreshDesk.{editCheck, refreshCheck, away, renewed, refreshAnswer, refreshHeld, refreshOutput, Refreshes, RefreshLists}
-use Rattle.refresh.specs.AfterEdit.{OneList, Fresh, listAfter, outputAfter, RefreshedThenThinned, FreshList, SameCell}
+use Rattle.refresh.specs.RefreshDesk.{editCheck, refreshCheck, away, clearCell, renewed, refreshAnswer, refreshHeld, refreshOutput, Refreshes, RefreshLists}
+use Rattle.refresh.specs.AfterEdit.{OneList, Fresh, RefreshedThenThinned, FreshList, SameCell}
 use Rattle.refresh.specs.declared.edit.Edit.{Edit}
 use Rattle.refresh.specs.declared.Refreshed.{Refreshed}
 use Rattle.refresh.specs.declared.Refreshed.the-variants as refreshed
 use Rattle.refresh.proofs.EditChecks.{Allowed, edit-allowed, thin-fine, edited-sampling}
 use Rattle.refresh.proofs.Agree.{row-at, count-at}
-use Rattle.refresh.proofs.Renewing.{kept-row, kept-count}
-use Rattle.refresh.proofs.RefreshAnswers.{refresh-list-refused, refresh-list-done}
+use Rattle.refresh.proofs.Keeping.{kept-row, kept-count}
+use Rattle.refresh.proofs.ThenThinned.{by-check}
 use Rattle.refresh.proofs.Theorem as theorem
 
 -- ---- a record that was sampled, refreshed after an edit, and one that was sampled afresh
@@ -88,15 +92,8 @@ module _ (ramp : Ramp) (e : Edit) (asked : Float) (held : Change Held) (all : He
     (first : Refreshes ramp e asked held q)
     (second : Thins (edited ramp e) asked (held .exit) thinned l)
     (both : RefreshLists ramp e asked (change (held .entry) all) (change (thinned .entry) out) r) where
-  -- what `refresh_list` may give, by what the two calls gave
-  made : (x : Refreshed) → q ≡ x → RefreshLists ramp e asked held (change (thinned .entry) (outputAfter x thinned)) (listAfter x l)
-  made (refreshed.Done n) d = refresh-list-done ramp e asked held q first n d (edited ramp e) thinned l _ refl second refl
-  made (refreshed.Refused n) d = refresh-list-refused ramp e asked held q first (thinned .entry) n d
-
   pub refresh-list-is-both : RefreshedThenThinned (held .exit) all thinned out q l r
-  refresh-list-is-both =
-      let m = made q refl in
-      record { answer = both .told .answer ∙ sym (m .told .answer); same-record = both .left ∙ sym (m .left); output = both .output ∙ sym (m .output) }
+  refresh-list-is-both = by-check ramp e asked held all thinned out q l r first second both (refreshCheck ramp e (held .entry)) refl
 
 -- ---- cells that are clear of the edit
 module _ (ramp : Ramp) (e : Edit) (asked : Float) (i : ℕ) (clear : cellClear (away ramp e) (minOf ramp) (maxOf ramp) i ≡ true) where
@@ -108,8 +105,8 @@ module _ (ramp : Ramp) (e : Edit) (asked : Float) (i : ℕ) (clear : cellClear (
         let was = held .entry in
         let l = ready ramp was (thin-fine ramp e was h) in
         record {
-          same-row = kept-row (colourOf (edited ramp e)) (farOf asked) (away ramp e) (minOf ramp) (maxOf ramp) (was .rows) (was .counts) (l .long) (l .many) i cell clear;
-          same-count = kept-count (colourOf (edited ramp e)) (farOf asked) (away ramp e) (minOf ramp) (maxOf ramp) (was .rows) (was .counts) (l .long) (l .many) i cell clear;
+          same-row = kept-row (colourOf (edited ramp e)) (farOf asked) (clearCell ramp e) (minOf ramp) (maxOf ramp) (was .rows) (was .counts) (l .long) (l .many) i cell clear;
+          same-count = kept-count (colourOf (edited ramp e)) (farOf asked) (clearCell ramp e) (minOf ramp) (maxOf ramp) (was .rows) (was .counts) (l .long) (l .many) i cell clear;
         }
     kept (checked.Refused n) h = record { same-row = refl; same-count = refl }
 

@@ -8,7 +8,7 @@ use lib.ListN.{length, getD, set, take}
 use lib.Seq.{sets, take-suc, take-suc-set, take-set-lt, take-length}
 use lib.Ieee.{Float}
 use Rattle.blend.specs.declared.Rgba.{Rgba}
-use Rattle.linearize.specs.Kept.{channelsOf}
+use Rattle.blend.specs.Channels.{channelsOf}
 use Rattle.refresh.specs.Edit.{changed}
 
 module _ {A : Type 0} where

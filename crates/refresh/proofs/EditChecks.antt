@@ -1,31 +1,35 @@
 -- Laws of refusal 6, and what a refresh that passes its check may lean on. Assumes nothing.
 use mathlib.Core.Path.{_≡_, refl, sym, ap, _∙_}
-use mathlib.Core.Bool.{Bool, true, false, cond, _&&_, _||_}
-use Prim.Native.Nat.{ℕ, _+_, _-_, _*_, _≤_, _<_}
+use mathlib.Core.Bool.{Bool, true, false, cond, _&&_}
+use Prim.Native.Nat.{ℕ, _+_, _*_, _≤_, _<_}
 use native.Mathlib.Omega.{arith}
 use borrow.Author.Tests.{lt-ltb, le-ltb, ltb-true}
-use lib.Dec.{ltb, eqb}
+use lib.Dec.{ltb}
 use lib.ListN.{length}
-use lib.Ieee.{Float}
-use Rattle.refusals.specs.Refusals.{farDomain, badRecord, badEdit}
+use Rattle.refusals.specs.Refusals.{badEdit}
 use Rattle.refusals.specs.Limits.{mostStops}
 use Rattle.float.proofs.Flags.{both-l, both-r}
 use Rattle.stops.specs.Lent.{Ramp}
-use Rattle.stops.specs.Stops.{posAt, finiteRgba}
+use Rattle.stops.specs.Stops.{finiteRgba}
 use Rattle.stops.specs.declared.Kind.{Kind}
 use Rattle.stops.specs.declared.Kind.the-variants.{Linear, Smoothstep, Sharp, Basis, CatmullRom, Gimp}
 use Rattle.stops.specs.declared.Checked.{Checked}
 use Rattle.stops.specs.declared.Checked.the-variants as checked
 use Rattle.stops.proofs.Valid.{Valid}
-use Rattle.gradient.specs.Ramp.{isGimp, checkOf, minIn, maxIn, minOf, maxOf}
+use Rattle.gradient.specs.Ramp.{isGimp, checkOf}
 use Rattle.gradient.proofs.Valid.{valid}
-use Rattle.linearize.specs.Lent.{Held}
-use Rattle.linearize.specs.Desk.{beyondOf, andThen, shapeCheck, sampleCheck, heldCheck, thinCheck}
-use Rattle.refresh.specs.Anew.{Domain}
-use Rattle.refresh.specs.RefreshDesk.{refreshable, editAllowed, editCheck, refreshCheck}
+use Rattle.sampling.specs.Lent.{Held}
+use Rattle.sampling.specs.Constants.{cells}
+use Rattle.sampling.specs.Sampling.{andThen, sampleCheck, heldCheck}
+use Rattle.linearize.specs.Desk.{thinCheck}
+use Rattle.sampling.specs.Anew.{keptBy}
+use Rattle.refresh.specs.RefreshDesk.{refreshable, editAllowed, editCheck, refreshCheck, clearCell}
 use Rattle.refresh.specs.Edit.{edited}
 use Rattle.refresh.specs.declared.edit.Edit.{Edit}
-use Rattle.linearize.proofs.Checks.{passes-both, ramp-fine, sample-fine}
+use Rattle.reach.specs.KeptCells.{keptCells}
+use Rattle.reach.proofs.Kept.{checked-kept}
+use Rattle.sampling.proofs.Checks.{passes-both, ramp-fine}
+use Rattle.linearize.proofs.Checks.{sample-fine}
 use Rattle.refresh.proofs.Edits.{edited-fine}
 
 refused : {n : ℕ} → checked.Refused n ≡ checked.Fine → ⊥
@@ -81,19 +85,6 @@ no-gimp Basis h = refl
 no-gimp CatmullRom h = refl
 no-gimp Gimp h = sym h
 
-neither : (a b c : Bool) → cond (a || b) (checked.Refused farDomain) (cond c checked.Fine (checked.Refused badRecord)) ≡ checked.Fine → (a ≡ false) × (b ≡ false)
-neither true b c h = absurd (refused h)
-neither false true c h = absurd (refused h)
-neither false false c h = (refl, refl)
-
-shape-domain : (lo hi : Float) (n m : ℕ) → shapeCheck lo hi n m ≡ checked.Fine → (beyondOf lo ≡ false) × (beyondOf hi ≡ false)
-unfolding shapeCheck
-shape-domain lo hi n m h = neither (beyondOf lo) (beyondOf hi) (eqb n 4608 && eqb m 36) h
-
-ends : (ramp : Ramp) → isGimp (ramp .kind) ≡ false → (minOf ramp ≡ posAt (ramp .positions) 0) × (maxOf ramp ≡ posAt (ramp .positions) (length (ramp .positions) - 1))
-unfolding minIn maxIn
-ends ramp h = (rw h, rw h)
-
 -- an edit whose ramp and colour are fine
 pub record Allowed (ramp : Ramp) (e : Edit) : Type 0 where
   pub ramp-passes : checkOf ramp ≡ checked.Fine
@@ -146,20 +137,6 @@ module _ (ramp : Ramp) (e : Edit) (was : Held) (h : refreshCheck ramp e was ≡ 
   pub allowed : Allowed ramp e
   allowed = edit-allowed ramp e (ramp-fine ramp (length (was .rows)) (length (was .counts)) sampled) (both .1)
 
-  shaped : shapeCheck (minOf ramp) (maxOf ramp) (length (was .rows)) (length (was .counts)) ≡ checked.Fine
-  unfolding sampleCheck
-  shaped = passes-both (checkOf ramp) (shapeCheck (minOf ramp) (maxOf ramp) (length (was .rows)) (length (was .counts))) sampled .1
-
-  pub domain : Domain (minOf ramp) (maxOf ramp)
-  domain =
-      let v = allowed-valid ramp e allowed in
-      let n = v .sized .least in
-      let d = ends ramp (allowed .stops) in
-      let b = shape-domain (minOf ramp) (maxOf ramp) (length (was .rows)) (length (was .counts)) shaped in
-      rw (d .0, d .1) (record {
-        first = v .finite-at 0 (omega arith);
-        last = v .finite-at (length (ramp .positions) - 1) (omega arith);
-        low = rw (d .0) at (b .0);
-        high = rw (d .1) at (b .1);
-        rising = v .rising 0 (length (ramp .positions) - 1) (omega arith) (omega arith);
-      })
+  -- the cells that the code keeps are those that are clear
+  pub kept : (i : ℕ) → i < cells → keptBy (keptCells (ramp .kind) (ramp .positions) (e .stop)) i ≡ clearCell ramp e i
+  kept i l = checked-kept ramp (e .stop) (length (was .rows)) (length (was .counts)) sampled (allowed .there) i l

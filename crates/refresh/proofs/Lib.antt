@@ -1,11 +1,10 @@
 pub mod Agree
-pub mod Sides
-pub mod Words
-pub mod Outer
-pub mod Renewing
+pub mod Keeping
 pub mod Edits
+pub mod Outside
 pub mod EditChecks
 pub mod Theorem
 pub mod Changes
 pub mod RefreshAnswers
+pub mod ThenThinned
 pub mod Calls

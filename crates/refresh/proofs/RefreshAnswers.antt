@@ -1,92 +1,127 @@
 -- The answers of a refresh, from what the functions within promise. Assumes nothing.
-use mathlib.Core.Path.{_≡_, refl, sym, ap, _∙_, subst}
-use mathlib.Core.Bool.{Bool}
+use mathlib.Core.Path.{_≡_, refl, ap₂, _∙_}
+use mathlib.Core.Bool.{Bool, true, false}
 use mathlib.Core.List.{List}
-use Prim.Native.Nat.{ℕ, zero, suc, _+_, _*_, _≤_}
+use Prim.Native.Nat.{ℕ, zero, suc, _+_, _≤_}
 use native.Mathlib.Omega.{arith}
-use lib.ListN.{length}
+use borrow.Author.Tests.{le-leb}
+use lib.ListN.{length, getD}
 use lib.Ieee.{Float}
 use Rattle.stops.specs.Lent.{Ramp, Change, change}
-use Rattle.stops.specs.Answers.{numberOfChecked, onFine}
+use Rattle.stops.specs.Answers.{onFine}
 use Rattle.stops.specs.declared.Checked.{Checked}
 use Rattle.stops.specs.declared.Checked.the-variants as checked
-use Rattle.gradient.specs.Ramp.{minOf, maxOf, colourOf, anyColour}
-use Rattle.gradient.proofs.Same.{same-function}
-use Rattle.linearize.specs.Constants.{cells}
-use Rattle.linearize.specs.Midpoints.{Gradient, Far}
+use Rattle.gradient.specs.Ramp.{minOf, maxOf, colourOf}
+use Rattle.sampling.specs.Constants.{cells, rowLength}
+use Rattle.sampling.specs.Lent.{Held, heldOf}
+use Rattle.sampling.specs.Sampling.{farOf, heldCheck}
+use Rattle.sampling.specs.declared.Sampled.{Sampled}
+use Rattle.sampling.proofs.Bounds.{summed-most}
 use Rattle.linearize.specs.Places.{listOf}
-use Rattle.linearize.specs.Kept.{keptOf, refusalOf, listEvaluations}
-use Rattle.linearize.specs.Lent.{Held, Output, heldOf}
-use Rattle.linearize.specs.Desk.{evaluationsOfListed, valueBy, farOf, withSampling, thinCheck, pointsIn, room, thinOutput}
-use Rattle.linearize.specs.Promises.{Ready, Thins}
+use Rattle.thinning.specs.Kept.{refusalOf, listEvaluations}
+use Rattle.linearize.specs.Lent.{Output}
+use Rattle.linearize.specs.Desk.{evaluationsOfListed, valueBy, countsCheck, thinCheck, pointsIn, room}
+use Rattle.linearize.specs.Inner.{Ready}
 use Rattle.linearize.specs.declared.Listed.{Listed}
 use Rattle.linearize.specs.declared.Listed.the-variants as listed
-use Rattle.linearize.proofs.Checks.{ready, ready-counts}
-use Rattle.linearize.proofs.Answers.{tells, added}
-use Rattle.linearize.proofs.Bounds.{summed-most, list-bound}
+use Rattle.sampling.proofs.Checks.{passes-both}
+use Rattle.linearize.proofs.Checks.{ready}
+use Rattle.linearize.proofs.Answers.{tells}
+use Rattle.linearize.proofs.Bounds.{list-bound}
 use Rattle.linearize.proofs.Following.{list-some, list-most}
-use Rattle.refresh.specs.Stretch.{reachOf, outsideOf}
+use Rattle.reach.specs.KeptCells.{keptCells}
 use Rattle.refresh.specs.Edit.{edited}
-use Rattle.refresh.specs.Anew.{Domain, anewTries, anewEvaluations, RecordAnew}
-use Rattle.refresh.specs.RefreshDesk.{numberOfRefreshed, evaluationsOfRefreshed, away, renewed, newEvaluations, refreshCheck, refreshAnswer, refreshEvaluations, refreshHeld, refreshOutput, Refreshes, RefreshLists}
+use Rattle.linearize.specs.Relist.{countFits, countsFit, relistCheck, relistHeld, relistOutput, Relists}
+use Rattle.sampling.specs.Anew.{keptBy, anewTries, anewEvaluations, resampled, resampledEvaluations, resampleAnswer, resampleHeld}
+use Rattle.sampling.specs.Promises.{Resamples}
+use Rattle.refresh.specs.Within.{refreshedBy}
+use Rattle.refresh.specs.RefreshDesk.{evaluationsOfRefreshed, clearCell, renewed, newEvaluations, refreshCheck, refreshAnswer, refreshEvaluations, refreshHeld, refreshOutput, Refreshes, RefreshLists}
 use Rattle.refresh.specs.declared.edit.Edit.{Edit}
 use Rattle.refresh.specs.declared.Refreshed.{Refreshed}
 use Rattle.refresh.specs.declared.Refreshed.the-variants as refreshed
-use Rattle.refresh.proofs.EditChecks.{thin-fine, sampled, allowed, edited-passes, edited-sampling, domain}
-use Rattle.refresh.proofs.Renewing.{anew-tries-most, renewed-ready}
+use Rattle.refresh.proofs.EditChecks.{thin-fine, sampled, allowed, edited-sampling, kept}
+use Rattle.sampling.proofs.Renewing.{anew-tries-most}
+use Rattle.refresh.proofs.Keeping.{renewed-ready, same-rows, same-counts, same-evaluations}
 
--- ---- at most 127 tries in each cell
-pub anew-bound : (g : Gradient) (far : Far) (out : Float → Bool) (lo hi : Float) (rows rows′ : List Float) (counts counts′ : List ℕ) (n : ℕ) → RecordAnew g far out lo hi rows rows′ counts counts′ n → n ≤ 4572
-anew-bound g far out lo hi rows rows′ counts counts′ n w = omega (arith, w .tried, summed-most (anewTries g far out lo hi) cells (anew-tries-most g far out lo hi))
+-- a count from 1 to 128 fits, kept or not
+fits : (k : Bool) (n : ℕ) → 1 ≤ n → n ≤ rowLength → countFits k n ≡ true
+unfolding countFits
+fits true n h l = rw (le-leb 1 n h, le-leb n rowLength l)
+fits false n h l = refl
+
+-- ---- sampled anew, with the kept cells left, is renewed
+module _ (ramp : Ramp) (e : Edit) (was : Held) (fine : refreshCheck ramp e was ≡ checked.Fine) where
+  -- the cells that are left, and the changed ramp in the copy
+  abbrev kept-cells : List Bool
+  kept-cells = keptCells (ramp .kind) (ramp .positions) (e .stop)
+
+  pub edited-held : heldCheck (edited ramp e) was ≡ checked.Fine
+  edited-held = edited-sampling ramp e (allowed ramp e was fine) (length (was .rows)) (length (was .counts)) (sampled ramp e was fine)
+
+  -- so does the check of a list for which the kept cells are left: their counts are among those that were checked
+  counts-fit : (keep : ℕ → Bool) (i n : ℕ) → i + n ≤ cells → countsFit keep (was .counts) i n ≡ true
+  unfolding countsFit
+  counts-fit keep i zero h = refl
+  counts-fit keep i (suc n) h =
+      let r = ready ramp was (thin-fine ramp e was fine) in
+      rw (fits (keep i) (getD (was .counts) i 0) (r .some i (omega arith)) (r .most i (omega arith))) (counts-fit keep (i + 1) n (omega arith))
+
+  relist-fine : (asked : Float) → relistCheck (edited ramp e) asked kept-cells was ≡ checked.Fine
+  unfolding relistCheck
+  relist-fine asked = rw (edited-held, counts-fit (keptBy kept-cells) 0 cells (omega arith))
+
+  module _ (asked : Float) where
+    resampled-is : resampled (edited ramp e) asked kept-cells was ≡ renewed ramp e asked was
+    unfolding resampled renewed
+    resampled-is =
+        let same = kept ramp e was fine in
+        ap₂ heldOf (same-rows _ _ _ _ _ _ same (was .rows)) (same-counts _ _ _ _ _ _ same (was .counts))
+
+    spent-is : resampledEvaluations (edited ramp e) asked kept-cells ≡ newEvaluations ramp e asked
+    unfolding resampledEvaluations newEvaluations
+    spent-is = same-evaluations _ _ _ _ _ _ (kept ramp e was fine)
 
 -- ---- the answers
--- a record refreshed by the ramp that a colour is read from, with such a threshold and domain
-abbrev pub Anew : Gradient → Far → Ramp → Edit → Float → Float → Change Held → ℕ → Type 0
-Anew g far ramp e lo hi held n =
-    RecordAnew g far (outsideOf (reachOf (ramp .kind)) (ramp .positions) (e .stop)) lo hi (held .entry .rows) (held .exit .rows) (held .entry .counts) (held .exit .counts) n
-
 module _ (ramp : Ramp) (e : Edit) (asked : Float) where
   pub refresh-refused : (was : Held) (n : ℕ) → refreshCheck ramp e was ≡ checked.Refused n → Refreshes ramp e asked (change was was) (refreshed.Refused n)
   unfolding refreshAnswer refreshEvaluations refreshHeld
   refresh-refused was n h = record { answer = rw h; number = rw h; evaluations = rw h; left = rw h }
 
-  module _ (held : Change Held) (h : refreshCheck ramp e (held .entry) ≡ checked.Fine) where
-    pub domain-of : (lo hi : Float) → lo ≡ minOf ramp → hi ≡ maxOf ramp → Domain lo hi
-    domain-of lo hi p q = rw (p, q) (domain ramp e (held .entry) h)
+  pub refresh-list-refused : (was : Held) (out : Output) (n : ℕ) → refreshCheck ramp e was ≡ checked.Refused n
+      → RefreshLists ramp e asked (change was was) (change out out) (listed.Refused n)
+  unfolding refreshHeld refreshOutput
+  refresh-list-refused was out n h = record { told = tells _ _ _ _ _ (rw h); left = rw h; output = rw h }
 
-    -- the colour found by halving in the copy is the changed ramp's; a record refreshed with the values in hand is the definition's
-    pub anew-of : (copy : Ramp) (far : Far) (lo hi : Float) (n : ℕ) → copy ≡ edited ramp e → far ≡ farOf asked → lo ≡ minOf ramp → hi ≡ maxOf ramp
-        → Anew (anyColour copy) far ramp e lo hi held n → Anew (colourOf (edited ramp e)) (farOf asked) ramp e (minOf ramp) (maxOf ramp) held n
-    anew-of copy far lo hi n c p q r w =
-        let s : anyColour copy ≡ colourOf (edited ramp e) = ap anyColour c ∙ same-function (edited ramp e) (edited-passes ramp e (allowed ramp e (held .entry) h)) in
-        rw (← p, ← q, ← r, ← s) w
+  -- the changed ramp in a copy, and the kept cells
+  module _ (held : Change Held) (h : refreshCheck ramp e (held .entry) ≡ checked.Fine) (copy : Ramp) (ks : List Bool) (is-edited : copy ≡ edited ramp e) (are-kept : ks ≡ keptCells (ramp .kind) (ramp .positions) (e .stop)) where
+    pub refresh-done : (s : Sampled) (r : Refreshed) → Resamples copy asked ks held s → r ≡ refreshedBy s → Refreshes ramp e asked held r
+    unfolding resampleAnswer resampleHeld refreshAnswer refreshEvaluations refreshHeld
+    refresh-done s r v by =
+        let was = held .entry in
+        let w : Resamples (edited ramp e) asked (keptCells (ramp .kind) (ramp .positions) (e .stop)) held s = rw (← is-edited, ← are-kept) v in
+        let fine = edited-held ramp e was h in
+        let done : r ≡ refreshed.Done (newEvaluations ramp e asked) = by ∙ rw (w .answer, fine, spent-is ramp e was h asked) in
+        record { answer = done ∙ rw h; number = rw (done, h); evaluations = rw (done, h); left = w .left ∙ rw (fine, h, resampled-is ramp e was h asked) }
 
-    pub renewed-is : (n : ℕ) → Anew (colourOf (edited ramp e)) (farOf asked) ramp e (minOf ramp) (maxOf ramp) held n → held .exit ≡ renewed ramp e asked (held .entry)
-    unfolding renewed
-    renewed-is n d = ap (λ (l : List Float). heldOf l (held .exit .counts)) (d .written) ∙ ap (heldOf _) (d .counted)
+    pub refresh-list-done : (out : Change Output) (r : Listed) → Relists copy asked ks held out r → RefreshLists ramp e asked held out r
+    unfolding relistHeld relistOutput refreshHeld refreshOutput
+    refresh-list-done out r v =
+        let was = held .entry in
+        let w : Relists (edited ramp e) asked (keptCells (ramp .kind) (ramp .positions) (e .stop)) held out r = rw (← is-edited, ← are-kept) v in
+        let fine = relist-fine ramp e was h asked in
+        let is = resampled-is ramp e was h asked in
+        record {
+          told = tells _ _ _ _ _ (w .told .answer ∙ rw (fine, h, is, spent-is ramp e was h asked));
+          left = w .left ∙ rw (fine, h, is);
+          output = w .output ∙ rw (fine, h, is);
+        }
 
-    pub refresh-done : (copy : Ramp) (far : Far) (lo hi : Float) (n : ℕ) → copy ≡ edited ramp e → far ≡ farOf asked → lo ≡ minOf ramp → hi ≡ maxOf ramp
-        → Anew (anyColour copy) far ramp e lo hi held n → Refreshes ramp e asked held (refreshed.Done (3 * n))
-    unfolding refreshAnswer refreshEvaluations refreshHeld newEvaluations anewEvaluations
-    refresh-done copy far lo hi n c p q r w =
-        let d = anew-of copy far lo hi n c p q r w in
-        record { answer = rw (h, d .tried); number = rw h; evaluations = rw (h, d .tried); left = renewed-is n d ∙ rw h }
-
--- a refresh tells 13,716 evaluations at most
+-- ---- a refresh tells 13,716 evaluations at most
 pub new-most : (ramp : Ramp) (e : Edit) (asked : Float) → newEvaluations ramp e asked ≤ 13716
 unfolding newEvaluations anewEvaluations
 new-most ramp e asked =
     let g = colourOf (edited ramp e) in
-    omega (arith, summed-most (anewTries g (farOf asked) (away ramp e) (minOf ramp) (maxOf ramp)) cells (anew-tries-most g (farOf asked) (away ramp e) (minOf ramp) (maxOf ramp)))
-
--- ---- what a refresh told
-fine-of : (check : Checked) (m n : ℕ) → onFine check (refreshed.Done m) refreshed.Refused ≡ refreshed.Done n → check ≡ checked.Fine
-fine-of checked.Fine m n h = refl
-fine-of (checked.Refused k) m n h = absurd (let z : _≡_ {A = ℕ} 0 1 = cc in omega arith)
-
-refusal-of : (check : Checked) (m n : ℕ) → onFine check (refreshed.Done m) refreshed.Refused ≡ refreshed.Refused n → n ≡ numberOfChecked check → check ≡ checked.Refused n
-refusal-of checked.Fine m n h e = absurd (let z : _≡_ {A = ℕ} 0 1 = cc in omega arith)
-refusal-of (checked.Refused k) m n h e = ap checked.Refused (sym e)
+    omega (arith, summed-most (anewTries g (farOf asked) (clearCell ramp e) (minOf ramp) (maxOf ramp)) cells (anew-tries-most g (farOf asked) (clearCell ramp e) (minOf ramp) (maxOf ramp)))
 
 fine-most : (check : Checked) (n most : ℕ) → n ≤ most → onFine check n (λ k. 0) ≤ most
 fine-most checked.Fine n most h = h
@@ -97,51 +132,6 @@ module _ (ramp : Ramp) (e : Edit) (asked : Float) (held : Change Held) (r : Refr
   pub refresh-most : evaluationsOfRefreshed r ≤ 13716
   unfolding refreshEvaluations
   refresh-most = omega (arith, w .evaluations, fine-most (refreshCheck ramp e (held .entry)) (newEvaluations ramp e asked) 13716 (new-most ramp e asked))
-
-  module _ (n : ℕ) (done : r ≡ refreshed.Done n) where
-    pub done-fine : refreshCheck ramp e (held .entry) ≡ checked.Fine
-    unfolding refreshAnswer
-    done-fine = fine-of (refreshCheck ramp e (held .entry)) (newEvaluations ramp e asked) n (sym (w .answer) ∙ done)
-
-    is-new : (held .exit ≡ renewed ramp e asked (held .entry)) × (n ≡ newEvaluations ramp e asked)
-    unfolding refreshHeld refreshEvaluations
-    is-new = (w .left ∙ rw done-fine, sym (ap evaluationsOfRefreshed done) ∙ w .evaluations ∙ rw done-fine)
-
-    -- the refreshed record may be thinned, with the changed ramp
-    pub thins : thinCheck (edited ramp e) (held .exit) ≡ checked.Fine
-    unfolding thinCheck renewed
-    thins =
-        let was = held .entry in
-        let before = ready ramp was (thin-fine ramp e was done-fine) in
-        let after = renewed-ready (colourOf (edited ramp e)) (farOf asked) (away ramp e) (minOf ramp) (maxOf ramp) (was .rows) (was .counts) before (held .exit .rows) (held .exit .counts) _
-        (record { tried = refl; written = ap (λ (h : Held). h .rows) (is-new .0); counted = ap (λ (h : Held). h .counts) (is-new .0) }) in
-        let d = allowed ramp e was done-fine in
-        rw (after .long ∙ sym (before .long), after .many ∙ sym (before .many), edited-sampling ramp e d (length (was .rows)) (length (was .counts)) (sampled ramp e was done-fine))
-        (ready-counts (held .exit .rows) (held .exit .counts) after)
-
-  -- ---- the list of the refreshed record
-  pub refresh-list-refused : (out : Output) (n : ℕ) → r ≡ refreshed.Refused n → RefreshLists ramp e asked held (change out out) (listed.Refused n)
-  unfolding refreshAnswer refreshOutput
-  refresh-list-refused out n d =
-      let h = refusal-of (refreshCheck ramp e (held .entry)) (newEvaluations ramp e asked) n (sym (w .answer) ∙ d) (sym (ap numberOfRefreshed d) ∙ w .number) in
-      record { told = tells _ _ _ _ _ (rw h); left = w .left; output = rw h }
-
-  pub refresh-list-done : (n : ℕ) → r ≡ refreshed.Done n → (copy : Ramp) (out : Change Output) (made all : Listed) → copy ≡ edited ramp e
-      → Thins copy asked (held .exit) out made → all ≡ withSampling n made → RefreshLists ramp e asked held out all
-  unfolding refreshOutput thinOutput
-  refresh-list-done n done copy out made all c v f =
-      let h = done-fine n done in
-      let p = thins n done in
-      let s = is-new n done in
-      let t = subst (λ (x : Ramp). Thins x asked (held .exit) out made) c v in
-      let g = colourOf (edited ramp e) in
-      let ts = pointsIn (edited ramp e) (renewed ramp e asked (held .entry)) in
-      record {
-        told = tells _ _ _ _ _ (f ∙ rw (t .told .answer, p, h, s .1, s .0) (added (newEvaluations ramp e asked)
-            (refusalOf g (farOf asked) (room (out .entry)) ts) (length (keptOf g (farOf asked) ts)) (listEvaluations g (farOf asked) ts)));
-        left = w .left;
-        output = t .output ∙ rw (p, h, s .0);
-      }
 
 -- ---- 13,716 + 18,430 evaluations at most for a refresh and its list
 value-most : (check : Checked) (k n most : ℕ) → (check ≡ checked.Fine → n ≤ most) → valueBy check k n ≤ most
@@ -154,8 +144,7 @@ module _ (ramp : Ramp) (e : Edit) (asked : Float) (was : Held) where
   pub renewed-thins : refreshCheck ramp e was ≡ checked.Fine → Ready (renewed ramp e asked was .rows) (renewed ramp e asked was .counts)
   unfolding renewed
   renewed-thins h =
-      renewed-ready (colourOf (edited ramp e)) (farOf asked) (away ramp e) (minOf ramp) (maxOf ramp) (was .rows) (was .counts) (ready ramp was (thin-fine ramp e was h)) _ _ _
-      (record { tried = refl; written = refl; counted = refl })
+      renewed-ready (colourOf (edited ramp e)) (farOf asked) (clearCell ramp e) (minOf ramp) (maxOf ramp) (was .rows) (was .counts) (ready ramp was (thin-fine ramp e was h))
 
   pub relist-most : refreshCheck ramp e was ≡ checked.Fine
       → newEvaluations ramp e asked + listEvaluations (colourOf (edited ramp e)) (farOf asked) (pointsIn (edited ramp e) (renewed ramp e asked was)) ≤ 32146

@@ -8,17 +8,19 @@ use lib.Ieee.{Float}
 use Rattle.stops.specs.Lent.{Ramp}
 use Rattle.stops.specs.declared.Checked.the-variants as checked
 use Rattle.gradient.specs.Ramp.{minOf, maxOf, colourOf}
-use Rattle.linearize.specs.Cells.{cellRow, cellCount}
-use Rattle.linearize.specs.Lent.{Held, heldOf}
-use Rattle.linearize.specs.Desk.{farOf, heldCheck, thinCheck, fresh}
-use Rattle.linearize.proofs.Checks.{record-lengths, ready-counts}
-use Rattle.linearize.proofs.Answers.{fresh-ready}
-use Rattle.refresh.specs.Stretch.{cellClear}
+use Rattle.sampling.specs.Cells.{cellRow, cellCount}
+use Rattle.sampling.specs.Lent.{Held, heldOf}
+use Rattle.sampling.specs.Sampling.{farOf, heldCheck, fresh}
+use Rattle.linearize.specs.Desk.{thinCheck}
+use Rattle.sampling.proofs.Checks.{record-lengths}
+use Rattle.linearize.proofs.Checks.{ready-counts}
+use Rattle.linearize.proofs.Records.{fresh-ready}
+use Rattle.reach.specs.Stretch.{cellClear}
 use Rattle.refresh.specs.Edit.{edited}
 use Rattle.refresh.specs.RefreshDesk.{editCheck, refreshCheck, away, renewed}
 use Rattle.refresh.specs.declared.edit.Edit.{Edit}
 use Rattle.refresh.proofs.Agree.{same-row, same-count, refreshed-rows, refreshed-counts}
-use Rattle.refresh.proofs.Edits.{outside-same}
+use Rattle.refresh.proofs.Outside.{outside-same}
 use Rattle.refresh.proofs.EditChecks.{Allowed, allowed-valid}
 
 module _ (ramp : Ramp) (e : Edit) (ok : Allowed ramp e) (asked : Float) where

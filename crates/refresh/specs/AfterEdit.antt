@@ -5,12 +5,14 @@ use Prim.Native.Nat.{ℕ, _*_}
 use lib.ListN.{take, drop, getD}
 use lib.Ieee.{Float}
 use Rattle.stops.specs.Lent.{Ramp, Change, change}
-use Rattle.linearize.specs.Constants.{rowLength}
-use Rattle.linearize.specs.Lent.{Held, Output}
-use Rattle.linearize.specs.Desk.{numberOfListed, stopsOfListed, withSampling, freshEvaluations}
+use Rattle.sampling.specs.Constants.{rowLength}
+use Rattle.sampling.specs.Lent.{Held}
+use Rattle.linearize.specs.Lent.{Output}
+use Rattle.linearize.specs.Desk.{numberOfListed, stopsOfListed, withSampling}
+use Rattle.sampling.specs.Sampling.{freshEvaluations}
 use Rattle.linearize.specs.Promises.{Thins}
-use Rattle.linearize.specs.declared.Sampled.{Sampled}
-use Rattle.linearize.specs.declared.Sampled.the-variants as sampled
+use Rattle.sampling.specs.declared.Sampled.{Sampled}
+use Rattle.sampling.specs.declared.Sampled.the-variants as sampled
 use Rattle.linearize.specs.declared.Listed.{Listed}
 use Rattle.linearize.specs.declared.Listed.the-variants as listed
 use Rattle.refresh.specs.Edit.{edited}

@@ -5,7 +5,7 @@ use lib.Seq.{sets}
 use lib.Ieee.{Float}
 use Rattle.blend.specs.declared.Rgba.{Rgba}
 use Rattle.stops.specs.Lent.{Ramp, rampOf}
-use Rattle.linearize.specs.Kept.{channelsOf}
+use Rattle.blend.specs.Channels.{channelsOf}
 use Rattle.refresh.specs.declared.edit.Edit.{Edit}
 
 unfoldable pub changed : List Float → ℕ → Rgba → List Float

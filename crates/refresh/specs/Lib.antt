@@ -1,5 +1,4 @@
-pub mod Stretch
-pub mod Anew
 pub mod Edit
 pub mod RefreshDesk
 pub mod AfterEdit
+pub mod Within

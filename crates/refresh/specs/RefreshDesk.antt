@@ -14,13 +14,15 @@ use Rattle.stops.specs.declared.Kind.the-variants.{Linear, Smoothstep, Sharp, B
 use Rattle.stops.specs.declared.Checked.{Checked}
 use Rattle.stops.specs.declared.Checked.the-variants as checked
 use Rattle.gradient.specs.Ramp.{minOf, maxOf, colourOf}
-use Rattle.linearize.specs.Kept.{listEvaluations}
-use Rattle.linearize.specs.Lent.{Held, Output, heldOf}
-use Rattle.linearize.specs.Desk.{andThen, farOf, thinCheck, pointsIn, written}
+use Rattle.thinning.specs.Kept.{listEvaluations}
+use Rattle.sampling.specs.Lent.{Held, heldOf}
+use Rattle.linearize.specs.Lent.{Output}
+use Rattle.sampling.specs.Sampling.{andThen, farOf}
+use Rattle.linearize.specs.Desk.{thinCheck, pointsIn, written}
 use Rattle.linearize.specs.Promises.{TellsOf}
 use Rattle.linearize.specs.declared.Listed.{Listed}
-use Rattle.refresh.specs.Stretch.{reachOf, outsideOf}
-use Rattle.refresh.specs.Anew.{anewRows, anewCounts, anewEvaluations}
+use Rattle.reach.specs.Stretch.{reachOf, outsideOf, cellClear}
+use Rattle.sampling.specs.Anew.{anewRows, anewCounts, anewEvaluations}
 use Rattle.refresh.specs.Edit.{edited}
 use Rattle.refresh.specs.declared.edit.Edit.{Edit}
 use Rattle.refresh.specs.declared.Refreshed.{Refreshed}
@@ -60,15 +62,19 @@ module _ (ramp : Ramp) (e : Edit) where
   abbrev pub away : Float → Bool
   away = outsideOf (reachOf (ramp .kind)) (ramp .positions) (e .stop)
 
+  -- the cells that lie outside it
+  abbrev pub clearCell : ℕ → Bool
+  clearCell = cellClear away (minOf ramp) (maxOf ramp)
+
   module _ (asked : Float) where
     -- the record once the edit is made, and the evaluations
     unfoldable pub renewed : Held → Held
     renewed was =
-        heldOf (anewRows (colourOf (edited ramp e)) (farOf asked) away (minOf ramp) (maxOf ramp) (was .rows))
-        (anewCounts (colourOf (edited ramp e)) (farOf asked) away (minOf ramp) (maxOf ramp) (was .counts))
+        heldOf (anewRows (colourOf (edited ramp e)) (farOf asked) clearCell (minOf ramp) (maxOf ramp) (was .rows))
+        (anewCounts (colourOf (edited ramp e)) (farOf asked) clearCell (minOf ramp) (maxOf ramp) (was .counts))
 
     unfoldable pub newEvaluations : ℕ
-    newEvaluations = anewEvaluations (colourOf (edited ramp e)) (farOf asked) away (minOf ramp) (maxOf ramp)
+    newEvaluations = anewEvaluations (colourOf (edited ramp e)) (farOf asked) clearCell (minOf ramp) (maxOf ramp)
 
     -- ---- the calls
     module _ (was : Held) where

@@ -1,9 +1,9 @@
 // An edit: what it is, whether it may be made, and the ramp with it made.
 use blend::Rgba;
-use linearize::thinning::put_colour;
 use refusals::BAD_EDIT;
 use stops::Checked;
 use stops::Kind;
+use stops::channels::put_colour;
 ghost use mathlib.Core.Path.{_≡_};
 ghost use Prim.Native.Nat.{_+_, _*_, _≤_};
 ghost use lib.ListN.{length, take};

@@ -1,25 +1,25 @@
 // Refreshing a record after the colour of one stop changed: a cell clear of the change keeps what it holds,
 // any other is sampled anew.
-use crate::cells::refresh_cells;
 use crate::edit::Edit;
 use crate::edit::change;
 use crate::edit::check_edit;
 use linearize::Listed;
+use linearize::Sampled;
 use linearize::check_thin;
-use linearize::difference::cutoff_of;
+use linearize::relist;
+use reach::kept_cells;
 use refusals::MOST_STOPS;
+use sampling::resample;
 use stops::Checked;
 use stops::Kind;
 ghost use mathlib.Core.Path.{_≡_};
-ghost use Prim.Native.Nat.{_≤_};
 ghost use Rattle.stops.specs.Lent.{lentRamp};
-ghost use Rattle.linearize.specs.Lent.{lentHeld, lentOutput};
-ghost use Rattle.linearize.specs.Desk.{evaluationsOfListed, withSampling};
+ghost use Rattle.sampling.specs.Lent.{lentHeld};
+ghost use Rattle.linearize.specs.Lent.{lentOutput};
 ghost use Rattle.refresh.specs.RefreshDesk.{refreshCheck, Refreshes, RefreshLists};
+ghost use Rattle.refresh.specs.Within.{refreshedBy};
 
-mod cells;
 pub mod edit;
-mod stretch;
 
 // What a refresh answers: the evaluations, or the number of the refusal.
 pub enum Refreshed {
@@ -45,6 +45,16 @@ fn check_refresh(
     }
 }
 
+// The answer of a refresh, by that of sampling the cells that are not kept.
+fn refreshed_by(made: Sampled) -> Refreshed
+    ensures { λ r. ⌜ r ≡ refreshedBy made ⌝ }
+{
+    match made {
+        Sampled::Done(n) => Refreshed::Done(n),
+        Sampled::Refused(n) => Refreshed::Refused(n),
+    }
+}
+
 // Refreshes the lent record after an edit of the lent ramp; the ramp itself is not written. A
 // refusal leaves the record as it was.
 pub fn refresh(
@@ -62,43 +72,21 @@ pub fn refresh(
     match check_refresh(kind, positions, channels, codes, edit, rows, counts) {
         Checked::Refused(n) => Refreshed::Refused(n),
         Checked::Fine => {
-            let cutoff = cutoff_of(threshold);
-            let min = gradient::min_of(kind, positions);
-            let max = gradient::max_of(kind, positions);
             let mut copy = [0.0f32; 4 * MOST_STOPS];
             change(channels, edit.stop, edit.colour, &mut copy);
             let m = channels.len();
-            let n = refresh_cells(
+            let keep = kept_cells(kind, positions, edit.stop);
+            let made = resample(
                 kind,
                 positions,
                 &copy[..m],
                 codes,
-                cutoff,
-                min,
-                max,
-                edit.stop,
+                threshold,
+                keep,
                 rows,
                 counts,
             );
-            let evaluations = 3 * n;
-            Refreshed::Done(evaluations)
-        }
-    }
-}
-
-// The answer of a list with the evaluations of the refresh before it added.
-fn with_refresh(n: usize, made: Listed) -> Listed
-    requires { ⌜ (n ≤ 13716) × (evaluationsOfListed made ≤ 18430) ⌝ }
-    ensures { λ r. ⌜ r ≡ withSampling n made ⌝ }
-{
-    match made {
-        Listed::Refused(k) => Listed::Refused(k),
-        Listed::Done { stops, evaluations } => {
-            let all = n + evaluations;
-            Listed::Done {
-                stops,
-                evaluations: all,
-            }
+            refreshed_by(made)
         }
     }
 }
@@ -119,33 +107,24 @@ pub fn refresh_list(
 ) -> Listed
     ensures { λ r. ⌜ RefreshLists (lentRamp kind positions channels codes) edit threshold (lentHeld rows counts) (lentOutput «out_positions» «out_channels») r ⌝ }
 {
-    match refresh(
-        kind,
-        positions,
-        channels,
-        codes,
-        edit,
-        threshold,
-        rows,
-        counts,
-    ) {
-        Refreshed::Refused(n) => Listed::Refused(n),
-        Refreshed::Done(n) => {
+    match check_refresh(kind, positions, channels, codes, edit, rows, counts) {
+        Checked::Refused(n) => Listed::Refused(n),
+        Checked::Fine => {
             let mut copy = [0.0f32; 4 * MOST_STOPS];
             change(channels, edit.stop, edit.colour, &mut copy);
             let m = channels.len();
-            let made = linearize::thin(
+            relist(
                 kind,
                 positions,
                 &copy[..m],
                 codes,
                 threshold,
+                kept_cells(kind, positions, edit.stop),
                 rows,
                 counts,
                 out_positions,
                 out_channels,
-            );
-            with_refresh(n, made)
+            )
         }
     }
 }

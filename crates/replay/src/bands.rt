@@ -1,8 +1,7 @@
 // Stored sharp ramps: colours, a domain and a softness; the refusal, or 0 and the stops built.
 use crate::Tally;
 use crate::words;
-use gradient::sharp;
-use gradient::sharp::Built;
+use sharp_ramp::Built;
 
 // One more than a sharp ramp may have, so that the refusal of it is stored too.
 const MOST_COLOURS: usize = 4 * 257;
@@ -33,7 +32,7 @@ fn answers(colours: &[f32], before: Tally) -> Tally {
     let min = words::float();
     let max = words::float();
     let softness = words::float();
-    let built = sharp::build(colours, min, max, softness, &mut positions, &mut channels);
+    let built = sharp_ramp::build(colours, min, max, softness, &mut positions, &mut channels);
     let answered = before.with(is_answer(built));
     let p = words::word();
     let placed = answered.with(words::are_words(&positions, p));

@@ -1,5 +1,6 @@
 -- Texts spelt in one line, and texts put into a buffer. These are of the programs of the gate alone; document 01 says nothing of them.
 use Prim.Native.Nat.{ℕ, suc, _+_}
+use mathlib.Core.Path.{_≡_}
 use mathlib.Core.Bool.{cond}
 use mathlib.Core.List.{List, [], _∷_, _++_}
 use lib.ListN.{length, set}
@@ -17,6 +18,10 @@ putAll buf at (b ∷ s) = putAll (set buf at b) (nextIn (length buf) at) s
 unfoldable pub placeAfter : ℕ → ℕ → List ℕ → ℕ
 placeAfter size at [] = at
 placeAfter size at (b ∷ s) = placeAfter size (nextIn size at) s
+
+-- the promise of putting s into a buffer from `at` on: what the buffer then holds, and the place after s
+abbrev pub Appends : List ℕ → List ℕ → ℕ → List ℕ → ℕ → Type 0
+Appends before after at s r = (after ≡ putAll before at s) × (r ≡ placeAfter (length before) at s)
 
 -- the byte that a byte stands for
 unfoldable pub plainOf : ℕ → ℕ

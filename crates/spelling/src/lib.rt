@@ -2,7 +2,7 @@
 // _ for tab, ~ for byte 11, ! for byte 200 and @ for a byte-order mark.
 ghost use mathlib.Core.Path.{_≡_};
 ghost use lib.ListN.{length, take, set};
-ghost use Rattle.spelling.specs.Spelling.{nextIn, putAll, placeAfter, plainOf, meantBy, meant, hits};
+ghost use Rattle.spelling.specs.Spelling.{nextIn, Appends, plainOf, meantBy, meant, hits};
 
 // The first n bytes of s, or all that there are.
 pub fn front(s: &[u8], n: usize) -> &[u8]
@@ -41,7 +41,7 @@ fn put(buf: &mut [u8], at: usize, b: u8) -> usize
 
 // s put into buf from `at` on, as far as there is room; the place after it.
 pub fn append(buf: &mut [u8], at: usize, s: &[u8]) -> usize
-    ensures { λ r. ⌜ (now (buf .exit) ≡ putAll (now (buf .entry)) at (now (s .entry))) × (r ≡ placeAfter (length (now (buf .entry))) at (now (s .entry))) ⌝ }
+    ensures { λ r. ⌜ Appends (now (buf .entry)) (now (buf .exit)) at (now (s .entry)) r ⌝ }
 {
     let mut n = at;
     let mut i = 0;
@@ -75,7 +75,7 @@ fn plain(b: u8) -> u8
 
 // What a byte stands for, put into buf.
 fn put_plain(buf: &mut [u8], at: usize, b: u8) -> usize
-    ensures { λ r. ⌜ (now (buf .exit) ≡ putAll (now (buf .entry)) at (meantBy b)) × (r ≡ placeAfter (length (now (buf .entry))) at (meantBy b)) ⌝ }
+    ensures { λ r. ⌜ Appends (now (buf .entry)) (now (buf .exit)) at (meantBy b) r ⌝ }
 {
     if b == b'@' {
         return append(buf, at, b"\xef\xbb\xbf");
@@ -85,7 +85,7 @@ fn put_plain(buf: &mut [u8], at: usize, b: u8) -> usize
 
 // The text that s stands for, put into buf; its length.
 pub fn decode(buf: &mut [u8], s: &[u8]) -> usize
-    ensures { λ r. ⌜ (now (buf .exit) ≡ putAll (now (buf .entry)) 0 (meant (now (s .entry)))) × (r ≡ placeAfter (length (now (buf .entry))) 0 (meant (now (s .entry)))) ⌝ }
+    ensures { λ r. ⌜ Appends (now (buf .entry)) (now (buf .exit)) 0 (meant (now (s .entry))) r ⌝ }
 {
     let mut n = 0;
     let mut i = 0;

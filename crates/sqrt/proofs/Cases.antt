@@ -1,7 +1,7 @@
 -- `rootOf` of each kind of f32, by its pattern. Assumes nothing.
 use mathlib.Core.Path.{_≡_, refl, sym, ap, _∙_, subst}
 use Prim.Native.Nat.{ℕ, zero, suc, _+_, _-_, _*_, _/_, _%_, _^_, _≤_, _<_}
-use native.Mathlib.Nat.{lt-irrefl, mul-div-cancel, zero-mul, mul-one, mul-pos}
+use native.Mathlib.Nat.{lt-irrefl, zero-mul, mul-one, mul-pos}
 use native.Mathlib.Omega.{arith}
 use mathlib.Core.Bool.{Bool, true, false, not, cond, true≢false}
 use lib.Dec.{T, leb, eqb, le→leb, T-not}
@@ -11,16 +11,11 @@ use lib.Ieee.{Float, nan, inf, fin, up, down, binary32, odd, ofFields, ofBits, i
 use lib.Ieee.Bits.{is-true, nanBits-is, nanBits-above}
 use lib.Ieee.Exact.{HasValue, odd-sign}
 use lib.Ieee.Fits.{down-pos}
-use Rattle.sqrt.specs.Root.{count, nearestRoot, rootOf}
 use Rattle.float.proofs.Fields.{ofBits-is, normal, subnormal}
+use Rattle.float.proofs.Units.{count-of}
+use Rattle.sqrt.specs.Root.{nearestRoot, rootOf}
 
 -- ---- by the value
-
-pub count-of : (x : Float) (s : Bool) (a : ℕ) → HasValue x s a (2 ^ 149) → count x ≡ a
-unfolding count
-count-of nan s a h = absurd h
-count-of (inf t) s a h = absurd h
-count-of (fin t m e) s a h = ap (λ (n : ℕ). n / down e) (h .1) ∙ mul-div-cancel a (down-pos e)
 
 no-zero : (e : ℤ) (a : ℕ) → 0 < a → zero * up e * 2 ^ 149 ≡ a * down e → ⊥
 no-zero e a p h = lt-irrefl 0 (subst (λ (n : ℕ). 0 < n) (sym h ∙ ap (λ (n : ℕ). n * 2 ^ 149) (zero-mul (up e)) ∙ zero-mul (2 ^ 149)) (mul-pos p (down-pos e)))

@@ -1,11 +1,10 @@
-pub mod Whole
-pub mod Near
+pub mod Cut
 pub mod Values
 pub mod Shift
 pub mod Cases
 pub mod Nearest
 pub mod Order
-pub mod Patterns
+pub mod Above
 pub mod Threshold
 pub mod Theorems
 pub mod Prints

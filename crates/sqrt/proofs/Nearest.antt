@@ -1,91 +1,26 @@
 -- `rootOf x` is the f32 nearest to the root of x, for every finite x with the sign clear (`rootOf-is-root`): the significand has 24 digits, and no f32 lies between it and the next. Assumes nothing.
 use mathlib.Core.Path.{_≡_, refl, sym, ap, _∙_, subst}
-use Prim.Native.Nat.{ℕ, zero, suc, _+_, _-_, _*_, _/_, _%_, _^_, _≤_, _<_}
-use native.Mathlib.Nat.{le-trans, le-of-eq, le-of-lt, lt-of-lt-of-le, lt-of-le-of-lt, lt-of-not-le, not-le-of-lt, lt-irrefl, mul-assoc, mul-le-mul-right, mul-lt-mul-of-pos-right, lt-of-mul-lt-mul-right, mul-pos, mul-one, mul-right-comm, mul-div-cancel, mul-mul-mul-comm, div-one, zero-mul, zero-lt-suc}
+use mathlib.Core.Logic.{inr}
+use Prim.Native.Nat.{ℕ, zero, suc, _+_, _-_, _*_, _^_, _≤_, _<_}
+use native.Mathlib.Nat.{le-trans, le-of-eq, le-of-lt, lt-of-lt-of-le, lt-of-le-of-lt, lt-of-not-le, not-le-of-lt, mul-assoc, mul-le-mul-right, mul-lt-mul-of-pos-right, mul-pos, mul-right-comm, mul-mul-mul-comm}
 use native.Mathlib.Decide.{decLe}
 use native.Mathlib.Omega.{arith}
-use mathlib.Core.Bool.{Bool, true, false, _&&_, true≢false}
-use lib.Dec.{T, lit<, lit≤, leb, ltb, eqb, leb→le, ltb→lt}
-use lib.IntN.{ℤ, pos, negsuc}
+use mathlib.Core.Bool.{true, false}
+use lib.Dec.{T, lit≤}
 use lib.Pow.{pow-pos, pow-mono, pow-add, shl-lt}
 use lib.Ieee.{Float, nan, inf, fin, up, down, binary32, units, fits}
-use lib.Ieee.Fits.{and-l, and-r, down-pos, odd-fits}
+use lib.Ieee.Fits.{odd-fits}
 use lib.Ieee.Exact.{HasValue, units-val}
-use Rattle.sqrt.specs.Root.{count, nearestRoot, rootOf}
-use Rattle.sqrt.specs.Nearest.{plain, IsRoot}
-use Rattle.sqrt.proofs.Whole.{sq-mono}
-use Rattle.sqrt.proofs.Near.{Near, order, near-root, nearestRoot-at, four-pow}
-use Rattle.sqrt.proofs.Shift.{zeros, scaled, moved, pow-back, scaled-low, scaled-high, regroup, dropped}
-use Rattle.sqrt.proofs.Cases.{count-of}
+use Rattle.float.specs.Units.{count, plain}
+use Rattle.float.proofs.Units.{Shape, parts, pow-under, zero-units, factor, some-units, few-units, count-of, counted, plain-of, shape, next}
+use Rattle.sqrt.specs.Root.{nearestRoot, rootOf}
+use Rattle.sqrt.specs.Nearest.{IsRoot}
+use Rattle.wholeroot.specs.WholeRoot.{nearestWhole}
+use Rattle.wholeroot.proofs.Whole.{sq-mono}
+use Rattle.wholeroot.proofs.Near.{Near, order, whole-near}
+use Rattle.sqrt.proofs.Cut.{nearestRoot-at, four-pow}
+use Rattle.sqrt.proofs.Shift.{zeros, scaled, moved, scaled-low, scaled-high, regroup, dropped}
 use Rattle.sqrt.proofs.Values.{units-is}
-
--- ---- which numbers of units an f32 can be: m * 2 ^ g with m of 24 digits, below 2 ^ 277
-
-pub record Shape (c : ℕ) : Type 0 where
-  pub m : ℕ
-  pub g : ℕ
-  pub is : c ≡ m * 2 ^ g
-  pub small : m < 2 ^ 24
-  pub room : m * 2 ^ g < 2 ^ 277
-
-abbrev whole-exp : (m k : ℕ) → m < 2 ^ 24 → m * 2 ^ k < 2 ^ 128 * 1 → Shape (m * 2 ^ k * 2 ^ 149 / 1)
-whole-exp m k h l = record {
-  m = m;
-  g = k + 149;
-  is = div-one (m * 2 ^ k * 2 ^ 149) ∙ mul-assoc m (2 ^ k) (2 ^ 149) ∙ ap (λ (x : ℕ). m * x) (sym (pow-add 2 k 149));
-  small = h;
-  room = subst (λ (x : ℕ). x < 2 ^ 277) (mul-assoc m (2 ^ k) (2 ^ 149) ∙ ap (λ (x : ℕ). m * x) (sym (pow-add 2 k 149))) (mul-lt-mul-of-pos-right {m = m * 2 ^ k} {n = 2 ^ 128} l (pow-pos 149));
-}
-
-abbrev part-exp : (m j : ℕ) → m < 2 ^ 24 → j ≤ 149 → Shape (m * 1 * 2 ^ 149 / 2 ^ j)
-part-exp m j h l =
-    let g = 149 - j in
-    let e : g + j ≡ 149 = omega arith in
-    record {
-      m = m;
-      g = g;
-      is =
-          ap (λ (x : ℕ). x * 2 ^ 149 / 2 ^ j) (mul-one m)
-          ∙ ap (λ (x : ℕ). m * x / 2 ^ j) (ap (λ (x : ℕ). 2 ^ x) (sym e) ∙ pow-add 2 g j)
-          ∙ ap (λ (x : ℕ). x / 2 ^ j) (sym (mul-assoc m (2 ^ g) (2 ^ j)))
-          ∙ mul-div-cancel (m * 2 ^ g) (pow-pos j);
-      small = h;
-      room = lt-of-lt-of-le (shl-lt 24 g h) (pow-mono {i = 24 + g} {j = 277} (omega arith));
-    }
-
--- what `fits` says of a finite value above zero
-pub parts : (s : Bool) (m : ℕ) (e : ℤ) → T (fits binary32 (fin s (suc m) e)) → (suc m < 2 ^ 24) × (down e ≤ 2 ^ 149) × (suc m * up e < 2 ^ 128 * down e)
-unfolding fits
-parts s m e t =
-    let a = eqb (suc m % 2) 1 in
-    let b = ltb (suc m) (2 ^ 24) in
-    let c = leb (down e) (2 ^ 149) in
-    let d = ltb (suc m * up e) (2 ^ 128 * down e) in
-    let abc = and-l (a && b && c) d t in
-    (ltb→lt (suc m) (2 ^ 24) (and-r a b (and-l (a && b) c abc)), leb→le (down e) (2 ^ 149) (and-r (a && b) c abc), ltb→lt (suc m * up e) (2 ^ 128 * down e) (and-r (a && b && c) d t))
-
-pub pow-le-back : (i j : ℕ) → 2 ^ i ≤ 2 ^ j → i ≤ j
-pow-le-back i j h = go (decLe i j)
-  where
-    go : Dec (i ≤ j) → i ≤ j
-    go (yes e) = e
-    go (no f) = absurd (lt-irrefl i (pow-back i i (2 ^ j) h (lib.Pow.pow-lt (lt-of-not-le f))))
-
-pub shape-above : (m : ℕ) (e : ℤ) → T (fits binary32 (fin false (suc m) e)) → (s : Shape (count (fin false (suc m) e))) × (0 < s .m)
-unfolding count
-shape-above m (pos k) t = let h = parts false m (pos k) t in (whole-exp (suc m) k (h .0) (h .2), zero-lt-suc m)
-shape-above m (negsuc j) t = let h = parts false m (negsuc j) t in (part-exp (suc m) (suc j) (h .0) (pow-le-back (suc j) 149 (h .1)), zero-lt-suc m)
-
-pub count-zero : (s : Bool) (e : ℤ) → count (fin s zero e) ≡ 0
-unfolding count
-count-zero s e = ap (λ (x : ℕ). x * 2 ^ 149 / down e) (zero-mul (up e)) ∙ ap (λ (x : ℕ). x / down e) (sym (zero-mul (down e))) ∙ mul-div-cancel 0 (down-pos e)
-
-pub shape : (x : Float) → T (fits binary32 x) → T (plain x) → Shape (count x)
-shape nan t p = absurd p
-shape (inf s) t p = absurd p
-shape (fin true m e) t p = absurd p
-shape (fin false zero e) t p = subst Shape (sym (count-zero false e)) (record { m = 0; g = 0; is = refl; small = lit< tt; room = lit< tt })
-shape (fin false (suc m) e) t p = shape-above m e t .0
 
 -- ---- the root of m * 2 ^ g units is q * 2 ^ k units, with q nearest to the root of n
 
@@ -114,15 +49,14 @@ rooted m g p h l =
     let hi : n ≤ (2 ^ 24 - 1) * 2 ^ 24 = scaled-high m c p h in
     let pos-n : 0 < n = omega arith in
     let n-lt : n < 2 ^ 48 = omega arith in
-    let found = near-root n pos-n in
-    let q = found .0 in
-    let near : Near n q = found .1 in
+    let q = nearestWhole n in
+    let near : Near n q = whole-near n pos-n in
     let q-hi : q ≤ 2 ^ 24 - 1 = order n (2 ^ 24 - 1) q (omega arith) (near .0) in
     let q-lo : 2 ^ 23 ≤ q = order n q (2 ^ 23) (near .1) (omega arith) in
     let q-lt : q < 2 ^ 24 = omega arith in
     let ef : f - 1 ≡ g = omega arith in
     let e : m * 2 ^ g * 2 ^ 149 ≡ n * 4 ^ k = ap (λ (x : ℕ). m * 2 ^ x * 2 ^ 149) (sym ef) ∙ regroup m f p h (omega arith) in
-    let up23 : 23 + g < 277 + z = pow-back (23 + g) (277 + z) (m * 2 ^ z * 2 ^ g)
+    let up23 : 23 + g < 277 + z = pow-under (23 + g) (277 + z) (m * 2 ^ z * 2 ^ g)
     (le-trans (le-of-eq (pow-add 2 23 g)) (mul-le-mul-right (2 ^ g) low′))
     (lt-of-le-of-lt (le-of-eq (mul-right-comm m (2 ^ z) (2 ^ g))) (shl-lt 277 z l)) in
     let k-lt : k < 200 = omega arith in
@@ -139,33 +73,17 @@ rooted m g p h l =
       is = ap nearestRoot e ∙ nearestRoot-at n k q lo n-lt near;
     }
 
--- ---- from 2 ^ (23 + k) units on, an f32 is a multiple of 2 ^ k units
-
-grid : (k Y : ℕ) → Shape Y → 2 ^ 23 * 2 ^ k ≤ Y → (t : ℕ) × (Y ≡ t * 2 ^ k)
-grid k Y s h =
-    let m = s .m in
-    let g = s .g in
-    let b : 23 + k < 24 + g = pow-back (23 + k) (24 + g) (m * 2 ^ g) (le-trans (le-of-eq (pow-add 2 23 k)) (le-trans h (le-of-eq (s .is)))) (shl-lt 24 g (s .small)) in
-    let e : g - k + k ≡ g = omega arith in
-    (m * 2 ^ (g - k), s .is ∙ ap (λ (x : ℕ). m * x) (ap (λ (x : ℕ). 2 ^ x) (sym e) ∙ pow-add 2 (g - k) k) ∙ sym (mul-assoc m (2 ^ (g - k)) (2 ^ k)))
+-- ---- the root is on its side of half-way to any other
 
 -- 4 * (n * p * p), for p = 2 ^ k
 times-four : (n k : ℕ) → 4 * (n * 4 ^ k) ≡ 4 * n * (2 ^ k * 2 ^ k)
 times-four n k = ap (λ (x : ℕ). 4 * (n * x)) (four-pow k) ∙ sym (mul-assoc 4 n (2 ^ k * 2 ^ k))
 
--- a multiple of p that is above q * p is q * p + p or more
-next : (t q p : ℕ) → q * p < t * p → (q + 1) * p ≤ t * p
-next t q p h =
-    let l : q < t = lt-of-mul-lt-mul-right p h in
-    let l1 : q + 1 ≤ t = omega arith in
-    mul-le-mul-right p l1
-
 under-at : (n q k Y : ℕ) → Near n q → 2 ^ 23 ≤ q → Shape Y → q * 2 ^ k < Y → 4 * (n * 4 ^ k) < (Y + q * 2 ^ k) * (Y + q * 2 ^ k)
 under-at n q k Y near lo s h =
     let p = 2 ^ k in
     let P : 0 < p = pow-pos k in
-    let t = grid k Y s (le-trans (mul-le-mul-right p lo) (le-of-lt h)) in
-    let a : (q + 1) * p ≤ Y = le-trans (next (t .0) q p (lt-of-lt-of-le h (le-of-eq (t .1)))) (le-of-eq (sym (t .1))) in
+    let a : (q + 1) * p ≤ Y = next q k Y (inr lo) s h in
     let b : (2 * q + 1) * p ≤ Y + q * p = omega arith in
     let c : 4 * n < (2 * q + 1) * (2 * q + 1) = let h1 = near .1 in omega arith in
     lt-of-le-of-lt (le-of-eq (times-four n k)) (lt-of-lt-of-le (mul-lt-mul-of-pos-right c (mul-pos P P)) (le-trans (le-of-eq (mul-mul-mul-comm (2 * q + 1) (2 * q + 1) p p)) (sq-mono b)))
@@ -201,9 +119,7 @@ over-at n q k Y near ln lo s h = subst (λ (x : ℕ). (Y + q * 2 ^ k) * (Y + q *
         go : Dec (Y ≤ r * 2 ^ k) → Y ≤ r * 2 ^ k
         go (yes e) = e
         go (no f) =
-            let l : r * 2 ^ k < Y = lt-of-not-le f in
-            let t = grid k Y s (le-trans (mul-le-mul-right (2 ^ k) g) (le-of-lt l)) in
-            let a : (r + 1) * 2 ^ k ≤ Y = le-trans (next (t .0) r (2 ^ k) (lt-of-lt-of-le l (le-of-eq (t .1)))) (le-of-eq (sym (t .1))) in
+            let a : (r + 1) * 2 ^ k ≤ Y = next r k Y (inr g) s (lt-of-not-le f) in
             let e : r + 1 ≡ q = omega arith in
             absurd (not-le-of-lt h (subst (λ (x : ℕ). x * 2 ^ k ≤ Y) e a))
 
@@ -224,12 +140,6 @@ over-at n q k Y near ln lo s h = subst (λ (x : ℕ). (Y + q * 2 ^ k) * (Y + q *
 
 -- ---- so the root is the nearest f32
 
-pub plain-of : (x : Float) (a c : ℕ) → HasValue x false a c → T (plain x)
-plain-of nan a c h = h
-plain-of (inf s) a c h = h
-plain-of (fin true m e) a c h = true≢false (h .0)
-plain-of (fin false m e) a c h = tt
-
 units-fits : (q k : ℕ) → q < 2 ^ 24 → q * 2 ^ k < 2 ^ 277 → T (fits binary32 (units binary32 false q k))
 units-fits q k h l = subst (λ (x : Float). T (fits binary32 x)) (sym (units-is q k l)) (odd-fits binary32 25 false q k (lt-of-lt-of-le h (lit≤ tt)) (le-of-lt h) l)
 
@@ -245,11 +155,11 @@ is-root-at x r t p d =
       over = λ y ty py h.
           subst (λ (c : ℕ). (count y + c) * (count y + c) < 4 * (count x * 2 ^ 149)) (sym e)
           (subst (λ (v : ℕ). (count y + q * 2 ^ k) * (count y + q * 2 ^ k) < 4 * v) (sym (d .four))
-          (over-at (d .n) q k (count y) (d .near) (d .least) (d .low) (shape y ty py) (lt-of-lt-of-le h (le-of-eq e))));
+          (over-at (d .n) q k (count y) (d .near) (d .least) (d .low) (shape (counted y ty py)) (lt-of-lt-of-le h (le-of-eq e))));
       under = λ y ty py h.
           subst (λ (c : ℕ). 4 * (count x * 2 ^ 149) < (count y + c) * (count y + c)) (sym e)
           (subst (λ (v : ℕ). 4 * v < (count y + q * 2 ^ k) * (count y + q * 2 ^ k)) (sym (d .four))
-          (under-at (d .n) q k (count y) (d .near) (d .low) (shape y ty py) (lt-of-le-of-lt (le-of-eq (sym e)) h)));
+          (under-at (d .n) q k (count y) (d .near) (d .low) (shape (counted y ty py)) (lt-of-le-of-lt (le-of-eq (sym e)) h)));
     }
 
 is-root-zero : (x : Float) → T (fits binary32 x) → T (plain x) → count x ≡ 0 → IsRoot x x
@@ -272,8 +182,12 @@ unfolding rootOf
 rootOf-is-root nan t p = absurd p
 rootOf-is-root (inf s) t p = absurd p
 rootOf-is-root (fin true m e) t p = absurd p
-rootOf-is-root (fin false zero e) t p = is-root-zero (fin false zero e) t p (count-zero false e)
+rootOf-is-root (fin false zero e) t p = is-root-zero (fin false zero e) t p (count-of (fin false zero e) false 0 (refl, zero-units e))
 rootOf-is-root (fin false (suc m) e) t p =
-    let s = shape-above m e t in
-    let d = rooted (s .0 .m) (s .0 .g) (s .1) (s .0 .small) (s .0 .room) in
-    is-root-at (fin false (suc m) e) (nearestRoot (count (fin false (suc m) e) * 2 ^ 149)) t p (subst (λ (c : ℕ). Rooted c (nearestRoot (c * 2 ^ 149))) (sym (s .0 .is)) d)
+    let x = fin false (suc m) e in
+    let z = counted x t p in
+    let s = shape z in
+    let some : 0 < s .m = factor (s .m) (2 ^ s .g) (subst (λ (c : ℕ). 0 < c) (s .is) (some-units false m e (z .is))) in
+    let room : s .m * 2 ^ s .g < 2 ^ 277 = subst (λ (c : ℕ). c < 2 ^ 277) (s .is) (few-units (suc m * up e) (down e) (count x) 128 (z .is .1) (parts false m e t .2)) in
+    let d = rooted (s .m) (s .g) some (s .small) room in
+    is-root-at x (nearestRoot (count x * 2 ^ 149)) t p (subst (λ (c : ℕ). Rooted c (nearestRoot (c * 2 ^ 149))) (sym (s .is)) d)

@@ -1,14 +1,17 @@
--- The shifts of `root_of_subnormal` and `root_of_normal`: the significand m moved up by its leading zeros, and then by 23 or 24, is the n of 47 or 48 digits whose root is taken. Assumes nothing.
+-- The shifts of `subnormal` and `normal`: the significand m moved up by its leading zeros, and then by 23 or 24, is the n of 47 or 48 digits whose root is taken. Assumes nothing.
 use mathlib.Core.Path.{_≡_, refl, sym, ap, _∙_, subst}
 use Prim.Native.Nat.{ℕ, zero, suc, _+_, _-_, _*_, _/_, _%_, _^_, _≤_, _<_}
-use native.Mathlib.Nat.{mod-eq-of-lt, not-le-of-lt, lt-of-not-le, le-trans, lt-of-lt-of-le, mul-assoc, mul-le-mul-right, mul-le-mul}
-use native.Mathlib.Decide.{decLe}
+use native.Mathlib.Nat.{mod-eq-of-lt, not-le-of-lt, lt-of-lt-of-le, mul-assoc, mul-le-mul-right, mul-le-mul}
 use native.Mathlib.Omega.{arith}
 use lib.Pow.{pow-mono, pow-add, shl-lt, shl-exact}
 use lib.Count.{leadingZeros, leading-top}
 use lib.Ieee.{binary32, ofBits}
+use Rattle.float.proofs.Units.{pow-under}
 use Rattle.sqrt.specs.Root.{nearestRoot}
-use Rattle.sqrt.proofs.Near.{Near, order, four-pow, nearestRoot-at}
+use Rattle.sqrt.specs.Within.{Rootable}
+use Rattle.wholeroot.specs.WholeRoot.{nearestWhole}
+use Rattle.wholeroot.proofs.Near.{Near, order, whole-near}
+use Rattle.sqrt.proofs.Cut.{four-pow, nearestRoot-at}
 use Rattle.sqrt.proofs.Values.{pattern}
 
 -- m moved up until it has 24 digits
@@ -21,13 +24,6 @@ pub record Moved (m : ℕ) : Type 0 where
   pub low : 2 ^ 23 ≤ m * 2 ^ zeros m
   pub high : m * 2 ^ zeros m < 2 ^ 24
 
-pub pow-back : (i j m : ℕ) → 2 ^ i ≤ m → m < 2 ^ j → i < j
-pow-back i j m h k = go (decLe j i)
-  where
-    go : Dec (j ≤ i) → i < j
-    go (yes e) = absurd (not-le-of-lt k (le-trans (pow-mono e) h))
-    go (no f) = lt-of-not-le f
-
 pub moved : (m : ℕ) → 0 < m → m < 2 ^ 24 → Moved m
 moved m p h =
     let t = leading-top 32 m p (lt-of-lt-of-le h (pow-mono {i = 24} {j = 32} (omega arith))) in
@@ -35,7 +31,7 @@ moved m p h =
     let e : leadingZeros 32 m + suc j ≡ 32 = t .1 in
     let lo : 2 ^ j ≤ m = t .2 in
     let hi : m < 2 ^ suc j = t .3 in
-    let j-lt : j < 24 = pow-back j 24 m lo h in
+    let j-lt : j < 24 = pow-under j 24 m lo h in
     let e1 : j + zeros m ≡ 23 = omega arith in
     let e2 : suc j + zeros m ≡ 24 = omega arith in
     record {
@@ -99,23 +95,15 @@ regroup m f p h g =
     ∙ sym (mul-assoc (m * 2 ^ z) (2 ^ (23 + c % 2)) (2 ^ (k + k)))
     ∙ ap (λ (x : ℕ). scaled m c * x) (pow-add 2 k k ∙ sym (four-pow k))
 
--- n and k are what `root_of` may be asked for m units times 2 ^ (f - 1)
-pub record Taken (m f n k : ℕ) : Type 0 where
-  pub low : 2 ^ 46 ≤ n
-  pub high : n ≤ (2 ^ 24 - 1) * 2 ^ 24
-  pub few : k < 200
-  pub is : nearestRoot (n * 4 ^ k) ≡ nearestRoot (m * 2 ^ (f - 1) * 2 ^ 149)
-
-pub taken : (m f n k : ℕ) → 0 < m → m < 2 ^ 24 → 0 < f → f < 255 → n ≡ scaled m (f + 127 - zeros m) → k ≡ dropped m f → Taken m f n k
+-- and n and k are what `root_of` takes
+pub taken : (m f n k : ℕ) → 0 < m → m < 2 ^ 24 → 0 < f → f < 255 → n ≡ scaled m (f + 127 - zeros m) → k ≡ dropped m f → Rootable n k
 taken m f n k p h g l e d =
     let lo : 2 ^ 46 ≤ scaled m (f + 127 - zeros m) = scaled-low m (f + 127 - zeros m) p h in
     let hi : scaled m (f + 127 - zeros m) ≤ (2 ^ 24 - 1) * 2 ^ 24 = scaled-high m (f + 127 - zeros m) p h in
-    record {
-      low = subst (λ (x : ℕ). 2 ^ 46 ≤ x) (sym e) lo;
-      high = subst (λ (x : ℕ). x ≤ (2 ^ 24 - 1) * 2 ^ 24) (sym e) hi;
-      few = omega arith;
-      is = ap (λ (x : ℕ). nearestRoot (x * 4 ^ k)) e ∙ ap (λ (x : ℕ). nearestRoot (scaled m (f + 127 - zeros m) * 4 ^ x)) d ∙ ap nearestRoot (sym (regroup m f p h g));
-    }
+    record { low = subst (λ (x : ℕ). 2 ^ 46 ≤ x) (sym e) lo; high = subst (λ (x : ℕ). x ≤ (2 ^ 24 - 1) * 2 ^ 24) (sym e) hi; few = omega arith }
+
+pub same-root : (m f n k : ℕ) → 0 < m → m < 2 ^ 24 → 0 < f → n ≡ scaled m (f + 127 - zeros m) → k ≡ dropped m f → nearestRoot (n * 4 ^ k) ≡ nearestRoot (m * 2 ^ (f - 1) * 2 ^ 149)
+same-root m f n k p h g e d = ap (λ (x : ℕ). nearestRoot (x * 4 ^ k)) e ∙ ap (λ (x : ℕ). nearestRoot (scaled m (f + 127 - zeros m) * 4 ^ x)) d ∙ ap nearestRoot (sym (regroup m f p h g))
 
 -- ---- a pattern b that is not subnormal: its digits have 24 places already
 
@@ -158,13 +146,16 @@ pub record Found (n k q : ℕ) : Type 0 where
   pub high : q < 2 ^ 24
   pub is : ofBits binary32 (k * 8388608 + q) ≡ nearestRoot (n * 4 ^ k)
 
-pub found : (n k q : ℕ) → 2 ^ 46 ≤ n → n ≤ (2 ^ 24 - 1) * 2 ^ 24 → k < 200 → Near n q → Found n k q
-found n k q lo hi k-lt near =
+pub found : (n k q : ℕ) → Rootable n k → q ≡ nearestWhole n → Found n k q
+found n k q fit e =
+    let lo : 2 ^ 46 ≤ n = fit .low in
+    let hi : n ≤ (2 ^ 24 - 1) * 2 ^ 24 = fit .high in
+    let near : Near n q = subst (Near n) (sym e) (whole-near n (omega arith)) in
     let q-hi : q ≤ 2 ^ 24 - 1 = order n (2 ^ 24 - 1) q (omega arith) (near .0) in
     let q-lo : 2 ^ 23 ≤ q = order n q (2 ^ 23) (near .1) (omega arith) in
     let q-lt : q < 2 ^ 24 = omega arith in
     let n-lt : n < 2 ^ 48 = omega arith in
     record {
       high = q-lt;
-      is = pattern q k q-lo q-lt k-lt ∙ sym (nearestRoot-at n k q lo n-lt near);
+      is = pattern q k q-lo q-lt (fit .few) ∙ sym (nearestRoot-at n k q lo n-lt near);
     }

@@ -7,8 +7,9 @@ use native.Mathlib.Omega.{arith}
 use lib.Dec.{T, ltb→lt}
 use lib.Ieee.{Float, nan, inf, fin, up, down, binary32, fits, le, lt, ofBits}
 use Rattle.float.specs.F32.{f0}
+use Rattle.float.specs.Units.{plain}
 use Rattle.sqrt.specs.Root.{rootOf}
-use Rattle.sqrt.specs.Nearest.{plain, IsRoot}
+use Rattle.sqrt.specs.Nearest.{IsRoot}
 use Rattle.sqrt.specs.Cutoff.{IsCutoff}
 use Rattle.sqrt.proofs.Nearest as nearest
 use Rattle.sqrt.proofs.Order as order

@@ -1,15 +1,14 @@
 -- q * 2 ^ k units of 2 ^ -149, for a q of 24 digits, is the f32 with the pattern k * 2 ^ 23 + q. Assumes nothing.
-use mathlib.Core.Path.{_≡_, refl, sym, ap, _∙_, subst}
+use mathlib.Core.Path.{_≡_, refl, sym, ap, _∙_}
 use Prim.Native.Nat.{ℕ, zero, suc, _+_, _-_, _*_, _/_, _%_, _^_, _≤_, _<_}
 use native.Mathlib.Nat.{lt-of-lt-of-le}
 use native.Mathlib.Omega.{arith}
-use mathlib.Core.Bool.{Bool, false, not, cond}
-use lib.Dec.{T, ltb, lt→ltb, ltb→lt, not-T}
+use mathlib.Core.Bool.{Bool, false, cond}
+use lib.Dec.{ltb, lt→ltb}
 use lib.Pow.{pow-mono, shl-lt}
 use lib.Count.{trailingZeros, under}
-use lib.Ieee.{Float, inf, fin, binary32, odd, units, minus, ofBits, nanBits, isNan, ne}
-use lib.Ieee.Bits.{is-true, nanBits-above}
-use Rattle.float.proofs.Order.{ne-self}
+use lib.Ieee.{inf, fin, binary32, odd, units, minus, ofBits}
+use lib.Ieee.Bits.{is-true}
 use Rattle.float.proofs.Fields.{normal}
 
 -- ---- q * 2 ^ k units as a pattern
@@ -41,18 +40,3 @@ pattern q k lo hi h =
     ∙ ap (λ (x : ℕ). odd 24 false x k 149) e
     ∙ sym (odd-more 24 false q k 149 (omega arith) hi)
     ∙ sym (units-is q k room)
-
--- ---- what `from_bits` and `to_bits` ask
-
--- a pattern up to the infinity's is no NaN's
-pub number-pattern : (b : ℕ) → b ≤ 2139095040 → T (not (nanBits binary32 b))
-number-pattern b h =
-    subst (λ (x : Bool). T (not x)) (sym (nanBits-above binary32 b))
-    (not-T (ltb 2139095040 (b % 2147483648)) (λ (u : T (ltb 2139095040 (b % 2147483648))). over (ltb→lt 2139095040 (b % 2147483648) u)))
-  where
-    over : 2139095040 < b % 2147483648 → ⊥
-    over k = omega arith
-
--- `x != x` was false: x is no NaN
-pub is-number : (x : Float) → ne x x ≡ false → T (not (isNan x))
-is-number x h = subst (λ (b : Bool). T (not b)) (sym h ∙ ne-self x) tt

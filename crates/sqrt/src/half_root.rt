@@ -28,7 +28,7 @@ fn down_to_fail(start: u32, t: f32) -> u32
     b
 }
 
-// From there up to the last one.
+// From a pattern at which the test fails up to the last such.
 fn up_to_last(start: u32, t: f32) -> u32
     requires { ⌜ (start ≤ 0x7f80_0000) × T (not (above t (ofBits binary32 start))) ⌝ }
     ensures { λ r. ⌜ (r ≤ 0x7f80_0000) × T (not (above t (ofBits binary32 r)))

@@ -8,3 +8,4 @@ pub mod Same
 pub mod Valid
 pub mod Nearby
 pub mod Pairs
+pub mod Colours

@@ -1,20 +1,21 @@
 // Points taken one after the other: the pair of the last point is tried before the search, and a Catmull-Rom
 // segment is kept while the pair stays.
-use super::Place;
-use super::below;
-use super::colour;
-use super::left_of;
-use super::less;
-use super::right_of;
-use super::stop;
+use crate::Place;
+use crate::below;
+use crate::colour;
+use crate::left_of;
+use crate::less;
+use crate::right_of;
+use crate::stop;
 use blend::Rgba;
 use blend::catmull_rom;
 use blend::utils;
 ghost use mathlib.Core.Path.{_≡_};
 ghost use Rattle.stops.specs.Near.{isBetween, placeNear, pairOr, segmentFor, segmentIn};
 
-// t lies past stop k - 1 and before stop k. Two answers are weighed as one number, since two branches would
-// be guessed wrong too often.
+// Whether t lies past stop k - 1 and before stop k. Each of the two answers is 1 or 0, and k is less than n, the number of
+// stops: so n times their sum is above n + k just where both are 1, being 2n then and else at most n. One comparison serves,
+// since two branches would be guessed wrong too often.
 pub fn is_between(positions: &[f32], t: f32, k: usize) -> bool
     ensures { λ r. ⌜ r ≡ isBetween (now (positions .entry)) t k ⌝ }
 {
@@ -34,7 +35,7 @@ pub fn find_place(positions: &[f32], t: f32, k: usize) -> Place
     if is_between(positions, t, k) {
         return Place::Between(k);
     }
-    super::find_place(positions, t)
+    crate::find_place(positions, t)
 }
 
 pub fn pair_or(place: Place, k: usize) -> usize

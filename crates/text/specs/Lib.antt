@@ -1,6 +1,3 @@
 -- What a text is made of, and what reading its parts answers.
 pub mod Text
-pub mod Digits
 pub mod Places
-pub mod Rows
-pub mod Steps

@@ -6,7 +6,8 @@ use native.Mathlib.Omega.{arith}
 use native.Mathlib.Nat.{zero-add}
 use lib.Ieee.{ofBits, toBits, round, binary32}
 use Rattle.decimal.proofs.Scale.{ten-le, ten-shifted}
-use Rattle.float.proofs.Fraction.{no-nan, bits-back}
+use Rattle.float.proofs.Fraction.{bits-back}
+use Rattle.float.proofs.Patterns.{number-pattern}
 use borrow.Author.Needs.{needs}
 use Rattle.decimal.proofs.nearest.Statement.{statement}
 use Rattle.decimal.proofs.nearest.Tie as tie
@@ -38,10 +39,10 @@ value : (s t : Bool) (d p b : ℕ) → t ≡ s → b ≡ toBits binary32 (round 
 value s t d p b h e = ap (ofBits binary32) e ∙ bits-back s d p ∙ ap (λ (x : Bool). round binary32 x d p) (sym h)
 
 float-from-bits-result : tie.Need-float-from-bits-result
-float-from-bits-result c = let h = c .before .magnitude .ensures .small in no-nan _ (omega arith)
+float-from-bits-result c = let h = c .before .magnitude .ensures .small in number-pattern _ (omega arith)
 
 float-from-bits-result-2 : tie.Need-float-from-bits-result-2
-float-from-bits-result-2 c = let h = c .before .magnitude .ensures .small in no-nan _ (omega arith)
+float-from-bits-result-2 c = let h = c .before .magnitude .ensures .small in number-pattern _ (omega arith)
 
 returns-2 : tie.Need-returns-2
 returns-2 c = value true _ _ _ _ (c .if3 .taken) (c .before .magnitude .ensures .signed true)

@@ -1,13 +1,8 @@
--- `name` meets its contract: the trimmed part of line 2 where the file is read, and nothing where it is not. Assumes nothing.
-use borrow.Author.Needs.{needs}
-use Prim.Native.Nat.{_-_}
-use native.Mathlib.Omega.{arith}
-use mathlib.Core.Path.{ap, _∙_}
-use lib.ListN.{take, drop}
-use Rattle.text.specs.Text.{trim}
+-- `name` meets its contract: the part of line 2 where the file is read, and nothing where it is not. Assumes nothing.
+use mathlib.Core.Path.{_∙_}
 use Rattle.ggr.specs.File.{roomOf}
-use Rattle.text.proofs.Bytes.{part-tail}
-use Rattle.ggr.proofs.Finish.{name-none, name-read, name-short}
+use Rattle.ggr.proofs.Finish.{name-none, name-read}
+use borrow.Author.Needs.{needs}
 use Rattle.ggr.proofs.name.Statement.{statement}
 use Rattle.ggr.proofs.name.Tie as tie
 
@@ -34,51 +29,20 @@ slice-aggregate-result c = search needs
 
 returns : tie.Need-returns
 unfolding roomOf
-returns c = let r = c .before .before .before .before .before .before in
-    name-none (r .before .before .before .before .before .args .text .now) (r .read .result) (r .read .ensures .answer) _ _ (c .before .enum-told2 .given .1)
+returns c =
+    let told = c .before in
+    let file = told .before .before .before .before .before in
+    name-none (file .before .before .before .before .before .args .text .now) (file .read .result) (file .read .ensures .answer) _ _ (told .enum-told2 .given .1)
 
-marks-requires : tie.Need-marks-requires
-marks-requires c κs = search needs
-
-line-at-requires : tie.Need-line-at-requires
-line-at-requires c κs = search needs
-
-line-at-requires-2 : tie.Need-line-at-requires-2
-line-at-requires-2 c κs = search needs
-
-sub-line : tie.Need-sub-line
-sub-line c = search needs
-
-part-line-start : tie.Need-part-line-start
-part-line-start c = c .line-at2 .ensures .order
-
-part-line-end : tie.Need-part-line-end
-part-line-end c = omega (arith, c .line-at2 .ensures .within (c .before .line-at .ensures .beyond (c .before .before .marks .ensures .0)))
-
-slice-aggregate-result-2 : tie.Need-slice-aggregate-result-2
-slice-aggregate-result-2 c = search needs
+name-part-requires : tie.Need-name-part-requires
+name-part-requires c κs = search needs
 
 returns-2 : tie.Need-returns-2
 unfolding roomOf
-returns-2 c = let d = c .before .before .before in let m = d .before .before in let r = m .before .before .before .before .before .before in let s = r .before .before .before .before .before .args .text .now in
-    name-short s (r .read .result) (r .read .ensures .answer) _ (m .before .enum-told .given .1) (m .marks .result) (d .before .line-at .result .end) (d .before .line-at .result .next) (m .marks .ensures .1) (d .before .line-at .ensures) (d .line-at2 .result .end) (d .line-at2 .result .next) (d .line-at2 .ensures) (c .before .if1 .taken)
-
-sub-trimmed : tie.Need-sub-trimmed
-sub-trimmed c = search needs
-
-part-trimmed-start : tie.Need-part-trimmed-start
-part-trimmed-start c = search needs
-
-part-trimmed-end : tie.Need-part-trimmed-end
-part-trimmed-end c = search needs
-
-trimmed-requires : tie.Need-trimmed-requires
-trimmed-requires c κs = search needs
-
-returns-3 : tie.Need-returns-3
-unfolding roomOf
-returns-3 c = let d = c .before .before .before .before in let m = d .before .before in let r = m .before .before .before .before .before .before in let s = r .before .before .before .before .before .args .text .now in
-    c .trimmed .ensures ∙ ap trim (part-tail (take (d .line-at2 .result .end - d .before .line-at .result .next) (drop (d .before .line-at .result .next) s)) 5) ∙ name-read s (r .read .result) (r .read .ensures .answer) _ (m .before .enum-told .given .1) (m .marks .result) (d .before .line-at .result .end) (d .before .line-at .result .next) (m .marks .ensures .1) (d .before .line-at .ensures) (d .line-at2 .result .end) (d .line-at2 .result .next) (d .line-at2 .ensures)
+returns-2 c =
+    let told = c .before in
+    let file = told .before .before .before .before .before in
+    c .name-part .ensures ∙ name-read (file .before .before .before .before .before .args .text .now) (file .read .result) (file .read .ensures .answer) _ (told .enum-told .given .1)
 
 pub name-spec : {M : Type 1} → statement M
 name-spec =
@@ -92,16 +56,5 @@ name-spec =
     enum-told-2
     slice-aggregate-result
     returns
-    marks-requires
-    line-at-requires
-    line-at-requires-2
-    sub-line
-    part-line-start
-    part-line-end
-    slice-aggregate-result-2
-    returns-2
-    sub-trimmed
-    part-trimmed-start
-    part-trimmed-end
-    trimmed-requires
-    returns-3)
+    name-part-requires
+    returns-2)

@@ -1,7 +1,6 @@
 -- `read` meets its contract: what was read is right, or every output is zero. Assumes nothing.
-use borrow.Author.Needs.{needs}
-use Prim.Native.Nat.{_-_}
 use Rattle.ggr.proofs.Finish.{done-read, done-refused}
+use borrow.Author.Needs.{needs}
 use Rattle.ggr.proofs.read.Statement.{statement}
 use Rattle.ggr.proofs.read.Tie as tie
 
@@ -14,11 +13,11 @@ enum-told c = search needs
 enum-told-2 : tie.Need-enum-told-2
 enum-told-2 c = search needs
 
-zero-floats-requires : tie.Need-zero-floats-requires
-zero-floats-requires c κs = search needs
+zero-from-requires : tie.Need-zero-from-requires
+zero-from-requires c κs = search needs
 
-zero-floats-requires-2 : tie.Need-zero-floats-requires-2
-zero-floats-requires-2 c κs = search needs
+zero-from-requires-2 : tie.Need-zero-from-requires-2
+zero-from-requires-2 c κs = search needs
 
 zero-bytes-requires : tie.Need-zero-bytes-requires
 zero-bytes-requires c κs = search needs
@@ -33,8 +32,14 @@ same-length-3 : tie.Need-same-length-3
 same-length-3 c = search needs
 
 returns : tie.Need-returns
-returns c = let i = c .before .before .before .before .before .before .before .before .before .before .before .before .before .before .before .before .before .before .before .before in
-    done-refused _ _ _ _ _ _ _ _ (i .read-into .ensures) _ _ (c .before .before .before .before .before .before .before .before .before .before .before .before .enum-told2 .given .1) (i .read-into .kept .1 .1 .1 .0) (i .read-into .kept .1 .1 .1 .1 .0) (i .read-into .kept .1 .1 .1 .1 .1 .0) _ _ _ (c .before .before .before .before .before .before .before .before .before .before .zero-floats .ensures) (c .before .before .before .before .before .before .zero-floats2 .ensures) (c .before .before .zero-bytes .ensures)
+returns c =
+    let bytes = c .before .before in
+    let second = bytes .before .before .before .before in
+    let first = second .before .before .before .before in
+    let told = first .before .before in
+    let into = told .before .before .before .before .before .before .before .before in
+    let kept = into .read-into .kept in
+    done-refused _ _ _ (into .read-into .ensures) (kept .1 .1 .1 .0) (kept .1 .1 .1 .1 .0) (kept .1 .1 .1 .1 .1 .0) _ _ (told .enum-told2 .given .1) _ _ _ (first .zero-from .ensures) (second .zero-from2 .ensures) (bytes .zero-bytes .ensures)
 
 same-length-4 : tie.Need-same-length-4
 same-length-4 c = search needs
@@ -46,7 +51,7 @@ same-length-6 : tie.Need-same-length-6
 same-length-6 c = search needs
 
 returns-2 : tie.Need-returns-2
-returns-2 c = done-read _ _ _ _ _ _ _ _ (c .before .before .before .before .before .before .before .before .read-into .ensures) _ (c .enum-told .given .1)
+returns-2 c = done-read _ _ _ (c .before .before .before .before .before .before .before .before .read-into .ensures) _ (c .enum-told .given .1)
 
 pub read-spec : {M : Type 1} → statement M
 read-spec =
@@ -55,8 +60,8 @@ read-spec =
     read-into-requires
     enum-told
     enum-told-2
-    zero-floats-requires
-    zero-floats-requires-2
+    zero-from-requires
+    zero-from-requires-2
     zero-bytes-requires
     same-length
     same-length-2

@@ -16,32 +16,41 @@ enum-known-n c = search needs
 enum-told : tie.Need-enum-told
 enum-told c = search needs
 
-clear-requires : tie.Need-clear-requires
-clear-requires c κs = search needs
+zero-from-requires : tie.Need-zero-from-requires
+zero-from-requires c κs = search needs
 
 same-length : tie.Need-same-length
 same-length c = search needs
 
 returns : tie.Need-returns
 returns c =
-    let s = c .before .before .before .before .before .before .before .before .before .before .before .before .before in
-    no-room (rampIn (s .args .kind) (s .args .positions) (s .args .channels) (s .args .codes)) (sym (c .before .before .before .before .before .before .before .check .ensures .answer) ∙ c .before .before .before .before .before .enum-told .given .1) (now (s .args .ts)) (now (s .args .out)) (c .before .before .before .before .if1 .taken) (c .before .before .clear .ensures)
+    let cleared = c .before .before in
+    let small = cleared .before .before in
+    let fine = small .before in
+    let asked = fine .before .before in
+    let s = asked .before .before .before .before .before .before in
+    no-room (rampIn (s .args .kind) (s .args .positions) (s .args .channels) (s .args .codes)) (sym (asked .check .ensures .answer) ∙ fine .enum-told .given .1) (now (s .args .ts)) (now (s .args .out)) (small .if1 .taken) (cleared .zero-from .ensures)
 
 paint-all-requires : tie.Need-paint-all-requires
-paint-all-requires c κs = (sym (c .before .before .before .before .check .ensures .answer) ∙ c .before .before .enum-told .given .1, search needs)
+paint-all-requires c κs = let fine = c .before .before in (sym (fine .before .before .check .ensures .answer) ∙ fine .enum-told .given .1, search needs)
 
 returns-2 : tie.Need-returns-2
 returns-2 c =
-    let s = c .before .before .before .before .before .before .before .before .before in
-    paint-refused (rampIn (s .args .kind) (s .args .positions) (s .args .channels) (s .args .codes)) (sym (c .before .before .before .check .ensures .answer) ∙ c .before .n .given .1) (now (s .args .ts)) (now (s .args .out))
+    let asked = c .before .before .before in
+    let s = asked .before .before .before .before .before .before in
+    paint-refused (rampIn (s .args .kind) (s .args .positions) (s .args .channels) (s .args .codes)) (sym (asked .check .ensures .answer) ∙ c .before .n .given .1) (now (s .args .ts)) (now (s .args .out))
 
 same-length-2 : tie.Need-same-length-2
 same-length-2 c = search needs
 
 returns-3 : tie.Need-returns-3
 returns-3 c =
-    let s = c .before .before .before .before .before .before .before .before .before .before .before .before .before in
-    done (rampIn (s .args .kind) (s .args .positions) (s .args .channels) (s .args .codes)) (sym (c .before .before .before .before .before .before .before .check .ensures .answer) ∙ c .before .before .before .before .before .enum-told .given .1) (now (s .args .ts)) (now (s .args .out)) (c .before .before .before .before .if1 .left) (c .before .before .paint-all .ensures)
+    let painted = c .before .before in
+    let roomy = painted .before .before in
+    let fine = roomy .before in
+    let asked = fine .before .before in
+    let s = asked .before .before .before .before .before .before in
+    done (rampIn (s .args .kind) (s .args .positions) (s .args .channels) (s .args .codes)) (sym (asked .check .ensures .answer) ∙ fine .enum-told .given .1) (now (s .args .ts)) (now (s .args .out)) (roomy .if1 .left) (painted .paint-all .ensures)
 
 pub paint-spec : {M : Type 1} → statement M
 paint-spec =
@@ -50,7 +59,7 @@ paint-spec =
     check-requires
     enum-known-n
     enum-told
-    clear-requires
+    zero-from-requires
     same-length
     returns
     paint-all-requires

@@ -8,17 +8,17 @@ use denote.Ref.{now}
 use lib.ListN.{length, take, drop}
 use lib.Seq.{sets, length-sets}
 use lib.Ieee.{Float}
-use Rattle.paint.proofs.Filling.{colours-next, colours-done}
+use Rattle.paint_segments.proofs.Filling.{colours-next, colours-done}
 use Rattle.stops.specs.Near.{segmentFor}
 use Rattle.stops.specs.declared.Kind.the-variants.{CatmullRom}
-use Rattle.paint.specs.Canvas.{channelsOf, colours}
-use Rattle.paint.specs.Unchecked.{stopColour}
+use Rattle.blend.specs.Channels.{channelsOf, coloursOf}
+use Rattle.paint.specs.Within.{stopColour}
 use Rattle.paint.proofs.Painting.{kept-colour}
 use Rattle.paint.proofs.paint_catmull.Statement.{statement}
 use Rattle.paint.proofs.paint_catmull.Tie as tie
 
 abbrev Inv-loop : tie.InvT-loop
-Inv-loop positions channels ts out₀ n k₀ s₀ i₀ out k s i = (i ≤ length ts) × (length out ≡ length out₀) × (out ≡ colours (stopColour CatmullRom positions channels) (take i ts) ++ drop (4 * i) out₀) × (s ≡ segmentFor channels (length positions) k)
+Inv-loop positions channels ts out₀ n k₀ s₀ i₀ out k s i = (i ≤ length ts) × (length out ≡ length out₀) × (out ≡ coloursOf (stopColour CatmullRom positions channels) (take i ts) ++ drop (4 * i) out₀) × (s ≡ segmentFor channels (length positions) k)
 
 abbrev μ-loop : tie.MeasureT-loop
 μ-loop positions channels ts out₀ n k₀ s₀ i₀ out k s i = length ts - i
@@ -27,7 +27,7 @@ segment-for-requires : tie.Need-segment-for-requires Inv-loop μ-loop
 segment-for-requires c κs = search needs
 
 loop-holds : tie.Need-loop-holds Inv-loop μ-loop
-unfolding colours
+unfolding coloursOf
 loop-holds c = (omega arith, refl, refl, c .segment-for .ensures)
 
 mul-t : tie.Need-mul-t Inv-loop μ-loop
@@ -48,11 +48,11 @@ renewed-requires c κs = c .before .before .before .before .loop .inv .3
 segment-colour-requires : tie.Need-segment-colour-requires Inv-loop μ-loop
 segment-colour-requires c κs = search needs
 
-mul-put : tie.Need-mul-put Inv-loop μ-loop
-mul-put c = search needs
+mul-put-colour : tie.Need-mul-put-colour Inv-loop μ-loop
+mul-put-colour c = search needs
 
-put-requires : tie.Need-put-requires Inv-loop μ-loop
-put-requires c κs = search needs
+put-colour-requires : tie.Need-put-colour-requires Inv-loop μ-loop
+put-colour-requires c κs = search needs
 
 add-i : tie.Need-add-i Inv-loop μ-loop
 add-i c = search needs
@@ -68,8 +68,8 @@ loop-again c =
     let test = p .before .before .before .before .before .before .before .loop-test .taken in
     let i = l .loop .i in (
       omega arith,
-      ap length (p .put .ensures) ∙ simp length-sets (l .loop .inv .1),
-      p .put .ensures
+      ap length (p .put-colour .ensures) ∙ simp length-sets (l .loop .inv .1),
+      p .put-colour .ensures
           ∙ ap (λ (r : List Float). sets r (4 * i) (channelsOf (p .before .before .segment-colour .result))) (l .loop .inv .2)
           ∙ colours-next (stopColour CatmullRom (now (s .args .positions)) (now (s .args .channels))) (now (s .args .ts)) (now (s .args .out)) (s .pre .room) i (omega arith) (kept-colour (now (s .args .positions)) (now (s .args .channels)) (s .pre .two) (s .pre .rising) _ (l .loop .k) (p .before .before .before .before .before .find-place .ensures) (p .before .before .before .before .pair-or .ensures) (p .before .before .before .renewed .ensures) (p .before .before .segment-colour .ensures)),
       p .before .before .before .renewed .ensures,
@@ -95,8 +95,8 @@ paint-catmull-spec =
     pair-or-requires
     renewed-requires
     segment-colour-requires
-    mul-put
-    put-requires
+    mul-put-colour
+    put-colour-requires
     add-i
     loop-less
     loop-again

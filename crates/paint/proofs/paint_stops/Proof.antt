@@ -8,14 +8,14 @@ use denote.Ref.{now}
 use lib.ListN.{length, take, drop}
 use lib.Seq.{sets, length-sets}
 use lib.Ieee.{Float}
-use Rattle.paint.proofs.Filling.{colours-next, colours-done}
-use Rattle.paint.specs.Canvas.{channelsOf, colours}
-use Rattle.paint.specs.Unchecked.{stopColour}
+use Rattle.paint_segments.proofs.Filling.{colours-next, colours-done}
+use Rattle.blend.specs.Channels.{channelsOf, coloursOf}
+use Rattle.paint.specs.Within.{stopColour}
 use Rattle.paint.proofs.paint_stops.Statement.{statement}
 use Rattle.paint.proofs.paint_stops.Tie as tie
 
 abbrev Inv-loop : tie.InvT-loop
-Inv-loop kind positions channels ts out₀ span k₀ i₀ out k i = (i ≤ length ts) × (length out ≡ length out₀) × (out ≡ colours (stopColour kind positions channels) (take i ts) ++ drop (4 * i) out₀)
+Inv-loop kind positions channels ts out₀ span k₀ i₀ out k i = (i ≤ length ts) × (length out ≡ length out₀) × (out ≡ coloursOf (stopColour kind positions channels) (take i ts) ++ drop (4 * i) out₀)
 
 abbrev μ-loop : tie.MeasureT-loop
 μ-loop kind positions channels ts out₀ span k₀ i₀ out k i = length ts - i
@@ -24,7 +24,7 @@ span-of-requires : tie.Need-span-of-requires Inv-loop μ-loop
 span-of-requires c κs = c .before .before .before .before .pre .two
 
 loop-holds : tie.Need-loop-holds Inv-loop μ-loop
-unfolding colours
+unfolding coloursOf
 loop-holds c = (omega arith, refl, refl)
 
 mul-t : tie.Need-mul-t Inv-loop μ-loop
@@ -42,11 +42,11 @@ pair-or-requires c κs = search needs
 colour-in-requires : tie.Need-colour-in-requires Inv-loop μ-loop
 colour-in-requires c κs = let p = c .before .before .before .before .before .before .before .before .before .before .pre in record { two = p .two; rising = p .rising; four = p .four; found = c .before .find-place .ensures }
 
-mul-put : tie.Need-mul-put Inv-loop μ-loop
-mul-put c = search needs
+mul-put-colour : tie.Need-mul-put-colour Inv-loop μ-loop
+mul-put-colour c = search needs
 
-put-requires : tie.Need-put-requires Inv-loop μ-loop
-put-requires c κs = search needs
+put-colour-requires : tie.Need-put-colour-requires Inv-loop μ-loop
+put-colour-requires c κs = search needs
 
 add-i : tie.Need-add-i Inv-loop μ-loop
 add-i c = search needs
@@ -61,8 +61,8 @@ loop-again c =
     let s = l .before .before .before .before .before .before in
     let i = l .loop .i in (
       omega arith,
-      ap length (p .put .ensures) ∙ simp length-sets (l .loop .inv .1),
-      p .put .ensures
+      ap length (p .put-colour .ensures) ∙ simp length-sets (l .loop .inv .1),
+      p .put-colour .ensures
           ∙ ap (λ (r : List Float). sets r (4 * i) (channelsOf (p .before .before .colour-in .result))) (l .loop .inv .2)
           ∙ colours-next (stopColour (s .args .kind) (now (s .args .positions)) (now (s .args .channels))) (now (s .args .ts)) (now (s .args .out)) (s .pre .room) i (omega arith) (p .before .before .colour-in .ensures),
     )
@@ -86,8 +86,8 @@ paint-stops-spec =
     find-place-requires
     pair-or-requires
     colour-in-requires
-    mul-put
-    put-requires
+    mul-put-colour
+    put-colour-requires
     add-i
     loop-less
     loop-again

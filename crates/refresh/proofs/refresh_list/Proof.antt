@@ -1,68 +1,55 @@
--- `refresh_list` meets its contract: a refresh, then the list from the changed ramp; a refusal of the first changes nothing. Assumes nothing.
-use mathlib.Core.Path.{sym, ap}
+-- `refresh_list` meets its contract: a refusal changes nothing; else the record is refreshed from the changed ramp and the list made of it. Assumes nothing.
+use mathlib.Core.Path.{sym, ap, _∙_}
 use mathlib.Core.List.{List}
 use native.Mathlib.Omega.{arith}
 use lib.ListN.{length, take}
 use lib.Ieee.{Float}
 use lib.Seq.{length-take-le}
 use Rattle.stops.specs.Lent.{rampOf}
-use Rattle.linearize.proofs.Calls.{thin-most}
-use Rattle.refresh.specs.RefreshDesk.{evaluationsOfRefreshed}
 use Rattle.refresh.proofs.EditChecks.{channels-there, allowed}
-use Rattle.refresh.proofs.RefreshAnswers.{refresh-most, done-fine, refresh-list-refused, refresh-list-done}
+use Rattle.refresh.proofs.RefreshAnswers.{refresh-list-refused, refresh-list-done}
 use borrow.Author.Needs.{needs}
 use Rattle.refresh.proofs.refresh_list.Statement.{statement}
 use Rattle.refresh.proofs.refresh_list.Tie as tie
 
-refresh-requires : tie.Need-refresh-requires
-refresh-requires c κs = search needs
+check-refresh-requires : tie.Need-check-refresh-requires
+check-refresh-requires c κs = search needs
 
 enum-known-n : tie.Need-enum-known-n
 enum-known-n c = search needs
 
-enum-known-n-2 : tie.Need-enum-known-n-2
-enum-known-n-2 c = search needs
+enum-told : tie.Need-enum-told
+enum-told c = search needs
 
 slice-aggregate-change : tie.Need-slice-aggregate-change
 slice-aggregate-change c = search needs
 
 change-requires : tie.Need-change-requires
 change-requires c κs =
-    let a = c .before .before .before .before .before .before .before .before .before .before .before .before .before .before .before .before .before .before .args in
-    let f = c .before .before .before .before .before .before .before .before .refresh in
-    let n = c .before .before .n2 .given in
-    let there = channels-there _ _ (allowed _ _ _ (done-fine _ _ _ _ _ (f .ensures) _ (n .1))) in
+    let told = c .before in
+    let fine = sym (told .before .before .check-refresh .ensures) ∙ told .enum-told .given .1 in
+    let there = channels-there _ _ (allowed _ _ _ fine) in
     (there .0, there .1)
 
 array-share-prefix-copy : tie.Need-array-share-prefix-copy
 array-share-prefix-copy c =
-    let a = c .before .before .before .before .before .before .before .before .before .before .before .before .before .before .before .before .before .before .before .before .args in
-    let f = c .before .before .before .before .before .before .before .before .before .before .refresh in
-    let n = c .before .before .before .before .n2 .given in
-    let there = channels-there _ _ (allowed _ _ _ (done-fine _ _ _ _ _ (f .ensures) _ (n .1))) in
-    omega (arith, there .1, c .before .change .kept .1 .1 .1 .0)
+    let changed = c .before in
+    let told = changed .before .before in
+    let fine = sym (told .before .before .check-refresh .ensures) ∙ told .enum-told .given .1 in
+    omega (arith, channels-there _ _ (allowed _ _ _ fine) .1, changed .change .kept .1 .1 .1 .0)
 
-slice-aggregate-thin : tie.Need-slice-aggregate-thin
-slice-aggregate-thin c =
-    let a = c .before .before .before .before .before .before .before .before .before .before .before .before .before .before .before .before .before .before .before .before .before .args in
-    let f = c .before .before .before .before .before .before .before .before .before .before .before .refresh in
-    let n = c .before .before .before .before .before .n2 .given in
-    let there = channels-there _ _ (allowed _ _ _ (done-fine _ _ _ _ _ (f .ensures) _ (n .1))) in
-    sym (length-take-le _ (c .before .before .change .last .1 .1 .1 .0) (omega (arith, there .1, c .before .before .change .kept .1 .1 .1 .0)))
+slice-aggregate-relist : tie.Need-slice-aggregate-relist
+slice-aggregate-relist c =
+    let changed = c .before .before in
+    let told = changed .before .before in
+    let fine = sym (told .before .before .check-refresh .ensures) ∙ told .enum-told .given .1 in
+    sym (length-take-le _ (changed .change .last .1 .1 .1 .0) (omega (arith, channels-there _ _ (allowed _ _ _ fine) .1, changed .change .kept .1 .1 .1 .0)))
 
-thin-requires : tie.Need-thin-requires
-thin-requires c κs = search needs
+kept-cells-requires : tie.Need-kept-cells-requires
+kept-cells-requires c κs = search needs
 
-with-refresh-requires : tie.Need-with-refresh-requires
-with-refresh-requires c κs =
-    let a = c .before .before .before .before .before .before .before .before .before .before .before .before .before .before .before .before .before .before .before .before .before .before .before .before .before .before .before .before .before .before .args in
-    let f = c .before .before .before .before .before .before .before .before .before .before .before .before .before .before .before .before .before .before .before .before .refresh in
-    let n = c .before .before .before .before .before .before .before .before .before .before .before .before .before .before .n2 .given in
-    let h = c .before .before .before .before .thin in
-    let copy = c .before .before .before .before .before .before .before .before .before .before .before .change .last .1 .1 .1 .0 in (
-      omega (arith, ap evaluationsOfRefreshed (n .1), refresh-most _ _ _ _ _ (f .ensures)),
-      thin-most _ _ _ _ _ _ (h .ensures),
-    )
+relist-requires : tie.Need-relist-requires
+relist-requires c κs = search needs
 
 same-length : tie.Need-same-length
 same-length c = search needs
@@ -71,10 +58,7 @@ same-length-2 : tie.Need-same-length-2
 same-length-2 c = search needs
 
 returns : tie.Need-returns
-returns c =
-    let a = c .before .before .before .before .before .before .before .before .before .before .before .before .before .before .before .before .before .args in
-    let f = c .before .before .before .before .before .before .before .refresh in
-    refresh-list-refused _ _ _ _ _ (f .ensures) _ _ (c .before .n .given .1)
+returns c = refresh-list-refused _ _ _ _ _ _ (sym (c .before .before .before .check-refresh .ensures) ∙ c .before .n .given .1)
 
 same-length-3 : tie.Need-same-length-3
 same-length-3 c = search needs
@@ -90,26 +74,31 @@ same-length-6 c = search needs
 
 returns-2 : tie.Need-returns-2
 returns-2 c =
-    let a = c .before .before .before .before .before .before .before .before .before .before .before .before .before .before .before .before .before .before .before .before .before .before .before .before .before .before .before .before .before .before .before .args in
-    let f = c .before .before .before .before .before .before .before .before .before .before .before .before .before .before .before .before .before .before .before .before .before .refresh in
-    let n = c .before .before .before .before .before .before .before .before .before .before .before .before .before .before .before .n2 .given in
-    let h = c .before .before .before .before .before .thin in
-    let copy = c .before .before .before .before .before .before .before .before .before .before .before .before .change .last .1 .1 .1 .0 in
-    refresh-list-done _ _ _ _ _ (f .ensures) _ (n .1) (rampOf (a .kind) (a .positions .now) (take (length (a .channels .now)) copy) (a .codes .now)) _ _ _ (ap (λ (l : List Float). rampOf (a .kind) (a .positions .now) l (a .codes .now)) (c .before .before .before .before .before .before .before .before .before .before .before .before .change .ensures)) (h .ensures) (c .with-refresh .ensures)
+    let listed = c .before .before .before .before .before .before .before .before in
+    let kept = listed .before .before .before .before .before in
+    let changed = kept .before .before .before in
+    let told = changed .before .before in
+    let checked = told .before .before in
+    let a = checked .before .before .before .before .before .before .before .before .before .before .args in
+    let fine = sym (checked .check-refresh .ensures) ∙ told .enum-told .given .1 in
+    let copy = take (length (a .channels .now)) (changed .change .last .1 .1 .1 .0) in
+    refresh-list-done _ _ _ _ fine (rampOf (a .kind) (a .positions .now) copy (a .codes .now)) _
+    (ap (λ (l : List Float). rampOf (a .kind) (a .positions .now) l (a .codes .now)) (changed .change .ensures))
+    (kept .kept-cells .ensures) _ _ (listed .relist .ensures)
 
 pub refresh-list-spec : {M : Type 1} → statement M
 refresh-list-spec =
     tie.close
     (tie.spec
-    refresh-requires
+    check-refresh-requires
     enum-known-n
-    enum-known-n-2
+    enum-told
     slice-aggregate-change
     change-requires
     array-share-prefix-copy
-    slice-aggregate-thin
-    thin-requires
-    with-refresh-requires
+    slice-aggregate-relist
+    kept-cells-requires
+    relist-requires
     same-length
     same-length-2
     returns

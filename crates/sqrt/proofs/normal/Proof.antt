@@ -3,9 +3,9 @@ use borrow.Author.Needs.{needs}
 use native.Mathlib.Omega.{arith}
 use mathlib.Core.Path.{_≡_, sym, _∙_}
 use mathlib.Core.Logic.{⊎-elim}
-use Prim.Native.Nat.{ℕ, _+_, _-_, _*_, _/_}
+use Prim.Native.Nat.{_+_, _-_, _*_, _/_}
 use Rattle.sqrt.proofs.Cases.{at-normal}
-use Rattle.sqrt.proofs.Shift.{zeros, scaled, digits, still, scaled-even, scaled-odd, dropped, Taken, taken}
+use Rattle.sqrt.proofs.Shift.{zeros, scaled, digits, still, scaled-even, scaled-odd, taken, same-root}
 use Rattle.sqrt.proofs.normal.Statement.{statement}
 use Rattle.sqrt.proofs.normal.Tie as tie
 
@@ -13,14 +13,6 @@ n-is : (c : tie.Joined1) → c .if1 .s * 8388608 ≡ scaled (digits (c .before .
 n-is c =
     let b = c .before .args .b in
     ⊎-elim (λ w. scaled-even b (c .if1 .s) (w .0 .taken) (w .1)) (λ w. scaled-odd b (c .if1 .s) (w .0 .left) (w .1)) (c .if1 .came)
-
-k-is : (b : ℕ) → (b / 8388608 + 125) / 2 ≡ dropped (digits b) (b / 8388608)
-k-is b = let e = still b in omega arith
-
-asked : (c : tie.Joined1) → Taken (digits (c .before .args .b)) (c .before .args .b / 8388608) (c .if1 .s * 8388608) ((c .before .args .b / 8388608 + 125) / 2)
-asked c =
-    let b = c .before .args .b in
-    taken (digits b) (b / 8388608) (c .if1 .s * 8388608) ((b / 8388608 + 125) / 2) (omega arith) (omega arith) (omega arith) (omega arith) (n-is c) (k-is b)
 
 mul-s : tie.Need-mul-s
 mul-s c = search needs
@@ -48,9 +40,14 @@ add-t10 c = search needs
 
 returns : tie.Need-returns
 returns c =
-    let a = asked (c .before) in
-    let b = c .before .before .args .b in
-    ((a .low, a .high, a .few), a .is ∙ sym (at-normal b (c .before .before .pre .0) (c .before .before .pre .1)))
+    let s = c .before .before in
+    let b = s .args .b in
+    let f = b / 8388608 in
+    let e = still b in
+    record {
+      fit = taken (digits b) f _ _ (omega arith) (omega arith) (omega arith) (omega arith) (n-is (c .before)) (omega arith);
+      is = same-root (digits b) f _ _ (omega arith) (omega arith) (omega arith) (n-is (c .before)) (omega arith) ∙ sym (at-normal b (s .pre .0) (s .pre .1));
+    }
 
 pub normal-spec : {M : Type 1} → statement M
 normal-spec = tie.close (tie.spec mul-s rem-s mul-s-2 mul-s-3 add-s cast-t8 mul-t9 add-t10 returns)

@@ -10,7 +10,7 @@ use lib.Ieee.{Float, nan, binary32, fits, isNan, toBits, ofBits, div}
 use lib.Ieee.Bits.{ofBits-toBits, toBits-lt}
 use Rattle.sqrt.specs.Root.{rootOf}
 use lib.Ieee.Compare.{differs-from-itself}
-use Rattle.sqrt.proofs.Values.{is-number}
+use Rattle.float.proofs.Patterns.{is-number}
 use Rattle.sqrt.proofs.Cases.{at-zero, at-itself, at-below}
 use Rattle.sqrt.proofs.root.Statement.{statement}
 use Rattle.sqrt.proofs.root.Tie as tie
@@ -47,10 +47,10 @@ read-requires : tie.Need-read-requires
 read-requires c κs = search needs
 
 root-of-requires : tie.Need-root-of-requires
-root-of-requires c κs = search needs
+root-of-requires c κs = c .read .ensures .fit
 
 returns-2 : tie.Need-returns-2
-returns-2 c = by-pattern (c .before .before .before .before .before) (c .root-of .result) (sym (c .root-of .ensures ∙ c .before .read .ensures .1))
+returns-2 c = by-pattern (c .before .before .before .before .before) (c .root-of .result) (sym (c .root-of .ensures ∙ c .before .read .ensures .is))
 
 returns-3 : tie.Need-returns-3
 returns-3 c =

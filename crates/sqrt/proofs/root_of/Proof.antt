@@ -2,16 +2,13 @@
 use borrow.Author.Needs.{needs}
 use native.Mathlib.Omega.{arith}
 use Prim.Native.Nat.{_+_, _*_}
-use Rattle.sqrt.proofs.Values.{number-pattern}
+use Rattle.float.proofs.Patterns.{number-pattern}
 use Rattle.sqrt.proofs.Shift.{Found, found}
 use Rattle.sqrt.proofs.root_of.Statement.{statement}
 use Rattle.sqrt.proofs.root_of.Tie as tie
 
-done : (c : tie.After-nearest-root) → Found (c .before .before .args .n) (c .before .before .args .k) (c .nearest-root .result)
-done c = let s = c .before .before in found (s .args .n) (s .args .k) (c .nearest-root .result) (s .pre .0) (s .pre .1) (s .pre .2) (c .nearest-root .ensures)
-
-guess-requires : tie.Need-guess-requires
-guess-requires c κs = search needs
+done : (c : tie.After-nearest-root) → Found (c .before .args .n) (c .before .args .k) (c .nearest-root .result)
+done c = let s = c .before in found (s .args .n) (s .args .k) (c .nearest-root .result) (s .pre) (c .nearest-root .ensures)
 
 nearest-root-requires : tie.Need-nearest-root-requires
 nearest-root-requires c κs = search needs
@@ -20,16 +17,16 @@ cast-q : tie.Need-cast-q
 cast-q c = let h = done c .high in omega arith
 
 mul-result : tie.Need-mul-result
-mul-result c = search needs
+mul-result c = let h = c .before .pre .few in omega arith
 
 add-result : tie.Need-add-result
-add-result c = let h = done c .high in omega arith
+add-result c = let h = done c .high in let l = c .before .pre .few in omega arith
 
 float-from-bits-result : tie.Need-float-from-bits-result
-float-from-bits-result c = let h = done c .high in number-pattern (c .before .before .args .k * 8388608 + c .nearest-root .result) (omega arith)
+float-from-bits-result c = let h = done c .high in let l = c .before .pre .few in number-pattern (c .before .args .k * 8388608 + c .nearest-root .result) (omega arith)
 
 returns : tie.Need-returns
 returns c = done c .is
 
 pub root-of-spec : {M : Type 1} → statement M
-root-of-spec = tie.close (tie.spec guess-requires nearest-root-requires cast-q mul-result add-result float-from-bits-result returns)
+root-of-spec = tie.close (tie.spec nearest-root-requires cast-q mul-result add-result float-from-bits-result returns)

@@ -2,11 +2,11 @@
 use borrow.Author.Needs.{needs}
 use native.Mathlib.Nat.{mul-one}
 use native.Mathlib.Omega.{arith}
-use mathlib.Core.Path.{_≡_, refl, sym, ap, _∙_}
-use Prim.Native.Nat.{ℕ, _+_, _-_, _*_, _/_, _%_, _^_, _<_}
+use mathlib.Core.Path.{refl, sym, ap, _∙_}
+use Prim.Native.Nat.{ℕ, _-_, _*_, _^_, _<_}
 use Rattle.sqrt.specs.Root.{nearestRoot}
 use Rattle.sqrt.proofs.Cases.{at-subnormal}
-use Rattle.sqrt.proofs.Shift.{Moved, moved, zeros, exact, moved-exact, Taken, taken}
+use Rattle.sqrt.proofs.Shift.{Moved, moved, zeros, exact, moved-exact, taken, same-root}
 use Rattle.sqrt.proofs.subnormal.Statement.{statement}
 use Rattle.sqrt.proofs.subnormal.Tie as tie
 
@@ -15,15 +15,6 @@ few c = omega arith
 
 shift : (c : tie.Start) → Moved (c .args .b)
 shift c = moved (c .args .b) (c .pre .0) (few c)
-
--- n as the machine has it
-abbrev shifted : ℕ → ℕ
-shifted b = (b * 2 ^ zeros b % 2 ^ 32) * 2 ^ (23 + (128 - zeros b) % 2) % 2 ^ 64
-
-asked : (c : tie.Start) → Taken (c .args .b) 1 (shifted (c .args .b)) ((128 - zeros (c .args .b)) / 2 - 1)
-asked c =
-    let b = c .args .b in
-    taken b 1 (shifted b) ((128 - zeros b) / 2 - 1) (c .pre .0) (few c) (omega arith) (omega arith) (exact b (128 - zeros b) (c .pre .0) (few c)) refl
 
 sub-z : tie.Need-sub-z
 sub-z c = let h = shift c .enough in omega arith
@@ -57,9 +48,13 @@ add-t14 c = let h = shift c .high in let e = moved-exact (c .args .b) (c .pre .0
 
 returns : tie.Need-returns
 returns c =
-    let a = asked c in
     let b = c .args .b in
-    ((a .low, a .high, a .few), a .is ∙ ap (λ (n : ℕ). nearestRoot (n * 2 ^ 149)) (mul-one b) ∙ sym (at-subnormal b (c .pre .0) (c .pre .1)))
+    let p = c .pre .0 in
+    let n-is = exact b (128 - zeros b) p (few c) in
+    record {
+      fit = taken b 1 _ _ p (few c) (omega arith) (omega arith) n-is refl;
+      is = same-root b 1 _ _ p (few c) (omega arith) n-is refl ∙ ap (λ (n : ℕ). nearestRoot (n * 2 ^ 149)) (mul-one b) ∙ sym (at-subnormal b p (c .pre .1));
+    }
 
 pub subnormal-spec : {M : Type 1} → statement M
 subnormal-spec = tie.close (tie.spec sub-z sub-c shl-s cast-t6 add-t7 cast-t8 shl-t9 sub-t11 mul-t13 add-t14 returns)

@@ -4,7 +4,7 @@ use mathlib.Core.Path.{ap, _∙_}
 use mathlib.Core.List.{List}
 use Prim.Native.Nat.{ℕ}
 use lib.ListN.{length}
-use Rattle.colorgrad_c.specs.Gimp.{named}
+use Rattle.plain.specs.Name.{named}
 use borrow.Author.Needs.{needs}
 use Rattle.colorgrad_c.proofs.gimp.colorgrad_name.Statement.{statement}
 use Rattle.colorgrad_c.proofs.gimp.colorgrad_name.Tie as tie

@@ -2,7 +2,7 @@
 use mathlib.Core.Path.{refl}
 use Rattle.refusals.specs.Refusals.{misshapen}
 use Rattle.linearize.specs.declared.Listed.the-variants as listed
-use Rattle.colorgrad_c.proofs.Coding.{of-a-kind, of-no-kind}
+use Rattle.plain.proofs.Coding.{of-a-kind, of-no-kind}
 use borrow.Author.Needs.{needs}
 use Rattle.colorgrad_c.proofs.lists.colorgrad_flatten.Statement.{statement}
 use Rattle.colorgrad_c.proofs.lists.colorgrad_flatten.Tie as tie
@@ -41,7 +41,10 @@ same-length-4 : tie.Need-same-length-4
 same-length-4 c = search needs
 
 returns-2 : tie.Need-returns-2
-returns-2 c = of-a-kind _ (c .before .before .before .before .before .before .before .before .before .before .before .before .before .before .before .before .before .kind-of .ensures) (c .before .before .before .before .before .before .before .before .before .before .before .before .before .before .before .known .given .1) (c .before .before .before .before .before .before .before .before .before .flatten .ensures) (c .listed-shown2 .ensures)
+returns-2 c =
+    let called = c .before .before .before .before .before .before .before .before .before in
+    let named = called .before .before .before .before .before .before in
+    of-a-kind _ (named .before .before .kind-of .ensures) (named .known .given .1) (called .flatten .ensures) (c .listed-shown2 .ensures)
 
 pub colorgrad-flatten-spec : {M : Type 1} → statement M
 colorgrad-flatten-spec =

@@ -1,8 +1,8 @@
 -- `colorgrad_sample` meets its contract: the call of `linearize` for the kind of the code, its answer shown; a code that names none is refused. Assumes nothing.
 use mathlib.Core.Path.{refl}
 use Rattle.refusals.specs.Refusals.{misshapen}
-use Rattle.linearize.specs.declared.Sampled.the-variants as sampled
-use Rattle.colorgrad_c.proofs.Coding.{of-a-kind, of-no-kind}
+use Rattle.sampling.specs.declared.Sampled.the-variants as sampled
+use Rattle.plain.proofs.Coding.{of-a-kind, of-no-kind}
 use borrow.Author.Needs.{needs}
 use Rattle.colorgrad_c.proofs.lists.colorgrad_sample.Statement.{statement}
 use Rattle.colorgrad_c.proofs.lists.colorgrad_sample.Tie as tie
@@ -35,7 +35,10 @@ same-length-2 : tie.Need-same-length-2
 same-length-2 c = search needs
 
 returns-2 : tie.Need-returns-2
-returns-2 c = of-a-kind _ (c .before .before .before .before .before .before .before .before .before .before .before .kind-of .ensures) (c .before .before .before .before .before .before .before .before .before .known .given .1) (c .before .before .before .before .before .sample .ensures) (c .sampled-shown2 .ensures)
+returns-2 c =
+    let called = c .before .before .before .before .before in
+    let named = called .before .before .before .before in
+    of-a-kind _ (named .before .before .kind-of .ensures) (named .known .given .1) (called .sample .ensures) (c .sampled-shown2 .ensures)
 
 pub colorgrad-sample-spec : {M : Type 1} → statement M
 colorgrad-sample-spec =

@@ -1,6 +1,6 @@
 -- `colorgrad_domain` meets its contract: the domain for the kind of the code; a code that names none is refused. Assumes nothing.
 use mathlib.Core.Path.{refl}
-use Rattle.colorgrad_c.proofs.Coding.{of-a-kind, of-no-kind, domain-is}
+use Rattle.plain.proofs.Coding.{of-a-kind, of-no-kind, domain-is}
 use borrow.Author.Needs.{needs}
 use Rattle.colorgrad_c.proofs.ramps.colorgrad_domain.Statement.{statement}
 use Rattle.colorgrad_c.proofs.ramps.colorgrad_domain.Tie as tie

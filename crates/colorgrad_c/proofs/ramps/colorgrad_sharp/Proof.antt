@@ -1,6 +1,4 @@
 -- `colorgrad_sharp` meets its contract: the answer of `build`, shown, and what that answer leaves. Assumes nothing.
-use mathlib.Core.Path.{ap, _∙_}
-use Rattle.colorgrad_c.specs.Ramps.{builtShown}
 use borrow.Author.Needs.{needs}
 use Rattle.colorgrad_c.proofs.ramps.colorgrad_sharp.Statement.{statement}
 use Rattle.colorgrad_c.proofs.ramps.colorgrad_sharp.Tie as tie
@@ -18,7 +16,7 @@ same-length-2 : tie.Need-same-length-2
 same-length-2 c = search needs
 
 returns : tie.Need-returns
-returns c = let e = c .before .before .before .before .before .build .ensures in (c .built-shown .ensures ∙ ap builtShown (e .answer), (e .positions, e .channels))
+returns c = record { answer = _; promised = c .before .before .before .before .before .build .ensures; shown = c .built-shown .ensures }
 
 pub colorgrad-sharp-spec : {M : Type 1} → statement M
 colorgrad-sharp-spec =

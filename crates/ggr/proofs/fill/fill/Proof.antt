@@ -5,20 +5,22 @@ use native.Mathlib.Omega.{arith}
 use mathlib.Core.Path.{refl}
 use lib.ListN.{drop}
 use Rattle.text.specs.Text.{lines}
+use Rattle.segment.specs.Store.{storeOf}
 use Rattle.ggr.specs.File.{segments}
-use Rattle.ggr.proofs.Filling.{Going, going-start, short, bad, other, room-for, going-on, full}
+use Rattle.ggr.proofs.Filling.{Going, going-start, short, bad, going-on, full}
 use Rattle.ggr.proofs.fill.fill.Statement.{statement}
 use Rattle.ggr.proofs.fill.fill.Tie as tie
 
 abbrev Inv-loop : tie.InvT-loop
-Inv-loop s from n fg bg p₀ c₀ k₀ at₀ i₀ p c k at i = Going (segments fg bg n 4 (lines (drop from s))) s fg bg n p₀ c₀ k₀ p c k at i
+Inv-loop s from n fg bg p₀ c₀ k₀ at₀ i₀ p c k at i =
+    Going (segments fg bg n 4 (lines (drop from s))) s fg bg n (storeOf p₀ c₀ k₀) (storeOf p c k) at i
 
 abbrev μ-loop : tie.MeasureT-loop
 μ-loop s from n fg bg p₀ c₀ k₀ at₀ i₀ p c k at i = n - i
 
 loop-holds : tie.Need-loop-holds Inv-loop μ-loop
 loop-holds c = let a = c .before .before .before .before .args in
-    going-start _ (a .s .now) (a .fg) (a .bg) (a .n) (a .p .now) (a .c .now) (a .k .now) (a .from) refl
+    going-start _ (a .s .now) (a .fg) (a .bg) (a .n) _ (a .from) refl
 
 same-length : tie.Need-same-length Inv-loop μ-loop
 same-length c = search needs
@@ -30,17 +32,19 @@ same-length-3 : tie.Need-same-length-3 Inv-loop μ-loop
 same-length-3 c = search needs
 
 returns : tie.Need-returns Inv-loop μ-loop
-returns c = let l = c .before .before in let a = l .before .before .before .before .before .args in
-    short _ (a .s .now) (a .fg) (a .bg) (a .n) (a .p .now) (a .c .now) (a .k .now) (l .loop .p) (l .loop .c) (l .loop .k) (l .loop .at) (l .loop .i) (l .loop .inv) (search needs) (c .if1 .taken)
+returns c =
+    let l = c .before .before in
+    let a = l .before .before .before .before .before .args in
+    short _ (a .s .now) (a .fg) (a .bg) (a .n) _ _ (l .loop .at) (l .loop .i) (l .loop .inv) (search needs) (c .if1 .taken)
 
 segment-at-requires : tie.Need-segment-at-requires Inv-loop μ-loop
 segment-at-requires c κs = search needs
 
-enum-told : tie.Need-enum-told Inv-loop μ-loop
-enum-told c = search needs
+enum-known-o : tie.Need-enum-known-o Inv-loop μ-loop
+enum-known-o c = search needs
 
-add-t16 : tie.Need-add-t16 Inv-loop μ-loop
-add-t16 c = search needs
+add-t17 : tie.Need-add-t17 Inv-loop μ-loop
+add-t17 c = search needs
 
 same-length-4 : tie.Need-same-length-4 Inv-loop μ-loop
 same-length-4 c = search needs
@@ -52,14 +56,36 @@ same-length-6 : tie.Need-same-length-6 Inv-loop μ-loop
 same-length-6 c = search needs
 
 returns-2 : tie.Need-returns-2 Inv-loop μ-loop
-returns-2 c = let q = c .before .before in let l = q .before .before .before in let a = l .before .before .before .before .before .args in
-    bad _ (a .s .now) (a .fg) (a .bg) (a .n) (a .p .now) (a .c .now) (a .k .now) (l .loop .p) (l .loop .c) (l .loop .k) (l .loop .at) (l .loop .i) (l .loop .inv) (search needs) (search needs) (q .segment-at .result .read) (q .segment-at .result .next) (q .segment-at .ensures) (c .enum-told .given .1)
+returns-2 c =
+    let q = c .before .before .before in
+    let l = q .before .before .before in
+    let a = l .before .before .before .before .before .args in
+    bad _ (a .s .now) (a .fg) (a .bg) (a .n) _ _ (l .loop .at) (l .loop .i) (l .loop .inv) (search needs) (search needs) (q .segment-at .result .read) (q .segment-at .result .next) (q .segment-at .ensures) _ (c .before .o .given .1)
 
-enum-told-2 : tie.Need-enum-told-2 Inv-loop μ-loop
-enum-told-2 c = search needs
+enum-known-o-2 : tie.Need-enum-known-o-2 Inv-loop μ-loop
+enum-known-o-2 c = search needs
 
-add-t17 : tie.Need-add-t17 Inv-loop μ-loop
-add-t17 c = search needs
+put-segment-requires : tie.Need-put-segment-requires Inv-loop μ-loop
+put-segment-requires c κs = search needs
+
+add-i : tie.Need-add-i Inv-loop μ-loop
+add-i c =
+    let put = c .before .before .before .before .before .before in
+    let l = put .before .before .before .before .before .before .before .before .before .before in
+    omega (arith, put .before .before .before .before .before .before .before .before .before .loop-test .taken, l .before .before .before .before .before .pre .0)
+
+loop-less : tie.Need-loop-less Inv-loop μ-loop
+loop-less c = search needs
+
+loop-again : tie.Need-loop-again Inv-loop μ-loop
+loop-again c =
+    let put = c .before .before .before .before .before .before in
+    let valid = put .before .before .before .before .before in
+    let q = valid .before .before in
+    let l = q .before .before .before in
+    let start = l .before .before .before .before .before in
+    let a = start .args in
+    going-on _ (a .s .now) (a .fg) (a .bg) (a .n) _ _ (l .loop .at) (l .loop .i) (l .loop .inv) (search needs) (search needs) (q .segment-at .result .read) (q .segment-at .result .next) (q .segment-at .ensures) (start .pre .1) (start .pre .2) (start .pre .3) _ (valid .o2 .given .1) _ (put .put-segment .ensures)
 
 same-length-7 : tie.Need-same-length-7 Inv-loop μ-loop
 same-length-7 c = search needs
@@ -71,39 +97,10 @@ same-length-9 : tie.Need-same-length-9 Inv-loop μ-loop
 same-length-9 c = search needs
 
 returns-3 : tie.Need-returns-3 Inv-loop μ-loop
-returns-3 c = let q = c .before .before in let l = q .before .before .before in let a = l .before .before .before .before .before .args in
-    other _ (a .s .now) (a .fg) (a .bg) (a .n) (a .p .now) (a .c .now) (a .k .now) (l .loop .p) (l .loop .c) (l .loop .k) (l .loop .at) (l .loop .i) (l .loop .inv) (search needs) (search needs) (q .segment-at .result .read) (q .segment-at .result .next) (q .segment-at .ensures) (c .enum-told2 .given .1)
-
-enum-known-o : tie.Need-enum-known-o Inv-loop μ-loop
-enum-known-o c = search needs
-
-put-requires : tie.Need-put-requires Inv-loop μ-loop
-put-requires c κs = let q = c .before .before .before .before .before .before in let l = q .before .before .before in let a = l .before .before .before .before .before .args in
-    room-for _ (a .s .now) (a .fg) (a .bg) (a .n) (a .p .now) (a .c .now) (a .k .now) (l .loop .p) (l .loop .c) (l .loop .k) (l .loop .at) (l .loop .i) (l .loop .inv) (search needs) (search needs) (q .segment-at .result .read) (q .segment-at .result .next) (q .segment-at .ensures) (l .before .before .before .before .before .pre .1) (l .before .before .before .before .before .pre .2) (l .before .before .before .before .before .pre .3)
-
-add-i : tie.Need-add-i Inv-loop μ-loop
-add-i c = let q = c .before .before .before .before .before .before .before .before .before .before .before .before .before in let l = q .before .before .before in let a = l .before .before .before .before .before .args in
-    omega (arith, q .before .before .loop-test .taken, l .before .before .before .before .before .pre .0)
-
-loop-less : tie.Need-loop-less Inv-loop μ-loop
-loop-less c = search needs
-
-loop-again : tie.Need-loop-again Inv-loop μ-loop
-loop-again c = let q = c .before .before .before .before .before .before .before .before .before .before .before .before .before in let l = q .before .before .before in let a = l .before .before .before .before .before .args in
-    going-on _ (a .s .now) (a .fg) (a .bg) (a .n) (a .p .now) (a .c .now) (a .k .now) (l .loop .p) (l .loop .c) (l .loop .k) (l .loop .at) (l .loop .i) (l .loop .inv) (search needs) (search needs) (q .segment-at .result .read) (q .segment-at .result .next) (q .segment-at .ensures) (l .before .before .before .before .before .pre .1) (l .before .before .before .before .before .pre .2) (l .before .before .before .before .before .pre .3) _ (c .before .before .before .before .before .before .before .before .before .before .before .o .given .1) _ _ _ (c .before .before .before .before .before .before .put .ensures .0) (c .before .before .before .before .before .before .put .ensures .1) (c .before .before .before .before .before .before .put .ensures .2)
-
-same-length-10 : tie.Need-same-length-10 Inv-loop μ-loop
-same-length-10 c = search needs
-
-same-length-11 : tie.Need-same-length-11 Inv-loop μ-loop
-same-length-11 c = search needs
-
-same-length-12 : tie.Need-same-length-12 Inv-loop μ-loop
-same-length-12 c = search needs
-
-returns-4 : tie.Need-returns-4 Inv-loop μ-loop
-returns-4 c = let l = c .before in let a = l .before .before .before .before .before .args in
-    full _ (a .s .now) (a .fg) (a .bg) (a .n) (a .p .now) (a .c .now) (a .k .now) (l .loop .p) (l .loop .c) (l .loop .k) (l .loop .at) (l .loop .i) (l .loop .inv) (omega arith)
+returns-3 c =
+    let l = c .before in
+    let a = l .before .before .before .before .before .args in
+    full _ (a .s .now) (a .fg) (a .bg) (a .n) _ _ (l .loop .at) (l .loop .i) (l .loop .inv) (omega arith)
 
 pub fill-spec : {M : Type 1} → statement M
 fill-spec =
@@ -117,24 +114,18 @@ fill-spec =
     same-length-3
     returns
     segment-at-requires
-    enum-told
-    add-t16
+    enum-known-o
+    add-t17
     same-length-4
     same-length-5
     same-length-6
     returns-2
-    enum-told-2
-    add-t17
-    same-length-7
-    same-length-8
-    same-length-9
-    returns-3
-    enum-known-o
-    put-requires
+    enum-known-o-2
+    put-segment-requires
     add-i
     loop-less
     loop-again
-    same-length-10
-    same-length-11
-    same-length-12
-    returns-4)
+    same-length-7
+    same-length-8
+    same-length-9
+    returns-3)

@@ -1,13 +1,12 @@
 -- `read_into` meets its contract: the refusals in their order, then what the header leads to. Assumes nothing.
-use borrow.Author.Needs.{needs}
-use Prim.Native.Nat.{ℕ, _-_, _≤_}
+use Prim.Native.Nat.{_≤_}
 use native.Mathlib.Omega.{arith}
-use mathlib.Core.Path.{sym, ap, _∙_}
 use lib.ListN.{length}
 use Rattle.float.proofs.Flags.{failed, passed}
-use Rattle.ggr.specs.File.{textLines, fromLines, roomOf}
+use Rattle.ggr.specs.File.{roomOf}
 use Rattle.ggr.proofs.Filling.{filled-no}
-use Rattle.ggr.proofs.Finish.{file-fg, file-bg, file-text, file-lines, filled-as, lead-refuse, lead-fits, lead-counted, room-fits}
+use Rattle.ggr.proofs.Finish.{file-fg, file-bg, file-text, file-refuse, file-counted, filled-as, lead-fits, room-fits}
+use borrow.Author.Needs.{needs}
 use Rattle.ggr.proofs.fill.read_into.Statement.{statement}
 use Rattle.ggr.proofs.fill.read_into.Tie as tie
 
@@ -15,28 +14,30 @@ is-finite-colour-requires : tie.Need-is-finite-colour-requires
 is-finite-colour-requires c κs = search needs
 
 returns : tie.Need-returns
-returns c = let a = c .before .before .before .before .before .before .args in
-    filled-no _ 2 0 _ _ _ _ _ _ (file-fg (roomOf (length (a .p .now)) (length (a .c .now)) (length (a .k .now))) (a .fg) (a .bg) (a .s .now) (failed (c .if1 .taken) (c .before .is-finite-colour .ensures)))
+returns c = filled-no _ _ _ _ (file-fg _ _ _ _ (failed (c .if1 .taken) (c .before .is-finite-colour .ensures)))
 
 is-finite-colour-requires-2 : tie.Need-is-finite-colour-requires-2
 is-finite-colour-requires-2 c κs = search needs
 
 returns-2 : tie.Need-returns-2
-returns-2 c = let b = c .before .before in let a = b .before .before .before .before .before .before .args in
-    filled-no _ 2 0 _ _ _ _ _ _ (file-bg (roomOf (length (a .p .now)) (length (a .c .now)) (length (a .k .now))) (a .fg) (a .bg) (a .s .now) (passed (b .if1 .left) (b .before .is-finite-colour .ensures)) (failed (c .if2 .taken) (c .before .is-finite-colour2 .ensures)))
+returns-2 c =
+    let one = c .before .before in
+    filled-no _ _ _ _ (file-bg _ _ _ _ (passed (one .if1 .left) (one .before .is-finite-colour .ensures)) (failed (c .if2 .taken) (c .before .is-finite-colour2 .ensures)))
 
 is-fit-text-requires : tie.Need-is-fit-text-requires
 is-fit-text-requires c κs = search needs
 
 returns-3 : tie.Need-returns-3
-returns-3 c = let d = c .before .before in let b = d .before .before in let a = b .before .before .before .before .before .before .args in
-    filled-no _ 10 0 _ _ _ _ _ _ (file-text (roomOf (length (a .p .now)) (length (a .c .now)) (length (a .k .now))) (a .fg) (a .bg) (a .s .now) (passed (b .if1 .left) (b .before .is-finite-colour .ensures)) (passed (d .if2 .left) (d .before .is-finite-colour2 .ensures)) (failed (c .if3 .taken) (c .before .is-fit-text .ensures)))
+returns-3 c =
+    let two = c .before .before in
+    let one = two .before .before in
+    filled-no _ _ _ _ (file-text _ _ _ _ (passed (one .if1 .left) (one .before .is-finite-colour .ensures)) (passed (two .if2 .left) (two .before .is-finite-colour2 .ensures)) (failed (c .if3 .taken) (c .before .is-fit-text .ensures)))
 
 room-of-requires : tie.Need-room-of-requires
 room-of-requires c κs = search needs
 
-header-requires : tie.Need-header-requires
-header-requires c κs = search needs
+read-header-requires : tie.Need-read-header-requires
+read-header-requires c κs = search needs
 
 enum-known-lead : tie.Need-enum-known-lead
 enum-known-lead c = search needs
@@ -45,14 +46,26 @@ enum-known-lead-2 : tie.Need-enum-known-lead-2
 enum-known-lead-2 c = search needs
 
 fill-requires : tie.Need-fill-requires
-fill-requires c κs = let h = c .before .before .before .before .before .before in let a = h .before .before .before .before .before .before .before .before .before .before .before .before .args in
-    let f = lead-fits _ _ (h .header .result) (a .s .now) (h .header .ensures) _ _ (c .before .before .before .before .lead2 .given .1) in
-    let q : c .before .before .before .before .lead2 .given .0 .0 ≤ (roomOf (length (a .p .now)) (length (a .c .now)) (length (a .k .now))) = omega (arith, f, h .before .room-of .ensures) in
-    let r = room-fits _ _ _ _ q in (f .0, r .0, r .1, r .2)
+fill-requires c κs =
+    let counted = c .before .before .before .before in
+    let h = counted .before .before in
+    let three = h .before .before in
+    let two = three .before .before in
+    let one = two .before .before in
+    let a = one .before .before .before .before .before .before .args in
+    let f = lead-fits (h .read-header .ensures) _ _ (counted .lead2 .given .1) in
+    let q : counted .lead2 .given .0 .0 ≤ roomOf (length (a .p .now)) (length (a .c .now)) (length (a .k .now)) = omega (arith, f, h .before .room-of .ensures) in
+    let r = room-fits _ _ _ _ q in
+    (f .0, r .0, r .1, r .2)
 
 returns-4 : tie.Need-returns-4
-returns-4 c = let h = c .before .before .before in let a = h .before .before .before .before .before .before .before .before .before .before .before .before .args in
-    filled-no _ _ _ _ _ _ _ _ _ (file-lines (roomOf (length (a .p .now)) (length (a .c .now)) (length (a .k .now))) (a .fg) (a .bg) (a .s .now) (passed (h .before .before .before .before .before .before .if1 .left) (h .before .before .before .before .before .before .before .is-finite-colour .ensures)) (passed (h .before .before .before .before .if2 .left) (h .before .before .before .before .before .is-finite-colour2 .ensures)) (passed (h .before .before .if3 .left) (h .before .before .before .is-fit-text .ensures)) ∙ ap (λ (n : ℕ). fromLines n (a .fg) (a .bg) (textLines (a .s .now))) (sym (h .before .room-of .ensures)) ∙ lead-refuse _ _ (h .header .result) (a .s .now) (h .header .ensures) _ _ (c .before .lead .given .1) (a .fg) (a .bg))
+returns-4 c =
+    let h = c .before .before .before in
+    let three = h .before .before in
+    let two = three .before .before in
+    let one = two .before .before in
+    let a = one .before .before .before .before .before .before .args in
+    filled-no _ _ _ _ (file-refuse (a .fg) (a .bg) (a .s .now) (h .before .room-of .ensures) (passed (one .if1 .left) (one .before .is-finite-colour .ensures)) (passed (two .if2 .left) (two .before .is-finite-colour2 .ensures)) (passed (three .if3 .left) (three .before .is-fit-text .ensures)) (h .read-header .ensures) _ _ (c .before .lead .given .1))
 
 same-length : tie.Need-same-length
 same-length c = search needs
@@ -64,8 +77,15 @@ same-length-3 : tie.Need-same-length-3
 same-length-3 c = search needs
 
 returns-5 : tie.Need-returns-5
-returns-5 c = let h = c .before .before .before .before .before .before .before .before .before .before .before .before .before in let a = h .before .before .before .before .before .before .before .before .before .before .before .before .args in
-    filled-as _ _ _ _ _ _ _ _ _ (file-lines (roomOf (length (a .p .now)) (length (a .c .now)) (length (a .k .now))) (a .fg) (a .bg) (a .s .now) (passed (h .before .before .before .before .before .before .if1 .left) (h .before .before .before .before .before .before .before .is-finite-colour .ensures)) (passed (h .before .before .before .before .if2 .left) (h .before .before .before .before .before .is-finite-colour2 .ensures)) (passed (h .before .before .if3 .left) (h .before .before .before .is-fit-text .ensures)) ∙ ap (λ (n : ℕ). fromLines n (a .fg) (a .bg) (textLines (a .s .now))) (sym (h .before .room-of .ensures)) ∙ lead-counted _ _ (h .header .result) (a .s .now) (h .header .ensures) _ _ (c .before .before .before .before .before .before .before .before .before .before .before .lead2 .given .1) (a .fg) (a .bg)) (c .before .before .before .before .before .before .fill .ensures)
+returns-5 c =
+    let filled = c .before .before .before .before .before .before in
+    let counted = filled .before .before .before .before .before in
+    let h = counted .before .before in
+    let three = h .before .before in
+    let two = three .before .before in
+    let one = two .before .before in
+    let a = one .before .before .before .before .before .before .args in
+    filled-as _ _ _ _ (file-counted (a .fg) (a .bg) (a .s .now) (h .before .room-of .ensures) (passed (one .if1 .left) (one .before .is-finite-colour .ensures)) (passed (two .if2 .left) (two .before .is-finite-colour2 .ensures)) (passed (three .if3 .left) (three .before .is-fit-text .ensures)) (h .read-header .ensures) _ _ (counted .lead2 .given .1)) (filled .fill .ensures)
 
 pub read-into-spec : {M : Type 1} → statement M
 read-into-spec =
@@ -78,7 +98,7 @@ read-into-spec =
     is-fit-text-requires
     returns-3
     room-of-requires
-    header-requires
+    read-header-requires
     enum-known-lead
     enum-known-lead-2
     fill-requires

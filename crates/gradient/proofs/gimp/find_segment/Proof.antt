@@ -7,13 +7,13 @@ use native.Mathlib.Omega.{arith}
 use lib.ListN.{length}
 use lib.Ieee.{Float}
 use denote.Ref.{now}
-use Rattle.gradient.specs.Gimp.{segments, search, segmentFor}
+use Rattle.gradient.specs.Gimp.{segments, search, segmentFound}
 use Rattle.gradient.proofs.GimpSearch.{up, down, hit, met, begun}
 use Rattle.gradient.proofs.gimp.find_segment.Statement.{statement}
 use Rattle.gradient.proofs.gimp.find_segment.Tie as tie
 
 abbrev Inv-loop : tie.InvT-loop
-Inv-loop positions t low₀ high₀ tried₀ low high tried = (low ≤ high) × (high ≤ segments positions) × (search (high - low) positions t tried low high ≡ segmentFor positions t)
+Inv-loop positions t low₀ high₀ tried₀ low high tried = (low ≤ high) × (high ≤ segments positions) × (search (high - low) positions t tried low high ≡ segmentFound positions t)
 
 abbrev μ-loop : tie.MeasureT-loop
 μ-loop positions t low₀ high₀ tried₀ low high tried = high - low

@@ -1,4 +1,5 @@
 -- `sqrt::half_root::cutoff` meets its contract, by the laws of the cutoff: the test fails at +0 where t is not below zero. Assumes nothing.
+use native.Mathlib.Omega.{arith}
 use mathlib.Core.Path.{sym, subst}
 use Prim.Native.Nat.{ℕ, _≤_}
 use native.Mathlib.Numerals.{add-one}
@@ -6,8 +7,8 @@ use borrow.Author.Needs.{needs}
 use lib.Dec.{T}
 use lib.Ieee.{nanBits}
 use Rattle.sqrt.specs.Cutoff.{above}
-use Rattle.sqrt.proofs.Values.{number-pattern}
-use Rattle.sqrt.proofs.Patterns.{at}
+use Rattle.float.proofs.Patterns.{number-pattern}
+use Rattle.float.proofs.PatternOrder.{at}
 use Rattle.sqrt.proofs.Threshold.{it-failed, above-zero-is, cutoff-below-zero, cutoff-of-last}
 use Rattle.sqrt.proofs.half_root.cutoff.Statement.{statement}
 use Rattle.sqrt.proofs.half_root.cutoff.Tie as tie
@@ -29,7 +30,7 @@ up-to-last-requires : tie.Need-up-to-last-requires
 up-to-last-requires c κs = search needs
 
 float-from-bits-result-2 : tie.Need-float-from-bits-result-2
-float-from-bits-result-2 c = number-pattern (c .up-to-last .result) (c .up-to-last .ensures .0)
+float-from-bits-result-2 c = let h = c .up-to-last .ensures .0 in number-pattern (c .up-to-last .result) (omega arith)
 
 returns-2 : tie.Need-returns-2
 returns-2 c =

@@ -6,7 +6,7 @@ use native.Mathlib.Nat.{zero-lt-suc}
 use lib.Dec.{T, T-not}
 use lib.Ieee.{Float}
 use Rattle.sqrt.specs.Cutoff.{above}
-use Rattle.sqrt.proofs.Patterns.{at}
+use Rattle.float.proofs.PatternOrder.{at}
 use Rattle.sqrt.proofs.Threshold.{it-held, it-failed}
 use Rattle.sqrt.proofs.half_root.down_to_fail.Statement.{statement}
 use Rattle.sqrt.proofs.half_root.down_to_fail.Tie as tie

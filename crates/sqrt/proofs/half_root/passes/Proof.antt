@@ -1,14 +1,15 @@
 -- `sqrt::half_root::passes` meets its contract, from what `root` ensures. Assumes nothing.
+use native.Mathlib.Omega.{arith}
 use mathlib.Core.Path.{ap}
 use borrow.Author.Needs.{needs}
 use lib.Ieee.{Float, lt}
 use Rattle.sqrt.specs.Cutoff.{halved}
-use Rattle.sqrt.proofs.Values.{number-pattern}
+use Rattle.float.proofs.Patterns.{number-pattern}
 use Rattle.sqrt.proofs.half_root.passes.Statement.{statement}
 use Rattle.sqrt.proofs.half_root.passes.Tie as tie
 
 float-from-bits-root : tie.Need-float-from-bits-root
-float-from-bits-root c = number-pattern (c .args .b) (c .pre)
+float-from-bits-root c = number-pattern (c .args .b) (omega arith)
 
 root-requires : tie.Need-root-requires
 root-requires c κs = search needs

@@ -1,6 +1,6 @@
 -- `sqrt::half_root::start` is safe, and its result is at most the infinity's pattern: bits are taken of no NaN. Assumes nothing.
 use borrow.Author.Needs.{needs}
-use Rattle.sqrt.proofs.Values.{is-number}
+use Rattle.float.proofs.Patterns.{is-number}
 use Rattle.sqrt.proofs.half_root.start.Statement.{statement}
 use Rattle.sqrt.proofs.half_root.start.Tie as tie
 

@@ -4,7 +4,7 @@ use Prim.Native.Nat.{ℕ, _-_, _+_, _≤_}
 use native.Mathlib.Omega.{arith}
 use lib.Dec.{T}
 use Rattle.sqrt.specs.Cutoff.{above}
-use Rattle.sqrt.proofs.Patterns.{at}
+use Rattle.float.proofs.PatternOrder.{at}
 use Rattle.sqrt.proofs.Threshold.{it-held, it-failed}
 use Rattle.sqrt.proofs.half_root.up_to_last.Statement.{statement}
 use Rattle.sqrt.proofs.half_root.up_to_last.Tie as tie

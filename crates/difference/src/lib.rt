@@ -1,0 +1,32 @@
+// How far apart two colours are.
+use blend::Rgba;
+ghost use mathlib.Core.Path.{_≡_};
+ghost use Rattle.difference.specs.Difference.{clampedOf, squaresOf, exceeds};
+
+fn clamped(x: Rgba) -> Rgba
+    ensures { λ r. ⌜ r ≡ clampedOf x ⌝ }
+{
+    Rgba {
+        r: float::clamp(x.r),
+        g: float::clamp(x.g),
+        b: float::clamp(x.b),
+        a: float::clamp(x.a),
+    }
+}
+
+fn squares(x: Rgba, y: Rgba) -> f32
+    ensures { λ r. ⌜ r ≡ squaresOf x y ⌝ }
+{
+    let dr = x.r - y.r;
+    let dg = x.g - y.g;
+    let db = x.b - y.b;
+    let da = x.a - y.a;
+    dr * dr + dg * dg + db * db + da * da
+}
+
+// Whether the clamped colours differ by more than the threshold of the cutoff. The only place where that is tested.
+pub fn stands_out(cutoff: f32, x: Rgba, y: Rgba) -> bool
+    ensures { λ r. ⌜ r ≡ exceeds cutoff x y ⌝ }
+{
+    squares(clamped(x), clamped(y)) > cutoff
+}

@@ -1,0 +1,5 @@
+-- Laws that belong to no one function.
+mod Rows
+mod Others
+pub mod Inputs
+pub mod Stored

@@ -1,0 +1,28 @@
+-- `threshold_entry` meets its contract: a row of 1 makes the entry, and no other. Assumes nothing.
+use borrow.Author.Needs.{needs}
+use Rattle.entries.proofs.Rows.{threshold-not, threshold-is}
+use Rattle.entries.proofs.fields.threshold_entry.Statement.{statement}
+use Rattle.entries.proofs.fields.threshold_entry.Tie as tie
+
+row-at-requires : tie.Need-row-at-requires
+row-at-requires c κs = search needs
+
+returns : tie.Need-returns
+returns c = let r = c .before .before .before in let z = r .before .before in
+    threshold-not (z .args .l .now) (z .args .from) (z .pre) (r .row-at .ensures) (c .if1 .taken)
+
+array-read-t9 : tie.Need-array-read-t9
+array-read-t9 c = search needs
+
+returns-2 : tie.Need-returns-2
+returns-2 c = let r = c .before .before .before in let z = r .before .before in
+    threshold-is (z .args .l .now) (z .args .from) (z .pre) (r .row-at .ensures) (c .if1 .left)
+
+pub threshold-entry-spec : {M : Type 1} → statement M
+threshold-entry-spec =
+    tie.close
+    (tie.spec
+    row-at-requires
+    returns
+    array-read-t9
+    returns-2)

@@ -1,0 +1,3 @@
+// What the tool reads: the lines of its input, and what they ask for.
+mod fields;
+pub mod reading;

@@ -1,0 +1,84 @@
+// A file cut at every byte, and with every byte changed: how many answers there are of each kind.
+use crate::show::grey;
+use crate::show::number;
+use crate::show::out;
+use ggr::Answer;
+use spelling::append;
+use spelling::front;
+
+fn add(counts: &mut [u64], at: usize, n: u64) {
+    if at < counts.len() {
+        counts[at] = std::num::wrapping_add_u64(counts[at], n);
+    }
+}
+
+// Counts the answer by its number, 0 for what is read, and adds its line in the last place.
+fn tally(counts: &mut [u64], text: &[u8]) {
+    let mut positions = [0.0f32; 6];
+    let mut channels = [0.0f32; 16];
+    let mut codes = [0u8; 4];
+    let r = ggr::read(
+        text,
+        grey(0.25),
+        grey(0.75),
+        &mut positions,
+        &mut channels,
+        &mut codes,
+    );
+    match r {
+        Answer::Read(_) => add(counts, 0, 1),
+        Answer::Refused(refusal, line) => {
+            add(counts, refusal as usize, 1);
+            add(counts, 17, line as u64);
+        }
+    }
+}
+
+fn show_tally(label: &[u8], counts: &[u64; 18]) {
+    out(label);
+    out(b": read ");
+    number(counts[0]);
+    for i in 1..17 {
+        if counts[i] != 0 {
+            out(b", refused ");
+            number(i as u64);
+            out(b" ");
+            number(counts[i]);
+        }
+    }
+    out(b", lines add up to ");
+    number(counts[17]);
+    out(b"\n");
+}
+
+pub(crate) fn prefixes(text: &[u8]) {
+    let mut counts = [0u64; 18];
+    for n in 0..text.len() {
+        tally(&mut counts, front(text, n));
+    }
+    tally(&mut counts, text);
+    show_tally(b"every prefix", &counts);
+}
+
+// The byte at i changed to each of a dozen others, and back.
+fn change(counts: &mut [u64], text: &mut [u8], i: usize) {
+    let others = b"\x00\t\n\r +-.05e\xc8";
+    if i < text.len() {
+        let kept = text[i];
+        for j in 0..12 {
+            text[i] = others[j];
+            tally(counts, text);
+        }
+        text[i] = kept;
+    }
+}
+
+pub(crate) fn changes(file: &[u8]) {
+    let mut counts = [0u64; 18];
+    let mut text = [0u8; 55];
+    append(&mut text, 0, file);
+    for i in 0..55 {
+        change(&mut counts, &mut text, i);
+    }
+    show_tally(b"every byte changed to a dozen others", &counts);
+}

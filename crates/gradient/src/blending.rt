@@ -1,0 +1,86 @@
+// How a GIMP segment's left colour turns into its right one.
+use crate::gimp::SPHERICAL_DECREASING;
+use crate::gimp::SPHERICAL_INCREASING;
+use crate::gimp::STEP;
+use crate::gimp::Segment;
+use blend::Rgba;
+use blend::utils;
+ghost use mathlib.Core.Path.{_≡_};
+ghost use Rattle.gradient.specs.Gimp.{along, linearFactor, increasing, decreasing, bent, blended, segmentColour};
+
+// 2^-23.
+const EPSILON: f32 = 0.00000011920928955078125;
+
+// Where x lies from left, 0, to right, 1.
+pub fn place_along(left: f32, right: f32, x: f32) -> f32
+    ensures { λ r. ⌜ r ≡ along left right x ⌝ }
+{
+    let length = right - left;
+    if length < EPSILON {
+        return 0.5;
+    }
+    (x - left) / length
+}
+
+fn calc_linear_factor(middle: f32, place: f32) -> f32
+    ensures { λ r. ⌜ r ≡ linearFactor middle place ⌝ }
+{
+    if place <= middle {
+        if middle < EPSILON {
+            return 0.0;
+        }
+        return 0.5 * place / middle;
+    }
+    if 1.0 - middle < EPSILON {
+        return 1.0;
+    }
+    0.5 + 0.5 * (place - middle) / (1.0 - middle)
+}
+
+fn spherical_increasing(f: f32) -> f32
+    ensures { λ r. ⌜ r ≡ increasing f ⌝ }
+{
+    sqrt::root(1.0 - (f - 1.0) * (f - 1.0))
+}
+
+fn spherical_decreasing(f: f32) -> f32
+    ensures { λ r. ⌜ r ≡ decreasing f ⌝ }
+{
+    1.0 - sqrt::root(1.0 - f * f)
+}
+
+fn bend(blending: u8, f: f32) -> f32
+    ensures { λ r. ⌜ r ≡ bent blending f ⌝ }
+{
+    if blending == SPHERICAL_INCREASING {
+        return spherical_increasing(f);
+    }
+    if blending == SPHERICAL_DECREASING {
+        return spherical_decreasing(f);
+    }
+    f
+}
+
+// The one rule of blending: the colour at a place of the segment. Both the place and the pivot, which is the place of the
+// middle, are counted from the left end, 0, to the right end, 1: painting works out the pivot once for many points.
+pub fn blend(g: Segment, pivot: f32, place: f32) -> Rgba
+    ensures { λ r. ⌜ r ≡ blended g pivot place ⌝ }
+{
+    if g.blending == STEP {
+        if place >= pivot {
+            return g.rcolor;
+        }
+        return g.lcolor;
+    }
+    let f = bend(g.blending, calc_linear_factor(pivot, place));
+    utils::interpolate_linear(g.lcolor, g.rcolor, f)
+}
+
+// The colour of a segment at t, which need not lie in it.
+pub(crate) fn segment_colour(g: Segment, t: f32) -> Rgba
+    ensures { λ r. ⌜ r ≡ segmentColour g t ⌝ }
+{
+    let pivot = place_along(g.left, g.right, g.middle);
+    let place = place_along(g.left, g.right, t);
+    blend(g, pivot, place)
+}

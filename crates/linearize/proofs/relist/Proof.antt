@@ -1,0 +1,113 @@
+-- `relist` meets its contract: the counts kept are tested, then a resampling, then the list of its points; a refusal before the list changes nothing. Assumes nothing.
+use mathlib.Core.Path.{sym, _∙_}
+use borrow.Author.Tests.{not-true, not-false}
+use Rattle.sampling.proofs.Thresholds.{far-by-cutoff}
+use Rattle.sampling.proofs.Answers.{again-is}
+use Rattle.sampling.proofs.Checks.{ramp-fine}
+use Rattle.linearize.proofs.Lists.{after-few}
+use Rattle.linearize.proofs.Relisting.{resampled-ready, again-bound, made-bound, relist-bad, relist-refused, relist-done}
+use borrow.Author.Needs.{needs}
+use Rattle.linearize.proofs.relist.Statement.{statement}
+use Rattle.linearize.proofs.relist.Tie as tie
+
+kept-good-requires : tie.Need-kept-good-requires
+kept-good-requires c κs = search needs
+
+check-sample-requires : tie.Need-check-sample-requires
+check-sample-requires c κs = search needs
+
+refused-by-requires : tie.Need-refused-by-requires
+refused-by-requires c κs = search needs
+
+same-length : tie.Need-same-length
+same-length c = search needs
+
+returns : tie.Need-returns
+returns c = relist-bad _ _ _ _ _ _ _ (sym (c .before .before .before .kept-good .ensures) ∙ not-true _ (c .before .before .if1 .taken)) (c .before .check-sample .ensures) (c .refused-by .ensures)
+
+resample-requires : tie.Need-resample-requires
+resample-requires c κs = search needs
+
+enum-known-n : tie.Need-enum-known-n
+enum-known-n c = search needs
+
+enum-known-n-2 : tie.Need-enum-known-n-2
+enum-known-n-2 c = search needs
+
+cutoff-of-requires : tie.Need-cutoff-of-requires
+cutoff-of-requires c κs = search needs
+
+max-of-requires : tie.Need-max-of-requires
+max-of-requires c κs = search needs
+
+thin-record-requires : tie.Need-thin-record-requires
+thin-record-requires c κs =
+    let at-done = c .before .before .before .before .before .before .before in
+    let sampled = at-done .before .before .before .before .before .before in
+    let tested = sampled .before .before .before in
+    let w = again-is _ _ _ _ _ _ (at-done .n2 .given .1) (sampled .resample .ensures) in
+    let good = sym (tested .before .kept-good .ensures) ∙ not-false _ (tested .if1 .left) in
+    (resampled-ready _ _ _ _ _ (w .fine) good (w .left), ramp-fine _ _ _ (w .fine))
+
+after-requires : tie.Need-after-requires
+after-requires c κs = search needs
+
+same-length-2 : tie.Need-same-length-2
+same-length-2 c = search needs
+
+same-length-3 : tie.Need-same-length-3
+same-length-3 c = search needs
+
+returns-2 : tie.Need-returns-2
+returns-2 c = relist-refused _ _ _ _ _ _ _ (c .before .n .given .1) (c .before .before .before .before .before .before .before .resample .ensures)
+
+same-length-4 : tie.Need-same-length-4
+same-length-4 c = search needs
+
+same-length-5 : tie.Need-same-length-5
+same-length-5 c = search needs
+
+same-length-6 : tie.Need-same-length-6
+same-length-6 c = search needs
+
+same-length-7 : tie.Need-same-length-7
+same-length-7 c = search needs
+
+returns-3 : tie.Need-returns-3
+returns-3 c =
+    let thinned = c .before .before .before .before .before in
+    let ended = thinned .before .before .before .before .before in
+    let at-done = ended .before .before .before in
+    let sampled = at-done .before .before .before .before .before .before in
+    let tested = sampled .before .before .before in
+    let w = again-is _ _ _ _ _ _ (at-done .n2 .given .1) (sampled .resample .ensures) in
+    let good = sym (tested .before .kept-good .ensures) ∙ not-false _ (tested .if1 .left) in
+    let made = thinned .thin-record .ensures in
+    let few = again-bound _ _ _ _ (w .spent) in
+    let most = made-bound _ _ _ _ _ (resampled-ready _ _ _ _ _ (w .fine) good (w .left)) made in
+    relist-done _ _ _ _ _ _ _ _ _ _ w good (far-by-cutoff _ _ (ended .before .cutoff-of .ensures)) (ended .max-of .ensures) made (after-few _ (thinned .thin-record .result) (c .after .ensures) few most)
+
+pub relist-spec : {M : Type 1} → statement M
+relist-spec =
+    tie.close
+    (tie.spec
+    kept-good-requires
+    check-sample-requires
+    refused-by-requires
+    same-length
+    returns
+    resample-requires
+    enum-known-n
+    enum-known-n-2
+    cutoff-of-requires
+    max-of-requires
+    thin-record-requires
+    after-requires
+    same-length-2
+    same-length-3
+    returns-2
+    same-length-4
+    same-length-5
+    same-length-6
+    same-length-7
+    returns-3)

@@ -1,0 +1,220 @@
+// Thinning: the points of a record one after the other, each kept or not, and the stops written out.
+use crate::Listed;
+use crate::Place;
+use sampling::Sampler;
+use sampling::cells::evaluate;
+use sampling::segments;
+use slices::zero_from;
+use stops::Kind;
+use thinning::Progress;
+use thinning::emit;
+use thinning::room_of;
+use thinning::step;
+ghost use mathlib.Core.Path.{_≡_};
+ghost use Prim.Native.Nat.{_+_, _*_, _≤_, _<_};
+ghost use lib.ListN.{length};
+ghost use Rattle.gradient.specs.Ramp.{checkOf, colourOf};
+ghost use Rattle.sampling.specs.Constants.{cells, rowLength, recordLength};
+ghost use Rattle.linearize.specs.Places.{nextPlace, pointAt};
+ghost use Rattle.thinning.specs.Kept.{writtenOf};
+ghost use Rattle.linearize.specs.Desk.{listedOf};
+ghost use Rattle.sampling.specs.Inner.{Prepared};
+ghost use Rattle.stops.specs.declared.Checked.the-variants.{Fine};
+ghost use Rattle.linearize.specs.Inner.{Ready, Started, points, MakesList, ThinsRest};
+ghost use Rattle.linearize.specs.Lent.{lentOutput};
+ghost use Rattle.stops.specs.Lent.{rampIn, lentRamp, old, new};
+
+fn next_place(counts: &[u8], place: Place) -> Place
+    requires { ⌜ (length (now counts) ≡ cells) × ((place .row < cells) × (place .index < rowLength)) ⌝ }
+    ensures { λ r. ⌜ r ≡ nextPlace (old counts) place ⌝ }
+{
+    let row = place.row;
+    let index = place.index + 1;
+    if index < counts[row] as usize {
+        return Place { row, index };
+    }
+    Place {
+        row: row + 1,
+        index: 0,
+    }
+}
+
+fn point_at(rows: &[f32], max: f32, place: Place) -> f32
+    requires { ⌜ (length (now rows) ≡ recordLength) × (place .index < rowLength) ⌝ }
+    ensures { λ r. ⌜ r ≡ pointAt (old rows) max place ⌝ }
+{
+    let row = place.row;
+    if row < Sampler::CELLS {
+        let at = row * Sampler::ROW + place.index;
+        return rows[at];
+    }
+    max
+}
+
+// Thins the points after the first, from place to place; the last is always kept.
+fn thin_points(
+    kind: Kind,
+    positions: &[f32],
+    channels: &[f32],
+    codes: &[u8],
+    cutoff: f32,
+    max: f32,
+    room: usize,
+    start: Progress,
+    rows: &[f32],
+    counts: &[u8],
+    out_positions: &mut [f32],
+    out_channels: &mut [f32],
+    table: &[[[f32; 4]; 4]],
+) -> Progress
+    requires { ⌜ Ready (now rows) (now counts) × Started (colourOf (rampIn kind positions channels codes)) room start ⌝ }
+    requires { ⌜ Prepared (rampIn kind positions channels codes) (now table) ⌝ }
+    ensures { λ r. ⌜ ThinsRest (lentRamp kind positions channels codes) cutoff room (points rows counts max) start (lentOutput «out_positions» «out_channels») r ⌝ }
+{
+    let mut s = start;
+    let mut place = next_place(counts, Place { row: 0, index: 0 });
+    let mut x = evaluate(
+        kind,
+        positions,
+        channels,
+        codes,
+        point_at(rows, max, place),
+        table,
+    );
+    while place.row < Sampler::CELLS {
+        let after = next_place(counts, place);
+        let next = evaluate(
+            kind,
+            positions,
+            channels,
+            codes,
+            point_at(rows, max, after),
+            table,
+        );
+        s = step(cutoff, room, s, x, next, out_positions, out_channels);
+        let refusal = s.refusal;
+        if refusal != 0 {
+            return s;
+        }
+        x = next;
+        place = after;
+    }
+    emit(room, s, x, out_positions, out_channels)
+}
+
+// The answer; a refusal sets both outputs to zero.
+fn finish(s: Progress, out_positions: &mut [f32], out_channels: &mut [f32]) -> Listed
+    requires { ⌜ (s .tried ≤ recordLength) × (s .stops ≤ length (now «out_positions»)) ⌝ }
+    ensures { λ r. ⌜ r ≡ listedOf (s .refusal) (s .stops) (3 * s .tried + s .stops) ⌝ }
+    ensures { λ _. ⌜ new «out_positions» ≡ writtenOf (s .refusal) (old «out_positions») ⌝ }
+    ensures { λ _. ⌜ new «out_channels» ≡ writtenOf (s .refusal) (old «out_channels») ⌝ }
+{
+    let refusal = s.refusal;
+    if refusal != 0 {
+        zero_from(out_positions, 0);
+        zero_from(out_channels, 0);
+        return Listed::Refused(refusal);
+    }
+    Listed::Done {
+        stops: s.stops,
+        evaluations: 3 * s.tried + s.stops,
+    }
+}
+
+// Thins a record's points with a table of segments in hand: a stop for the first, and the others weighed.
+fn thin_each(
+    kind: Kind,
+    positions: &[f32],
+    channels: &[f32],
+    codes: &[u8],
+    cutoff: f32,
+    max: f32,
+    rows: &[f32],
+    counts: &[u8],
+    out_positions: &mut [f32],
+    out_channels: &mut [f32],
+    table: &[[[f32; 4]; 4]],
+) -> Listed
+    requires { ⌜ Ready (now rows) (now counts) ⌝ }
+    requires { ⌜ Prepared (rampIn kind positions channels codes) (now table) ⌝ }
+    ensures { λ r. ⌜ MakesList (lentRamp kind positions channels codes) cutoff (points rows counts max) (lentOutput «out_positions» «out_channels») r ⌝ }
+{
+    let room = room_of(out_positions.len(), out_channels.len());
+    let first = evaluate(kind, positions, channels, codes, rows[0], table);
+    let start = Progress {
+        last: first,
+        stops: 0,
+        tried: 0,
+        refusal: 0,
+    };
+    let s = emit(room, start, first, out_positions, out_channels);
+    let refusal = s.refusal;
+    if refusal != 0 {
+        return finish(s, out_positions, out_channels);
+    }
+    let e = thin_points(
+        kind,
+        positions,
+        channels,
+        codes,
+        cutoff,
+        max,
+        room,
+        s,
+        rows,
+        counts,
+        out_positions,
+        out_channels,
+        table,
+    );
+    finish(e, out_positions, out_channels)
+}
+
+// Thins a record's points, and writes the stops. The segments of a Catmull-Rom ramp are worked out once, in a table.
+pub(crate) fn thin_record(
+    kind: Kind,
+    positions: &[f32],
+    channels: &[f32],
+    codes: &[u8],
+    cutoff: f32,
+    max: f32,
+    rows: &[f32],
+    counts: &[u8],
+    out_positions: &mut [f32],
+    out_channels: &mut [f32],
+) -> Listed
+    requires { ⌜ Ready (now rows) (now counts) × (checkOf (rampIn kind positions channels codes) ≡ Fine) ⌝ }
+    ensures { λ r. ⌜ MakesList (lentRamp kind positions channels codes) cutoff (points rows counts max) (lentOutput «out_positions» «out_channels») r ⌝ }
+{
+    if !segments::is_catmull_rom(kind) {
+        let none = [[[0.0f32; 4]; 4]; 1];
+        return thin_each(
+            kind,
+            positions,
+            channels,
+            codes,
+            cutoff,
+            max,
+            rows,
+            counts,
+            out_positions,
+            out_channels,
+            &none[..0],
+        );
+    }
+    let mut table = [[[0.0f32; 4]; 4]; segments::ROOM];
+    let m = segments::fill(channels, positions.len(), &mut table);
+    thin_each(
+        kind,
+        positions,
+        channels,
+        codes,
+        cutoff,
+        max,
+        rows,
+        counts,
+        out_positions,
+        out_channels,
+        &table[..m],
+    )
+}

@@ -1,0 +1,268 @@
+// GIMP segments painted: the colours at many points. A segment is held while the points that follow each other lie in it.
+// Where the lengths agree the slices are read without a test.
+use blend::Rgba;
+use gradient::gimp;
+use gradient::gimp::Segment;
+ghost use mathlib.Core.Path.{_≡_};
+ghost use mathlib.Core.Bool.{true};
+ghost use Prim.Native.Nat.{_+_, _*_, _≤_, _<_};
+ghost use lib.ListN.{length};
+ghost use lib.Seq.{sets};
+ghost use Rattle.blend.specs.Channels.{channelsOf};
+ghost use Rattle.stops.specs.Stops.{colourAt};
+ghost use Rattle.stops.specs.Lent.{old, new};
+ghost use Rattle.gradient.specs.Gimp.{segments, leftAt, rightAt, segmentFound, gimpSegment, gimpColour};
+ghost use Rattle.paint_segments.specs.Over.{agree, paintedOver, segmentsOver};
+ghost use Rattle.paint_segments.specs.Within.{Cut, Fits, inOrder, Orderly, strictlyInside, Peeked, Starts, Written};
+
+// With fewer segments than this the search is as quick as a guess.
+const MANY: usize = 32;
+
+// Whether the positions rise, from 0 or later to 1 or before.
+fn is_orderly(positions: &[f32]) -> bool
+    ensures { λ r. ⌜ r ≡ inOrder (old positions) ⌝ }
+{
+    let n = positions.len();
+    if n < 3 {
+        return false;
+    }
+    if positions[0] < 0.0 {
+        return false;
+    }
+    if positions[n - 1] > 1.0 {
+        return false;
+    }
+    sharp_ramp::is_steady(positions, positions[n - 1])
+}
+
+// 1 where t lies past the left end of segment i, else 0.
+fn past(positions: &[f32], i: usize, t: f32) -> usize
+    requires { ⌜ i < segments (now positions) ⌝ }
+    ensures { λ r. ⌜ r ≤ 1 ⌝ }
+{
+    stops::below(positions[3 * i], t)
+}
+
+// About the segment that t lies in; which one it is, is not promised. No branch has to be guessed.
+fn guess(positions: &[f32], t: f32) -> usize
+    requires { ⌜ 1 ≤ segments (now positions) ⌝ }
+    ensures { λ r. ⌜ r < segments (old positions) ⌝ }
+{
+    let mut base = 0;
+    let mut left = positions.len() / 3;
+    while 3 < left {
+        let part = left / 4;
+        let a = past(positions, base + part, t);
+        let b = past(positions, base + 2 * part, t);
+        let c = past(positions, base + 3 * part, t);
+        base += part * (a + b + c);
+        left -= 3 * part;
+    }
+    if 2 < left {
+        return base + past(positions, base + 1, t) + past(positions, base + 2, t);
+    }
+    if 1 < left {
+        return base + past(positions, base + 1, t);
+    }
+    base
+}
+
+// Whether t lies inside segment i. Each of two answers is 1 or 0, and n times their sum is above n + i, where i is less than
+// n, just where both are 1: one comparison, so that no branch has to be guessed.
+fn is_inside(positions: &[f32], i: usize, t: f32) -> bool
+    requires { ⌜ i < segments (now positions) ⌝ }
+    ensures { λ r. ⌜ r ≡ strictlyInside (leftAt (old positions) i) (rightAt (old positions) i) t ⌝ }
+{
+    let n = positions.len();
+    let at = 3 * i;
+    n + i < n * (stops::below(positions[at], t) + stops::below(t, positions[at + 2]))
+}
+
+// The segment whose colour is taken. Of many that are orderly one is guessed: where t lies inside it, it is the one that
+// the search finds.
+fn find_segment(positions: &[f32], t: f32, orderly: bool) -> usize
+    requires { ⌜ (1 ≤ segments (now positions)) × (orderly ≡ true → Orderly (now positions)) ⌝ }
+    ensures { λ r. ⌜ r ≡ segmentFound (old positions) t ⌝ }
+{
+    if orderly {
+        if 3 * MANY <= positions.len() {
+            let g = guess(positions, t);
+            if is_inside(positions, g, t) {
+                return g;
+            }
+        }
+    }
+    gimp::find_segment(positions, t)
+}
+
+// Stores a colour where there is room for it: `stops` has the same store for any output, with tests, which each point would
+// pay for here.
+fn put_colour(out: &mut [f32], k: usize, c: Rgba)
+    requires { ⌜ k + 4 ≤ length (now out) ⌝ }
+    ensures { λ _. ⌜ new out ≡ sets (old out) k (channelsOf c) ⌝ }
+{
+    out[k] = c.r;
+    out[k + 1] = c.g;
+    out[k + 2] = c.b;
+    out[k + 3] = c.a;
+}
+
+// Colour i, likewise read without a test.
+fn colour(channels: &[f32], i: usize) -> Rgba
+    requires { ⌜ 4 * i + 4 ≤ length (now channels) ⌝ }
+    ensures { λ r. ⌜ r ≡ colourAt (old channels) i ⌝ }
+{
+    let at = 4 * i;
+    Rgba {
+        r: channels[at],
+        g: channels[at + 1],
+        b: channels[at + 2],
+        a: channels[at + 3],
+    }
+}
+
+// Segment i. `gradient` reads the same segment from any slices at all; this reading makes fewer tests, because it is done
+// anew at each point that has left its segment.
+fn hold(positions: &[f32], channels: &[f32], codes: &[u8], i: usize) -> Segment
+    requires { ⌜ Cut (now positions) (now channels) (now codes) × (i < segments (now positions)) ⌝ }
+    ensures { λ r. ⌜ r ≡ gimpSegment (old positions) (old channels) (old codes) i ⌝ }
+{
+    let lcolor = colour(channels, 2 * i);
+    let rcolor = colour(channels, 2 * i + 1);
+    Segment {
+        left: positions[3 * i],
+        middle: positions[3 * i + 1],
+        right: positions[3 * i + 2],
+        lcolor,
+        rcolor,
+        blending: codes[2 * i],
+        colouring: codes[2 * i + 1],
+    }
+}
+
+// Point j, or the other number where j is past the points that may be painted. The loop below looks one point ahead, past
+// the last one too: the left end of its segment, which does not lie inside it, then ends it by the one test that it makes.
+fn point_or(ts: &[f32], j: usize, end: usize, other: f32) -> f32
+    requires { ⌜ end ≤ length (now ts) ⌝ }
+    ensures { λ r. ⌜ Peeked (old ts) j end other r ⌝ }
+{
+    if j < end {
+        return ts[j];
+    }
+    other
+}
+
+// The same test as `is_inside`, branched: of points in order nearly every one lies inside, so the branch is guessed rightly.
+fn is_strictly_inside(left: f32, right: f32, t: f32) -> bool
+    ensures { λ r. ⌜ r ≡ strictlyInside left right t ⌝ }
+{
+    if left < t {
+        return t < right;
+    }
+    false
+}
+
+// Paints from point `start`, whose segment is s, as far as the points before `end` lie in it. Gives the first that is
+// left. The place of the next point is worked out before the colour of this one, so that its division does not wait.
+fn paint_held(
+    positions: &[f32],
+    channels: &[f32],
+    codes: &[u8],
+    ts: &[f32],
+    out: &mut [f32],
+    s: usize,
+    start: usize,
+    end: usize,
+) -> usize
+    requires { ⌜ Fits (now positions) (now channels) (now codes) (now ts) (now out) ⌝ }
+    requires { ⌜ Starts (now positions) (now ts) s start end ⌝ }
+    ensures { λ r. ⌜ Written (gimpColour (old positions) (old channels) (old codes)) (old ts) start r (old out) (new out) ⌝ }
+{
+    let g = hold(positions, channels, codes, s);
+    let pivot = gimp::place_along(g.left, g.right, g.middle);
+    let mut i = start;
+    let mut place = gimp::place_along(g.left, g.right, ts[start]);
+    let mut on = true;
+    while on {
+        let t = point_or(ts, i + 1, end, g.left);
+        let ahead = gimp::place_along(g.left, g.right, t);
+        let c = gimp::blend(g, pivot, place);
+        put_colour(out, 4 * i, c);
+        i += 1;
+        place = ahead;
+        on = is_strictly_inside(g.left, g.right, t);
+    }
+    i
+}
+
+// Paints point i, and those that follow it in its segment. Gives the first that is left.
+fn paint_on(
+    positions: &[f32],
+    channels: &[f32],
+    codes: &[u8],
+    ts: &[f32],
+    out: &mut [f32],
+    orderly: bool,
+    i: usize,
+) -> usize
+    requires { ⌜ Fits (now positions) (now channels) (now codes) (now ts) (now out) ⌝ }
+    requires { ⌜ (orderly ≡ true → Orderly (now positions)) × (i < length (now ts)) ⌝ }
+    ensures { λ r. ⌜ Written (gimpColour (old positions) (old channels) (old codes)) (old ts) i r (old out) (new out) ⌝ }
+{
+    let t = ts[i];
+    if gimp::is_off_domain(t) {
+        let black = Rgba {
+            r: 0.0,
+            g: 0.0,
+            b: 0.0,
+            a: 1.0,
+        };
+        put_colour(out, 4 * i, black);
+        return i + 1;
+    }
+    let s = find_segment(positions, t, orderly);
+    let mut end = i + 1;
+    if orderly {
+        end = ts.len();
+    }
+    paint_held(positions, channels, codes, ts, out, s, i, end)
+}
+
+// All points, one segment after the other.
+fn paint_all(positions: &[f32], channels: &[f32], codes: &[u8], ts: &[f32], out: &mut [f32])
+    requires { ⌜ Fits (now positions) (now channels) (now codes) (now ts) (now out) ⌝ }
+    ensures { λ _. ⌜ new out ≡ paintedOver (gimpColour (old positions) (old channels) (old codes)) (old ts) (old out) ⌝ }
+{
+    let orderly = is_orderly(positions);
+    let mut i = 0;
+    while i < ts.len() {
+        i = paint_on(positions, channels, codes, ts, out, orderly, i);
+    }
+}
+
+// Whether the slices are those of one segment or more, and `room` colours hold the points.
+fn is_fit(positions: &[f32], channels: &[f32], codes: &[u8], points: usize, room: usize) -> bool
+    ensures { λ r. ⌜ r ≡ agree (segments (old positions)) (length (old channels)) (length (old codes)) points room ⌝ }
+{
+    let n = positions.len() / 3;
+    if n < 1 {
+        return false;
+    }
+    if channels.len() != 8 * n {
+        return false;
+    }
+    if codes.len() != 2 * n {
+        return false;
+    }
+    points <= room
+}
+
+// Writes the colours at ts, four channels for each, where the slices fit each other; else nothing. The numbers are not
+// checked: any of them have a colour.
+pub fn paint(positions: &[f32], channels: &[f32], codes: &[u8], ts: &[f32], out: &mut [f32])
+    ensures { λ _. ⌜ new out ≡ segmentsOver (old positions) (old channels) (old codes) (old ts) (old out) ⌝ }
+{
+    if is_fit(positions, channels, codes, ts.len(), out.len() / 4) {
+        paint_all(positions, channels, codes, ts, out);
+    }
+}

@@ -1,0 +1,25 @@
+-- `answer_shown` meets its contract: each case of an answer is shown as its own struct. Assumes nothing.
+use mathlib.Core.Path.{sym, ap}
+use Rattle.plain.specs.Ramps.{answerShown}
+use borrow.Author.Needs.{needs}
+use Rattle.plain.proofs.ramps.answer_shown.Statement.{statement}
+use Rattle.plain.proofs.ramps.answer_shown.Tie as tie
+
+enum-known-answer : tie.Need-enum-known-answer
+enum-known-answer c = search needs
+
+enum-known-answer-2 : tie.Need-enum-known-answer-2
+enum-known-answer-2 c = search needs
+
+cast-t5 : tie.Need-cast-t5
+cast-t5 c = search needs
+
+returns : tie.Need-returns
+returns c = sym (ap answerShown (c .before .answer .given .1))
+
+returns-2 : tie.Need-returns-2
+returns-2 c = sym (ap answerShown (c .before .answer2 .given .1))
+
+pub answer-shown-spec : {M : Type 1} → statement M
+answer-shown-spec =
+    tie.close (tie.spec enum-known-answer enum-known-answer-2 cast-t5 returns returns-2)

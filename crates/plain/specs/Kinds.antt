@@ -1,0 +1,39 @@
+-- The kinds of ramp by their codes. A code that names none is refused with 1, like a ramp of the wrong shape.
+use Prim.Native.Nat.{ℕ}
+use mathlib.Core.Path.{_≡_}
+use mathlib.Core.Bool.{cond}
+use lib.Dec.{eqb}
+use Rattle.stops.specs.declared.Kind.the-variants.{Linear, Smoothstep, Sharp, Basis, CatmullRom, Gimp}
+use lib.Ieee.{Float}
+use Rattle.stops.specs.Lent.{Lent, Ramp, lentRamp}
+use Rattle.stops.specs.declared.Kind.{Kind}
+use Rattle.plain.specs.declared.kinds.Coded.{Coded}
+use Rattle.plain.specs.declared.kinds.Coded.the-variants.{Of, Unknown}
+
+unfoldable pub kindOf : ℕ → Coded
+kindOf code =
+    cond (eqb code 0) (Of Linear)
+    (cond (eqb code 1) (Of Smoothstep)
+    (cond (eqb code 2) (Of Sharp)
+    (cond (eqb code 3) (Of Basis)
+    (cond (eqb code 4) (Of CatmullRom)
+    (cond (eqb code 5) (Of Gimp) Unknown)))))
+
+-- what is promised of an answer: for the kind of a code, and for a code that names none
+abbrev pub onKind : {A : Type 0} → Coded → (Kind → A → Type 0) → (A → Type 0) → A → Type 0
+onKind (Of kind) known unknown = known kind
+onKind Unknown known unknown = unknown
+
+-- b shows an answer that is promised
+pub record ShowsOf {A B : Type 0} (promise : A → Type 0) (show : A → B) (b : B) : Type 0 where
+  pub answer : A
+  pub promised : promise answer
+  pub shown : b ≡ show answer
+
+-- b shows an answer that is promised for the code
+pub record Shows {A B : Type 0} (code : ℕ) (known : Kind → A → Type 0) (unknown : A → Type 0) (show : A → B) (b : B) : Type 0 where
+  pub shows : ShowsOf (onKind (kindOf code) known unknown) show b
+
+-- a lent ramp, for any kind
+abbrev pub codedRamp : Lent Float → Lent Float → Lent ℕ → Kind → Ramp
+codedRamp ps cs ks kind = lentRamp kind ps cs ks

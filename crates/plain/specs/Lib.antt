@@ -1,0 +1,4 @@
+pub mod Kinds
+pub mod Ramps
+pub mod Lists
+pub mod Name

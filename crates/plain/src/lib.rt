@@ -1,0 +1,5 @@
+// What a C caller hands over and gets back: a kind by its code, and answers as plain fields.
+pub mod kinds;
+pub mod lists;
+pub mod name;
+pub mod ramps;

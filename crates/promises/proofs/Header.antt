@@ -1,0 +1,13 @@
+-- `header`: the header of a GIMP file, and the name in it.
+use contract.Lifetimes.{Lfts}
+use denote.Ref.{now}
+use Rattle.promises.specs.Law.{Coincide, coincide, answer}
+use Rattle.header.proofs.read_header.Reads as of-read-header
+use Rattle.header.proofs.name_part.Reads as of-name-part
+
+pub read-header : (κs : Lfts 1) (a : _) → Coincide (of-read-header.Learnt κs a) answer
+read-header κs a = coincide (λ r e w. w .is)
+
+-- a part of the lent text, by its bytes
+pub name-part : (κs : Lfts 1) (a : _) → Coincide (of-name-part.Learnt κs a) (λ r e. now r)
+name-part κs a = coincide (λ r e w. w)

@@ -1,0 +1,50 @@
+-- `difference` and `sampling`: how far apart two colours are, and records.
+use contract.Lifetimes.{Lfts}
+use denote.Ref.{now}
+use Rattle.sqrt.proofs.Theorems.{cutoff-unique}
+use Rattle.sampling.specs.Constants.{thresholdOf}
+use Rattle.promises.proofs.Parts.{rows-of, counts-of}
+use Rattle.promises.specs.Law.{Coincide, coincide, answer, _with_, both}
+use Rattle.difference.proofs.stands_out.Reads as of-stands-out
+use Rattle.sampling.proofs.Sampler.new.Reads as of-new
+use Rattle.sampling.proofs.cutoff_of.Reads as of-cutoff-of
+use Rattle.sampling.proofs.check_sample.Reads as of-check-sample
+use Rattle.sampling.proofs.sample.Reads as of-sample
+use Rattle.sampling.proofs.resample.Reads as of-resample
+use Rattle.sampling.proofs.cells.edge.Reads as of-edge
+use Rattle.sampling.proofs.cells.evaluate.Reads as of-evaluate
+use Rattle.sampling.proofs.segments.is_catmull_rom.Reads as of-is-catmull-rom
+use Rattle.sampling.proofs.segments.fill.Reads as of-fill
+
+pub stands-out : (κs : Lfts 0) (a : _) → Coincide (of-stands-out.Learnt κs a) answer
+stands-out κs a = coincide (λ r e w. w)
+
+-- a struct of one field
+pub new : (κs : Lfts 0) (a : _) → Coincide (of-new.Learnt κs a) (λ r e. r .threshold)
+new κs a = coincide (λ r e w. w)
+
+pub cutoff-of : (κs : Lfts 0) (a : _) → Coincide (of-cutoff-of.Learnt κs a) answer
+cutoff-of κs a = λ r s e f. cutoff-unique (thresholdOf (a .0)) r s
+
+pub check-sample : (κs : Lfts 3) (a : _) → Coincide (of-check-sample.Learnt κs a) answer
+check-sample κs a = coincide (λ r e w. w)
+
+-- the answer and the record
+pub sample : (κs : Lfts 5) (a : _) → Coincide (of-sample.Learnt κs a) (λ r e. r with now (e .1 .1 .1 .1 .1 .0) with now (e .1 .1 .1 .1 .1 .1 .0))
+sample κs a = coincide (λ r e w. both (w .answer) (both (rows-of (w .left)) (counts-of (w .left))))
+
+pub resample : (κs : Lfts 5) (a : _) → Coincide (of-resample.Learnt κs a) (λ r e. r with now (e .1 .1 .1 .1 .1 .1 .0) with now (e .1 .1 .1 .1 .1 .1 .1 .0))
+resample κs a = coincide (λ r e w. both (w .answer) (both (rows-of (w .left)) (counts-of (w .left))))
+
+pub edge : (κs : Lfts 0) (a : _) → Coincide (of-edge.Learnt κs a) answer
+edge κs a = coincide (λ r e w. w)
+
+pub evaluate : (κs : Lfts 4) (a : _) → Coincide (of-evaluate.Learnt κs a) answer
+evaluate κs a = coincide (λ r e w. w)
+
+pub is-catmull-rom : (κs : Lfts 0) (a : _) → Coincide (of-is-catmull-rom.Learnt κs a) answer
+is-catmull-rom κs a = coincide (λ r e w. w)
+
+-- how many, and the table
+pub fill : (κs : Lfts 2) (a : _) → Coincide (of-fill.Learnt κs a) (λ r e. r with now (e .1 .1 .0))
+fill κs a = coincide (λ r e w. both (w .many) (w .written))

@@ -1,0 +1,109 @@
+-- Outside the stretch of stop k the place of t does not read stop k. It is said over the reach, so it holds of every kind of stops. Assumes nothing.
+use mathlib.Core.Path.{_≡_, sym, _∙_, subst}
+use mathlib.Core.Bool.{Bool, true, false, cond, _&&_, _||_, true≢false}
+use mathlib.Core.List.{List}
+use mathlib.Core.Logic.{_⊎_, inl, inr}
+use Prim.Native.Nat.{ℕ, suc, _+_, _-_, _≤_, _<_}
+use native.Mathlib.Decide.{decLe}
+use native.Mathlib.Nat.{lt-of-not-le}
+use native.Mathlib.Omega.{arith}
+use borrow.Author.Tests.{not-true}
+use lib.Dec.{T, leb, ltb, leb→le, ltb→lt}
+use lib.ListN.{length}
+use lib.Ieee.{Float, le, lt, isNan}
+use lib.Ieee.Fits.{and-l, and-r}
+use lib.Ieee.Bits.{is-true}
+use Rattle.float.proofs.Order as order
+use Rattle.stops.proofs.Choice.{first-reaches}
+use Rattle.stops.proofs.Valid.{first-le}
+use Rattle.stops.specs.Stops.{posAt}
+use Rattle.stops.specs.Place.{Rising, firstAt, placeOf}
+use Rattle.stops.specs.declared.Kind.{Kind}
+use Rattle.stops.specs.declared.Kind.the-variants.{Linear, Smoothstep, Sharp, Basis, CatmullRom, Gimp}
+use Rattle.stops.specs.declared.Place.{Place}
+use Rattle.stops.specs.declared.Place.the-variants.{End, Nowhere, Between}
+use Rattle.reach.specs.Stretch.{reachOf, beforeOf, afterOf, outsideOf}
+
+-- ---- the stops that a place does not read, at a reach of so many pairs
+abbrev pub Unread : ℕ → ℕ → Place → Type 0
+Unread reach k (End i) = i ≡ k → ⊥
+Unread reach k Nowhere = Unit
+Unread reach k (Between j) = (k + reach < j) ⊎ (j + reach ≤ k)
+
+pub reach-some : (kind : Kind) → 1 ≤ reachOf kind
+reach-some Linear = omega arith
+reach-some Smoothstep = omega arith
+reach-some Sharp = omega arith
+reach-some Basis = omega arith
+reach-some CatmullRom = omega arith
+reach-some Gimp = omega arith
+
+-- ---- where t is found
+past-all : (t : Float) (ps : List Float) (j : ℕ) → j ≤ length ps → ((i : ℕ) → i < j → le t (posAt ps i) ≡ false) → j ≤ firstAt t ps
+past-all t ps j l h = go (decLe j (firstAt t ps))
+  where
+    go : Dec (j ≤ firstAt t ps) → j ≤ firstAt t ps
+    go (yes e) = e
+    go (no f) =
+        let g : firstAt t ps < j = lt-of-not-le f in
+        absurd (true≢false (sym (first-reaches t ps (omega arith)) ∙ h (firstAt t ps) g))
+
+module _ (ps : List Float) (t : Float) where
+  place-by : (P : Place → Type 0) → (T (le t (posAt ps 0)) → P (End 0)) → (T (le (posAt ps (length ps - 1)) t) → P (End (length ps - 1))) → P Nowhere → P (Between (firstAt t ps)) → P (placeOf ps t)
+  unfolding placeOf
+  place-by P first last none pair = go (le t (posAt ps 0)) (le (posAt ps (length ps - 1)) t) (isNan t) first last
+    where
+      go : (a b c : Bool) → (T a → P (End 0)) → (T b → P (End (length ps - 1))) → P (cond a (End 0) (cond b (End (length ps - 1)) (cond c Nowhere (Between (firstAt t ps)))))
+      go true b c first last = first tt
+      go false true c first last = last tt
+      go false false true first last = none
+      go false false false first last = pair
+
+lt-not-le : (x y : Float) → T (lt x y) → le y x ≡ false
+lt-not-le x y h =
+    let l = order.lt→le x y h in
+    not-true (le y x) (sym (order.lt-is x y (order.no-nan-l x y l) (order.no-nan-r x y l)) ∙ is-true (lt x y) h)
+
+never : (x : Float) → T (lt x x) → ⊥
+never x h = subst T (order.lt-irrefl x) h
+
+or-split : (a b : Bool) → (a || b) ≡ true → T a ⊎ T b
+or-split true b e = inl tt
+or-split false b e = inr (subst T (sym e) tt)
+
+-- outside the stretch the place of t does not read stop k
+module _ (reach : ℕ) (some : 1 ≤ reach) (ps : List Float) (rising : Rising ps) (k : ℕ) (within : k < length ps) (t : Float) where
+  before-unread : T (beforeOf reach ps k t) → Unread reach k (placeOf ps t)
+  unfolding beforeOf
+  before-unread h =
+      let a = leb reach k in
+      let p = posAt ps (k - reach) in
+      let b = ltb (k + 1) (length ps) || lt t (posAt ps k) in
+      let left = and-l (a && le t p) b h in
+      let far : reach ≤ k = leb→le reach k (and-l a (le t p) left) in
+      place-by ps t (Unread reach k)
+      (λ z e. omega arith)
+      (λ z e. at-last (length ps - 1) e (omega arith) z (or-split (ltb (k + 1) (length ps)) (lt t (posAt ps k)) (is-true b (and-r (a && le t p) b h))))
+      tt
+      (inr (omega (arith, first-le t ps (k - reach) (omega arith) (is-true (le t p) (and-r a (le t p) left)))))
+    where
+      at-last : (l : ℕ) → l ≡ k → length ps ≡ l + 1 → T (le (posAt ps l) t) → T (ltb (k + 1) (length ps)) ⊎ T (lt t (posAt ps k)) → ⊥
+      at-last l e n z (inl s) = omega (arith, ltb→lt (k + 1) (length ps) s)
+      at-last l e n z (inr s) = never (posAt ps k) (order.le-lt-trans (posAt ps k) t (posAt ps k) (subst (λ (i : ℕ). T (le (posAt ps i) t)) e z) s)
+
+  after-unread : T (afterOf reach ps k t) → Unread reach k (placeOf ps t)
+  unfolding afterOf
+  after-unread h =
+      let b = ltb (k + reach) (length ps) in
+      let q = posAt ps (k + reach) in
+      let near : k + reach < length ps = ltb→lt (k + reach) (length ps) (and-l b (lt q t) h) in
+      let past : T (lt q t) = and-r b (lt q t) h in
+      place-by ps t (Unread reach k)
+      (λ z e. never q (order.lt-le-trans q t q past (order.le-trans t (posAt ps 0) q z (rising 0 (k + reach) (omega arith) near))))
+      (λ z e. omega arith)
+      tt
+      (inl (past-all t ps (suc (k + reach)) near (λ i l. lt-not-le (posAt ps i) t (order.le-lt-trans (posAt ps i) q t (rising i (k + reach) (omega arith) near) past))))
+
+  pub outside-unread : outsideOf reach ps k t ≡ true → Unread reach k (placeOf ps t)
+  unfolding outsideOf
+  outside-unread h = elim (or-split (beforeOf reach ps k t) (afterOf reach ps k t) h) [ inl b ↦ before-unread b | inr a ↦ after-unread a ]

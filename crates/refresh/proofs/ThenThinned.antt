@@ -1,0 +1,58 @@
+-- A refreshed list is a refresh, and then a thinning of the changed ramp over what that left: by the check of the refresh. Assumes nothing.
+use mathlib.Core.Path.{_≡_, sym, _∙_}
+use lib.ListN.{length}
+use lib.Ieee.{Float}
+use Rattle.stops.specs.Lent.{Ramp, Change, change}
+use Rattle.stops.specs.declared.Checked.{Checked}
+use Rattle.stops.specs.declared.Checked.the-variants as checked
+use Rattle.gradient.specs.Ramp.{colourOf}
+use Rattle.sampling.specs.Lent.{Held}
+use Rattle.sampling.specs.Sampling.{farOf}
+use Rattle.thinning.specs.Kept.{keptOf, refusalOf, listEvaluations}
+use Rattle.linearize.specs.Lent.{Output}
+use Rattle.linearize.specs.Desk.{thinCheck, pointsIn, room, thinOutput}
+use Rattle.linearize.specs.Promises.{Thins}
+use Rattle.linearize.specs.declared.Listed.{Listed}
+use Rattle.linearize.proofs.Checks.{ready, ready-counts}
+use Rattle.linearize.proofs.Answers.{added}
+use Rattle.refresh.specs.Edit.{edited}
+use Rattle.refresh.specs.RefreshDesk.{refreshCheck, renewed, newEvaluations, refreshAnswer, refreshHeld, refreshOutput, Refreshes, RefreshLists}
+use Rattle.refresh.specs.AfterEdit.{RefreshedThenThinned}
+use Rattle.refresh.specs.declared.edit.Edit.{Edit}
+use Rattle.refresh.specs.declared.Refreshed.{Refreshed}
+use Rattle.refresh.proofs.EditChecks.{thin-fine}
+use Rattle.refresh.proofs.RefreshAnswers.{edited-held, renewed-thins}
+
+-- the refreshed record may be thinned, with the changed ramp
+thins : (ramp : Ramp) (e : Edit) (asked : Float) (was : Held) → refreshCheck ramp e was ≡ checked.Fine → thinCheck (edited ramp e) (renewed ramp e asked was) ≡ checked.Fine
+unfolding thinCheck
+thins ramp e asked was h =
+    let before = ready ramp was (thin-fine ramp e was h) in
+    let after = renewed-thins ramp e asked was h in
+    rw (after .long ∙ sym (before .long), after .many ∙ sym (before .many), edited-held ramp e was h) (ready-counts _ _ after)
+
+module _ (ramp : Ramp) (e : Edit) (asked : Float) (held : Change Held) (all : Held) (thinned : Change Output) (out : Output) (q : Refreshed) (l r : Listed)
+    (first : Refreshes ramp e asked held q)
+    (second : Thins (edited ramp e) asked (held .exit) thinned l)
+    (both : RefreshLists ramp e asked (change (held .entry) all) (change (thinned .entry) out) r) where
+  pub by-check : (c : Checked) → refreshCheck ramp e (held .entry) ≡ c → RefreshedThenThinned (held .exit) all thinned out q l r
+  unfolding refreshAnswer refreshHeld refreshOutput thinOutput
+  by-check (checked.Refused n) h =
+      record {
+        answer = both .told .answer ∙ rw (first .answer, h);
+        same-record = both .left ∙ rw (first .left, h);
+        output = both .output ∙ rw (first .answer, h);
+      }
+  by-check checked.Fine h =
+      let g = colourOf (edited ramp e) in
+      let ts = pointsIn (edited ramp e) (renewed ramp e asked (held .entry)) in
+      let new : held .exit ≡ renewed ramp e asked (held .entry) = first .left ∙ rw h in
+      let fine = thins ramp e asked (held .entry) h in
+      record {
+        answer =
+            both .told .answer
+            ∙ rw (first .answer, second .told .answer, h, new, fine)
+            (sym (added (newEvaluations ramp e asked) (refusalOf g (farOf asked) (room (thinned .entry)) ts) (length (keptOf g (farOf asked) ts)) (listEvaluations g (farOf asked) ts)));
+        same-record = both .left ∙ rw (first .left, h);
+        output = both .output ∙ rw (first .answer, second .output, h, new, fine);
+      }

@@ -1,0 +1,7 @@
+-- Laws that belong to no one function.
+pub mod Found
+pub mod Words
+pub mod Fields
+pub mod Numerals
+pub mod Numbers
+pub mod Read

@@ -1,0 +1,13 @@
+-- Laws that belong to no one function.
+pub mod Joined
+pub mod Tabled
+pub mod Thresholds
+pub mod Halves
+pub mod Rows
+pub mod Ends
+pub mod Filling
+pub mod Renewing
+pub mod Bounds
+pub mod Checks
+pub mod Answers
+pub mod Edges

@@ -1,0 +1,89 @@
+-- What the functions within promise each other.
+use mathlib.Core.Path.{_≡_}
+use mathlib.Core.Bool.{Bool, true, cond}
+use mathlib.Core.List.{List}
+use Prim.Native.Nat.{ℕ, _+_, _*_, _≤_}
+use lib.ListN.{length, set}
+use lib.Seq.{sets}
+use lib.Ieee.{Float}
+use Rattle.stops.specs.Lent.{Ramp, Change, Slice, Lent, rampIn, lentRamp}
+use Rattle.stops.specs.declared.Checked.the-variants.{Fine}
+use Rattle.gradient.specs.Ramp.{checkOf, colourOf}
+use Rattle.difference.specs.Difference.{exceeds}
+use Rattle.sampling.specs.Constants.{cells, depth, rowLength}
+use Rattle.sampling.specs.Midpoints.{Gradient, Far, halves, tries}
+use Rattle.sampling.specs.Cells.{edgeOf, pointsOf, rowOf, summed, cellRow, cellCount, cellTries}
+use Rattle.sampling.specs.Anew.{anewTries, anewRows, anewCounts}
+use Rattle.sampling.specs.Lent.{Held}
+use Rattle.sampling.specs.Segments.{Table, Segments}
+use Rattle.sampling.specs.declared.Point.{Point}
+use Rattle.sampling.specs.declared.Halved.{Halved}
+use Rattle.sampling.specs.declared.Carried.{Carried}
+use Rattle.sampling.specs.declared.Task.{Task}
+
+-- ---- a task: its ramp, in a `requires`; its colours, in an `ensures`; its test; the left end of its cell i
+abbrev pub taskRamp : Task → Slice Float → Slice Float → Slice ℕ → Ramp
+taskRamp task = rampIn (task .kind)
+
+abbrev pub taskColours : Task → Lent Float → Lent Float → Lent ℕ → Gradient
+taskColours task positions channels codes = colourOf (lentRamp (task .kind) positions channels codes)
+
+abbrev pub taskFar : Task → Far
+taskFar task = exceeds (task .cutoff)
+
+abbrev pub taskEnd : Task → ℕ → Float
+taskEnd task = edgeOf (task .min) (task .max)
+
+-- ---- points
+-- a ramp that passes the check, and a table with segments of its own, or with none
+pub record Prepared (ramp : Ramp) (table : Table) : Type 0 where
+  pub fine : checkOf ramp ≡ Fine
+  pub segments : Segments (ramp .channels) (length (ramp .positions)) table
+
+-- a point carries its own colour
+abbrev pub Coloured : Gradient → Point → Type 0
+Coloured g p = p .colour ≡ g (p .t)
+
+-- a point at t
+abbrev pub PointAt : Gradient → Float → Point → Type 0
+PointAt g t p = (p .t ≡ t) × Coloured g p
+
+-- the ends of a stretch of a checked ramp carry their colours
+pub record Between (ramp : Ramp) (table : Table) (p q : Point) : Type 0 where
+  pub ready : Prepared ramp table
+  pub left : Coloured (colourOf ramp) p
+  pub right : Coloured (colourOf ramp) q
+
+-- the midpoints kept are stored from `at` on
+pub record HalvesTo (g : Gradient) (far : Far) (left : ℕ) (t0 t1 : Float) (at : ℕ) (row row′ : List Float) (r : Halved) : Type 0 where
+  pub next : r .at ≡ at + length (halves g far left t0 t1)
+  pub tried : r .tries ≡ tries g far left t0 t1
+  pub written : row′ ≡ sets row at (halves g far left t0 t1)
+
+pub record RowIs (g : Gradient) (far : Far) (t0 t1 : Float) (row′ : List Float) (r : Halved) : Type 0 where
+  pub count : r .at ≡ length (pointsOf g far t0 t1)
+  pub tried : r .tries ≡ tries g far depth t0 t1
+  pub written : row′ ≡ rowOf g far t0 t1
+
+-- what is carried to cell i: the point where it starts, if that is known, and few tries
+pub record Carries (g : Gradient) (lo hi : Float) (i : ℕ) (c : Carried) : Type 0 where
+  pub start : c .known ≡ true → PointAt g (edgeOf lo hi i) (c .point)
+  pub few : c .tries ≤ 127 * i
+
+-- a checked ramp, and what is carried to its cell i
+pub record Reaches (ramp : Ramp) (table : Table) (lo hi : Float) (i : ℕ) (c : Carried) : Type 0 where
+  pub ready : Prepared ramp table
+  pub carries : Carries (colourOf ramp) lo hi i c
+
+-- cell i keeps what it holds, or is sampled anew; r is carried on
+pub record CellCarried (g : Gradient) (far : Far) (kept : Bool) (lo hi : Float) (i : ℕ) (held : Change Held) (c r : Carried) : Type 0 where
+  pub tried : r .tries ≡ c .tries + cond kept 0 (cellTries g far lo hi i)
+  pub written : held .exit .rows ≡ cond kept (held .entry .rows) (sets (held .entry .rows) (i * rowLength) (cellRow g far lo hi i))
+  pub counted : held .exit .counts ≡ cond kept (held .entry .counts) (set (held .entry .counts) i (cellCount g far lo hi i))
+  pub carries : Carries g lo hi (i + 1) r
+
+-- the record is sampled anew but for the cells kept
+pub record RecordAnew (g : Gradient) (far : Far) (keep : ℕ → Bool) (lo hi : Float) (held : Change Held) (n : ℕ) : Type 0 where
+  pub tried : n ≡ summed (anewTries g far keep lo hi) cells
+  pub written : held .exit .rows ≡ anewRows g far keep lo hi (held .entry .rows)
+  pub counted : held .exit .counts ≡ anewCounts g far keep lo hi (held .entry .counts)

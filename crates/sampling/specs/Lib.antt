@@ -1,0 +1,9 @@
+pub mod Constants
+pub mod Midpoints
+pub mod Cells
+pub mod Segments
+pub mod Lent
+pub mod Sampling
+pub mod Anew
+pub mod Inner
+pub mod Promises

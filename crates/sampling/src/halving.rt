@@ -1,0 +1,86 @@
+// Halving a stretch where its colours bend, and the row of a cell.
+use crate::Halved;
+use crate::Point;
+use crate::Sampler;
+use crate::Task;
+use crate::cells::evaluate;
+use blend::utils::interpolate_linear;
+use difference::stands_out;
+use slices::zero_from;
+ghost use mathlib.Core.Path.{_≡_};
+ghost use Prim.Native.Nat.{_+_, _≤_, _^_};
+ghost use lib.ListN.{length};
+ghost use Rattle.sampling.specs.Constants.{rowLength};
+ghost use Rattle.sampling.specs.Inner.{Between, taskRamp, taskColours, taskFar, HalvesTo, RowIs};
+ghost use Rattle.stops.specs.Lent.{old, new};
+
+// Writes the midpoints kept between p and q into the row from `at` on, in order, with `left` halvings left.
+fn halve(
+    task: Task,
+    positions: &[f32],
+    channels: &[f32],
+    codes: &[u8],
+    row: &mut [f32],
+    at: usize,
+    p: Point,
+    q: Point,
+    left: usize,
+    table: &[[[f32; 4]; 4]],
+) -> Halved
+    requires { ⌜ at + 2 ^ left ≤ length (now row) + 1 ⌝ }
+    requires { ⌜ Between (taskRamp task positions channels codes) (now table) p q ⌝ }
+    ensures { λ r. ⌜ HalvesTo (taskColours task positions channels codes) (taskFar task) left (p .t) (q .t) at (old row) (new row) r ⌝ }
+{
+    if left == 0 {
+        return Halved { at, tries: 0 };
+    }
+    let middle = (p.t + q.t) / 2.0;
+    let kind = task.kind;
+    let m = evaluate(kind, positions, channels, codes, middle, table);
+    let foretold = interpolate_linear(p.colour, q.colour, 0.5);
+    if !stands_out(task.cutoff, m.colour, foretold) {
+        return Halved { at, tries: 1 };
+    }
+    let n = left - 1;
+    let a = halve(task, positions, channels, codes, row, at, p, m, n, table);
+    let k = a.at;
+    row[k] = m.t;
+    let b = halve(task, positions, channels, codes, row, k + 1, m, q, n, table);
+    Halved {
+        at: b.at,
+        tries: a.tries + b.tries + 1,
+    }
+}
+
+// Writes the row of the cell from p to q.
+pub(crate) fn row_into(
+    task: Task,
+    positions: &[f32],
+    channels: &[f32],
+    codes: &[u8],
+    row: &mut [f32],
+    p: Point,
+    q: Point,
+    table: &[[[f32; 4]; 4]],
+) -> Halved
+    requires { ⌜ length (now row) ≡ rowLength ⌝ }
+    requires { ⌜ Between (taskRamp task positions channels codes) (now table) p q ⌝ }
+    ensures { λ r. ⌜ RowIs (taskColours task positions channels codes) (taskFar task) (p .t) (q .t) (new row) r ⌝ }
+{
+    row[0] = p.t;
+    let h = halve(
+        task,
+        positions,
+        channels,
+        codes,
+        row,
+        1,
+        p,
+        q,
+        Sampler::DEPTH,
+        table,
+    );
+    let at = h.at;
+    zero_from(row, at);
+    h
+}

@@ -1,0 +1,5 @@
+-- Laws that belong to no one function.
+mod Rows
+mod Codes
+mod Stored
+pub mod Carried

@@ -1,0 +1,147 @@
+// The steps of thinning, over points that carry their colours: a point is skipped, dropped or kept, and a stop is written.
+use blend::Rgba;
+use blend::utils::interpolate_linear;
+use difference::stands_out;
+use refusals::LIST_FALLING;
+use refusals::LIST_NOT_FINITE;
+use refusals::NO_ROOM;
+use sampling::Point;
+use slices::put;
+use stops::channels::put_colour;
+use stops::is_finite_colour;
+ghost use mathlib.Core.Path.{_≡_};
+ghost use Prim.Native.Nat.{_*_, _/_, min};
+ghost use lib.Seq.{sets};
+ghost use Rattle.blend.specs.Channels.{channelsOf};
+ghost use Rattle.difference.specs.Difference.{exceeds};
+ghost use Rattle.stops.specs.Lent.{old, new};
+ghost use Rattle.thinning.specs.Counts.{sumOf};
+ghost use Rattle.thinning.specs.Kept.{nearOf, stopRefusal};
+ghost use Rattle.thinning.specs.Walk.{runWas, runIs, emitRun, stepRun};
+
+// The last point kept, how many stops were written and how many points weighed, and the refusal (0 for none).
+pub struct Progress {
+    pub last: Point,
+    pub stops: usize,
+    pub tried: usize,
+    pub refusal: u8,
+}
+
+// The largest count.
+const MOST: usize = 18446744073709551615;
+
+// The sum of two counts, or the largest where the sum is none.
+pub fn sum(a: usize, b: usize) -> usize
+    ensures { λ r. ⌜ r ≡ sumOf a b ⌝ }
+{
+    if a <= MOST - b {
+        return a + b;
+    }
+    MOST
+}
+
+// The whole stops that both outputs hold.
+pub fn room_of(positions: usize, channels: usize) -> usize
+    ensures { λ r. ⌜ r ≡ min positions (channels / 4) ⌝ }
+{
+    let k = channels / 4;
+    if positions <= k {
+        return positions;
+    }
+    k
+}
+
+// Nearer than 2^-23.
+fn near(last: f32, x: f32) -> bool
+    ensures { λ r. ⌜ r ≡ nearOf last x ⌝ }
+{
+    float::magnitude(last - x) < 0.00000011920928955078125
+}
+
+// 7, 8, 9, or 0 where the stop may be written.
+fn stop_refusal(room: usize, n: usize, last: f32, t: f32, c: Rgba) -> u8
+    ensures { λ r. ⌜ r ≡ stopRefusal room n last t c ⌝ }
+{
+    if room <= n {
+        return NO_ROOM;
+    }
+    if !float::is_finite(t) {
+        return LIST_NOT_FINITE;
+    }
+    if !is_finite_colour(c) {
+        return LIST_NOT_FINITE;
+    }
+    if t < last {
+        return LIST_FALLING;
+    }
+    0
+}
+
+// The colour of stop n, as much of it as there is room for.
+fn put_stop(out: &mut [f32], n: usize, c: Rgba)
+    ensures { λ _. ⌜ new out ≡ sets (old out) (4 * n) (channelsOf c) ⌝ }
+{
+    if n < out.len() {
+        put_colour(out, 4 * n, c);
+    }
+}
+
+// Writes a stop at p, unless it is refused; as much of it as the outputs have room for.
+pub fn emit(
+    room: usize,
+    s: Progress,
+    p: Point,
+    out_positions: &mut [f32],
+    out_channels: &mut [f32],
+) -> Progress
+    ensures { λ r. ⌜ runIs r «out_positions» «out_channels» ≡ emitRun room (runWas s «out_positions» «out_channels») p ⌝ }
+{
+    let n = s.stops;
+    let last = s.last;
+    let refusal = stop_refusal(room, n, last.t, p.t, p.colour);
+    if refusal != 0 {
+        return Progress {
+            last,
+            stops: n,
+            tried: s.tried,
+            refusal,
+        };
+    }
+    put(out_positions, n, p.t);
+    put_stop(out_channels, n, p.colour);
+    Progress {
+        last: p,
+        stops: n + 1,
+        tried: s.tried,
+        refusal: 0,
+    }
+}
+
+// Weighs x between the last point kept and the next: it is skipped, dropped or kept.
+pub fn step(
+    cutoff: f32,
+    room: usize,
+    s: Progress,
+    x: Point,
+    next: Point,
+    out_positions: &mut [f32],
+    out_channels: &mut [f32],
+) -> Progress
+    ensures { λ r. ⌜ runIs r «out_positions» «out_channels» ≡ stepRun (exceeds cutoff) room (runWas s «out_positions» «out_channels») x next ⌝ }
+{
+    let kept = s.last;
+    if near(kept.t, x.t) {
+        return s;
+    }
+    let weighed = Progress {
+        last: kept,
+        stops: s.stops,
+        tried: sum(s.tried, 1),
+        refusal: s.refusal,
+    };
+    let foretold = interpolate_linear(kept.colour, next.colour, (x.t - kept.t) / (next.t - kept.t));
+    if !stands_out(cutoff, x.colour, foretold) {
+        return weighed;
+    }
+    emit(room, weighed, x, out_positions, out_channels)
+}

@@ -1,0 +1,55 @@
+-- `put_rows` meets its contract: the lines put and those left are all the lines. Assumes nothing.
+use borrow.Author.Needs.{needs}
+use native.Mathlib.Omega.{arith}
+use mathlib.Core.Path.{_≡_, refl, _∙_}
+use Prim.Native.Nat.{_-_}
+use denote.Ref.{now}
+use lib.ListN.{length}
+use Rattle.writing.proofs.Texts.{puts-size, Rowed, rowed-start, rowed-next, rowed-done}
+use Rattle.writing.proofs.put_rows.Statement.{statement}
+use Rattle.writing.proofs.put_rows.Tie as tie
+
+abbrev Inv-loop : tie.InvT-loop
+Inv-loop out₀ at n positions channels next₀ i₀ out next i = (length out ≡ length out₀) × Rowed out₀ out at next n i positions channels
+
+abbrev μ-loop : tie.MeasureT-loop
+μ-loop out₀ at n positions channels next₀ i₀ out next i = n - i
+
+loop-holds : tie.Need-loop-holds Inv-loop μ-loop
+loop-holds c = (refl, rowed-start (now (c .before .before .before .args .out)) (c .before .before .before .args .at) (c .before .before .before .args .n) (c .before .before .before .args .positions .now) (c .before .before .before .args .channels .now))
+
+stop-requires : tie.Need-stop-requires Inv-loop μ-loop
+stop-requires c κs = search needs
+
+put-stop-requires : tie.Need-put-stop-requires Inv-loop μ-loop
+put-stop-requires c κs = omega (arith, c .before .before .before .loop .inv .1 .put .next, c .before .before .before .loop .inv .1 .size)
+
+add-i : tie.Need-add-i Inv-loop μ-loop
+add-i c = search needs
+
+loop-less : tie.Need-loop-less Inv-loop μ-loop
+loop-less c = search needs
+
+loop-again : tie.Need-loop-again Inv-loop μ-loop
+loop-again c = (puts-size (c .before .before .put-stop .ensures) ∙ c .before .before .before .before .before .before .loop .inv .0, rowed-next (search needs) (c .before .before .before .stop .ensures) (c .before .before .before .before .before .before .loop .inv .1) (c .before .before .put-stop .ensures))
+
+same-length : tie.Need-same-length Inv-loop μ-loop
+same-length c = c .before .loop .inv .0
+
+returns : tie.Need-returns Inv-loop μ-loop
+returns c = rowed-done (search needs) (c .before .loop .inv .1)
+
+pub put-rows-spec : {M : Type 1} → statement M
+put-rows-spec =
+    tie.close
+    (tie.spec
+    Inv-loop
+    μ-loop
+    loop-holds
+    stop-requires
+    put-stop-requires
+    add-i
+    loop-less
+    loop-again
+    same-length
+    returns)

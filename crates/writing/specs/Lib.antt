@@ -1,0 +1,3 @@
+-- What the tool prints.
+pub mod Printed
+pub mod Within
