@@ -21,7 +21,7 @@ sys.dont_write_bytecode = True
 from document import DEFAULT, Ramp, Refusal, bits_of, number, refresh, sample, thin, threshold_of
 
 PROGRAM = Path(__file__).resolve().parent.parent / "target/bin/flatten"
-MOST_BYTES, ROOM = 16384, 1000
+MOST_BYTES, MOST_STOPS, ROOM = 16384, 512, 1000
 
 
 class Unread(Exception):
@@ -69,7 +69,9 @@ def read(data):
 
 
 def flattened(kind, asked, stops, edit):
-    """The positions and colours of the list, and the evaluations of all calls made."""
+    """The positions and colours of the list, and the evaluations of all calls made. The tool holds 512 stops."""
+    if len(stops) > MOST_STOPS:
+        raise Refusal(1)
     ramp = Ramp(kind, [s[0] for s in stops], [tuple(s[1:]) for s in stops])
     ramp.check()
     threshold = threshold_of(asked)

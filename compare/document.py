@@ -95,7 +95,7 @@ class Ramp:
         self.kind, self.positions, self.colours, self.seen = kind, positions, colours, {}
 
     def check(self):
-        if not 2 <= len(self.positions) <= 512:
+        if not 2 <= len(self.positions) <= 2048:
             raise Refusal(1)
         before = -math.inf
         for position, colour in zip(self.positions, self.colours):

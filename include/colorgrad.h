@@ -37,7 +37,7 @@ extern "C" {
 #define COLORGRAD_COLOURING_RGB 0u
 
 /* ---- limits */
-#define COLORGRAD_MOST_STOPS 512u      /* of a ramp */
+#define COLORGRAD_MOST_STOPS 2048u     /* of a ramp */
 #define COLORGRAD_MOST_SEGMENTS 256u   /* of a GIMP ramp */
 #define COLORGRAD_MOST_COLOURS 256u    /* of a sharp ramp to build, which gets two stops for each */
 #define COLORGRAD_CELLS 36u            /* counts of a record */

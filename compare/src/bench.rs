@@ -153,6 +153,11 @@ fn rust_paint(g: &Boxed, points: &[f32], out: &mut [f32]) {
     }
 }
 
+/// Those of the sizes that a kind can have; 512 stands for the most segments.
+fn sizes(kind: Kind, of_stops: &[usize]) -> impl Iterator<Item = usize> + '_ {
+    of_stops.iter().copied().filter(move |n| kind != Kind::Gimp || *n <= 512)
+}
+
 /// Points from left to right, and random ones.
 fn points(random: &mut Random) -> [(&'static str, Vec<f32>); 2] {
     let across = (0..POINTS).map(|i| i as f32 / (POINTS - 1) as f32).collect();
@@ -179,7 +184,7 @@ fn paint_files(random: &mut Random) {
 fn paint(random: &mut Random) {
     let points = points(random);
     for kind in KINDS {
-        for n in [2, 64, 512] {
+        for n in sizes(kind, &[2, 64, 512, 2048]) {
             paint_beside(kind.name(), &even_ramp(random, kind, n), &points);
         }
     }
@@ -222,7 +227,7 @@ fn reading(random: &mut Random) {
 
 fn flatten(random: &mut Random) {
     for kind in KINDS {
-        for n in [2, 16, 64, 512] {
+        for n in sizes(kind, &[2, 16, 64, 512, 2048]) {
             let ramp = even_ramp(random, kind, n);
             let g = oracle::gradient(&ramp);
             for threshold in [0.007, 0.001] {

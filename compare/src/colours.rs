@@ -48,7 +48,7 @@ fn one_kind(options: &Options, kind: Kind) -> Tally {
     tally.done()
 }
 
-fn compare(tally: &mut Tally, case: u64, ramp: &Ramp, points: &[f32], cramped: bool) {
+pub fn compare(tally: &mut Tally, case: u64, ramp: &Ramp, points: &[f32], cramped: bool) {
     let refusal = ramp.refusal();
     let want: Vec<f32> = match refusal {
         0 => {

@@ -32,7 +32,8 @@ pub fn full(kind: Kind) -> [Ramp; 2] {
             of_segments(&ends)
         }
         _ => {
-            let n = MOST_STOPS + more;
+            // an odd number of sharp stops is refused for that alone
+            let n = MOST_STOPS + if kind == Kind::Sharp { 2 * more } else { more };
             let positions: Vec<_> = (0..n).map(|i| part(i, n - 1)).collect();
             of_stops(kind, &positions)
         }

@@ -9,6 +9,7 @@ mod gimp_texts;
 mod limits;
 mod list_limits;
 mod lists;
+mod many;
 mod options;
 mod oracle;
 mod ordinary;
@@ -31,7 +32,7 @@ use std::path::Path;
 use std::process::ExitCode;
 
 const USAGE: &str = "compare COMMAND [N] [--seed S] [--case I]
-  roots tokens colours sharp texts lists refresh   one comparison, of N inputs
+  roots tokens colours sharp texts lists refresh many   one comparison, of N inputs
   all [PERCENT]      every comparison, at its full size or at that part of it
   differences        the smallest inputs of docs/DIFFERENCES.md, with the Rust's answers and ours
   files FOLDER       the .ggr files in it, as compare/fetch gets them
@@ -42,7 +43,7 @@ const USAGE: &str = "compare COMMAND [N] [--seed S] [--case I]
 type Comparison = (&'static str, fn(&Options) -> Vec<Tally>, u64);
 
 /// Each comparison with its full size.
-const COMPARISONS: [Comparison; 7] = [
+const COMPARISONS: [Comparison; 8] = [
     ("roots", roots::run, 1 << 32),
     ("tokens", tokens::run, 100_000_000),
     ("colours", colours::run, 2_000_000),
@@ -50,6 +51,7 @@ const COMPARISONS: [Comparison; 7] = [
     ("texts", texts::run, 200_000),
     ("lists", lists::run, 20_000),
     ("refresh", refresh::run, 20_000),
+    ("many", many::run, 4_000),
 ];
 
 fn main() -> ExitCode {

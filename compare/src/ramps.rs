@@ -14,7 +14,7 @@ pub enum Kind {
 
 pub const KINDS: [Kind; 6] = [Kind::Linear, Kind::Smoothstep, Kind::Sharp, Kind::Basis, Kind::CatmullRom, Kind::Gimp];
 
-pub const MOST_STOPS: usize = 512;
+pub const MOST_STOPS: usize = 2048;
 pub const MOST_SEGMENTS: usize = 256;
 
 impl Kind {
@@ -97,7 +97,7 @@ pub fn random_ramp(random: &mut Random, kind: Kind) -> Ramp {
         return random_segments(random);
     }
     let mut n = match random.below(32) {
-        0 => MOST_STOPS,
+        0 => random.pick(&[MOST_STOPS, 1700]),
         1 | 2 => random.from_to(2, MOST_STOPS),
         3..=8 => random.from_to(2, 64),
         _ => random.from_to(2, 9),
@@ -122,7 +122,7 @@ pub fn random_or_spoilt(random: &mut Random, kind: Kind) -> Ramp {
     ramp
 }
 
-fn random_positions(random: &mut Random, n: usize) -> Vec<f32> {
+pub fn random_positions(random: &mut Random, n: usize) -> Vec<f32> {
     let style = random.below(10);
     let base = if random.one_in(2) { random.unit() } else { random.finite() / 2.0 };
     let mut list: Vec<f32> = (0..n)
@@ -149,7 +149,7 @@ fn random_positions(random: &mut Random, n: usize) -> Vec<f32> {
     list
 }
 
-fn random_channels(random: &mut Random, n: usize) -> Vec<f32> {
+pub fn random_channels(random: &mut Random, n: usize) -> Vec<f32> {
     let style = random.below(8);
     let mut last = 0.5;
     (0..n)

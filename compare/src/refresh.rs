@@ -110,7 +110,7 @@ pub fn redone(ramp: &Ramp, edit: &Edit, threshold: f32) -> impl Iterator<Item = 
 }
 
 /// A record of rubbish: only the cells that are not clear are written.
-fn kept(tally: &mut Tally, case: u64, ramp: &Ramp, edit: &Edit, threshold: f32, record: Record) {
+pub fn kept(tally: &mut Tally, case: u64, ramp: &Ramp, edit: &Edit, threshold: f32, record: Record) {
     tally.inputs(1);
     let mut got = record.clone();
     let answer = ours::refresh(ramp, edit, threshold, &mut got);
@@ -138,7 +138,7 @@ fn kept(tally: &mut Tally, case: u64, ramp: &Ramp, edit: &Edit, threshold: f32, 
 }
 
 /// Sampled, refreshed and thinned, against the changed ramp flattened by the Rust; and the two last steps in one call.
-fn refreshed(tally: &mut Tally, case: u64, ramp: &Ramp, edit: &Edit, threshold: f32) {
+pub fn refreshed(tally: &mut Tally, case: u64, ramp: &Ramp, edit: &Edit, threshold: f32) {
     if refusal(ramp, edit, &[]) != 0 {
         return;
     }

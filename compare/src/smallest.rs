@@ -78,7 +78,7 @@ fn built() {
 }
 
 fn lent() {
-    let many: Vec<f32> = (0..513).map(|i| i as f32 / 512.0).collect();
+    let many: Vec<f32> = (0..2049).map(|i| i as f32 / 2048.0).collect();
     let segments = |n: usize, blending: u8| Ramp {
         kind: Kind::Gimp,
         positions: [0.0, 0.5, 1.0].repeat(n),
@@ -86,7 +86,7 @@ fn lent() {
         codes: [blending, 0].repeat(n),
     };
     let inputs = [
-        ("linear, 513 stops", stops(Kind::Linear, &many, &many)),
+        ("linear, 2,049 stops", stops(Kind::Linear, &many, &many)),
         ("linear, positions 1, 0", stops(Kind::Linear, &[1.0, 0.0], &[0.0, 1.0])),
         ("smoothstep, positions 1, 0", stops(Kind::Smoothstep, &[1.0, 0.0], &[0.0, 1.0])),
         ("basis, positions 1, 0", stops(Kind::Basis, &[1.0, 0.0], &[0.0, 1.0])),

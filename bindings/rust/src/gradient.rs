@@ -133,7 +133,7 @@ macro_rules! of_stops {
 
         impl $name {
             /// A ramp of positions and colours, as many of the one as of the other. Refused with 1 where that is not so or
-            /// they are not 2 to 512, with 2 where a number is not finite, with 3 where a position is below the one before.
+            /// they are not 2 to 2,048, with 2 where a number is not finite, with 3 where a position is below the one before.
             pub fn new(positions: &[f32], colors: &[Color]) -> Result<$name, Refusal> {
                 Parts::stops($kind, positions, colors).map($name)
             }

@@ -21,7 +21,7 @@ use crate::calls;
 use crate::{Color, ParseGgrError, Refusal};
 
 /// How many stops a ramp may have.
-pub const MOST_STOPS: usize = 512;
+pub const MOST_STOPS: usize = 2048;
 /// How many segments a GIMP ramp may have.
 pub const MOST_SEGMENTS: usize = 256;
 /// How many cells a record has, each with a count.

@@ -123,7 +123,7 @@ impl List {
         self.evaluations
     }
 
-    /// The list as a ramp of its own. Refused with 1 where it has more than 512 stops.
+    /// The list as a ramp of its own. Refused with 1 where it has more than 2,048 stops.
     pub fn gradient(&self) -> Result<LinearGradient, Refusal> {
         LinearGradient::new(&self.positions, &self.colors)
     }

@@ -72,7 +72,7 @@ impl Desk {
 #[test]
 fn misshapen() {
     assert_eq!(LinearGradient::new(&[0.0], &[BLACK]), Err(Refusal::Misshapen));
-    assert_eq!(LinearGradient::new(&[0.0; 513], &[BLACK; 513]), Err(Refusal::Misshapen));
+    assert_eq!(LinearGradient::new(&[0.0; 2049], &[BLACK; 2049]), Err(Refusal::Misshapen));
     assert_eq!(LinearGradient::new(&[0.0, 1.0], &[BLACK]), Err(Refusal::Misshapen));
     assert_eq!(SharpGradient::new(&[0.0; 3], &[BLACK; 3]), Err(Refusal::Misshapen));
     assert_eq!(lent::Ramp { codes: &[0], ..gray() }.check(), Err(Refusal::Misshapen));

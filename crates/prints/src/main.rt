@@ -156,15 +156,15 @@ fn pair() {
 }
 
 fn most_stops() {
-    let positions = [0.5f32; 512];
-    let channels = [0.25f32; 2048];
-    red(b"512 stops", Kind::Linear, &positions, &channels, b"", 0.5);
+    let positions = [0.5f32; 2048];
+    let channels = [0.25f32; 8192];
+    red(b"2048 stops", Kind::Linear, &positions, &channels, b"", 0.5);
 }
 
 fn too_many_stops() {
-    let positions = [0.5f32; 513];
-    let channels = [0.25f32; 2052];
-    red(b"513 stops", Kind::Linear, &positions, &channels, b"", 0.5);
+    let positions = [0.5f32; 2049];
+    let channels = [0.25f32; 8196];
+    red(b"2049 stops", Kind::Linear, &positions, &channels, b"", 0.5);
 }
 
 // n bytes of the text from `at` on are those of s, over and over.

@@ -97,7 +97,7 @@ module _ (ramp : Ramp) (e : Edit) (ok : Allowed ramp e) where
   allowed-valid = valid ramp (ok .stops) (ok .ramp-passes)
 
   -- the channels of the stop are there, and all channels fit the copy
-  pub channels-there : (4 * e .stop + 4 ≤ length (ramp .channels)) × (length (ramp .channels) ≤ 2048)
+  pub channels-there : (4 * e .stop + 4 ≤ length (ramp .channels)) × (length (ramp .channels) ≤ 8192)
   unfolding mostStops
   channels-there = let s = allowed-valid .sized in let l = ok .there in (omega (arith, s .four, l), omega (arith, s .four, s .most))
 

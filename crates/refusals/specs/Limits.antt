@@ -3,7 +3,7 @@ use Prim.Native.Nat.{ℕ}
 
 -- stops of a ramp
 unfoldable pub mostStops : ℕ
-mostStops = 512
+mostStops = 2048
 
 -- segments of a GIMP ramp
 abbrev pub mostSegments : ℕ

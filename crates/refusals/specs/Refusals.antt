@@ -1,7 +1,7 @@
 -- The numbers of refusals, each with when it is given. Document 01, 'When the desk says no'; the names are those of include/colorgrad.h.
 use Prim.Native.Nat.{ℕ}
 
--- stops fewer than 2, more than 512, or odd in number for sharp; lent GIMP segments 0, above 256 or of a kind not carried; building sharp, room below 2n; or lent lengths disagree
+-- stops fewer than 2, more than 2,048, or odd in number for sharp; lent GIMP segments 0, above 256 or of a kind not carried; building sharp, room below 2n; or lent lengths disagree
 abbrev pub misshapen : ℕ
 misshapen = 1
 

@@ -53,7 +53,7 @@ pub const NOT_CARRIED: u8 = 16;
 pub const NOT_BUILT: u8 = 17;
 
 // Stops of a ramp.
-pub const MOST_STOPS: usize = 512;
+pub const MOST_STOPS: usize = 2048;
 
 // Segments of a GIMP ramp.
 pub const MOST_SEGMENTS: usize = 256;

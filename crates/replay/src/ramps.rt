@@ -17,10 +17,10 @@ pub const TEXTS: u32 = 5;
 
 pub const BANDS: u32 = 6;
 
-// One more than a ramp may have, so that the refusal of it is stored too.
-const MOST_POSITIONS: usize = 3 * 257;
+// One more than a ramp may have, 2,048 stops or 256 segments, so that the refusal of it is stored too.
+const MOST_POSITIONS: usize = 2049;
 
-const MOST_CHANNELS: usize = 8 * 257;
+const MOST_CHANNELS: usize = 4 * 2049;
 
 const MOST_CODES: usize = 2 * 257;
 

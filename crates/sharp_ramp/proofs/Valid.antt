@@ -1,4 +1,4 @@
--- A sharp ramp that was built passes the check: its stops are 2 to 512 and even in number, all finite, and never fall. Assumes nothing.
+-- A sharp ramp that was built passes the check: its stops are 2 to 512, so few enough, and even in number, all finite, and never fall. Assumes nothing.
 use mathlib.Core.Path.{_≡_, refl, _∙_, ap}
 use mathlib.Core.Bool.{Bool, true, _&&_}
 use mathlib.Core.List.{List, []}

@@ -1,0 +1,97 @@
+//! Ramps of very many stops: 1,700, evenly spaced and random, against the Rust in every call; and the limit itself, 2,048
+//! taken and the next number refused by every call.
+
+use crate::colours;
+use crate::limits;
+use crate::lists::{flattened, random_record, random_threshold, thinned, MOST_POINTS};
+use crate::options::Options;
+use crate::ours::{self, Edit};
+use crate::ramps::{random_channels, random_points, random_positions, Kind, Ramp, KINDS};
+use crate::random::Random;
+use crate::refresh::{kept, random_edit, refreshed};
+use crate::report::Tally;
+
+/// As the charts of the sea come.
+const STOPS: usize = 1700;
+const POINTS: usize = 480;
+const ROOM: (usize, usize) = (MOST_POINTS, 4 * MOST_POINTS);
+
+pub fn run(options: &Options) -> Vec<Tally> {
+    let mut tallies = vec![at_the_limit(options)];
+    let sorts = ["colours", "lists", "refreshes"].map(|sort| format!("1,700 stops: {sort}"));
+    let mut of_sort = sorts.map(|name| Tally::new(name, options.seed));
+    let cases = options.cases();
+    let of = cases.end;
+    for case in cases {
+        let mut random = Random::of_case(options.seed, case);
+        let kind = KINDS[case as usize % 5];
+        let ramp = of_many(&mut random, kind, case / 5 % 2 == 0);
+        let points = random_points(&mut random, &ramp, POINTS);
+        let threshold = random_threshold(&mut random);
+        let [colours, lists, refreshes] = &mut of_sort;
+        colours::compare(colours, case, &ramp, &points, false);
+        flattened(lists, case, &ramp, threshold, ROOM);
+        let record = random_record(&mut random, &ramp);
+        thinned(lists, case, &ramp, threshold, ROOM, &record);
+        let edit = random_edit(&mut random, &ramp);
+        kept(refreshes, case, &ramp, &edit, threshold, record);
+        refreshed(refreshes, case, &ramp, &edit, threshold);
+        colours.progress(case, of);
+    }
+    tallies.extend(of_sort.map(Tally::done));
+    tallies
+}
+
+fn of_many(random: &mut Random, kind: Kind, even: bool) -> Ramp {
+    let positions = if even {
+        (0..STOPS).map(|i| i as f32 / (STOPS - 1) as f32).collect()
+    } else {
+        random_positions(random, STOPS)
+    };
+    Ramp { kind, positions, channels: random_channels(random, 4 * STOPS), codes: Vec::new() }
+}
+
+/// Every call with as many stops as may be, and with the next number of them.
+fn at_the_limit(options: &Options) -> Tally {
+    let mut tally = Tally::new("stops: limit", options.seed);
+    for kind in &KINDS[..5] {
+        for (ramp, refusal) in limits::full(*kind).into_iter().zip([0, 1]) {
+            for (call, number) in calls(&ramp) {
+                // an edit of these kinds is refused, after the ramp
+                let curved = !matches!(kind, Kind::Linear | Kind::Smoothstep) && call.starts_with("refresh");
+                let want = if refusal == 0 && curved { 6 } else { refusal };
+                tally.inputs(1);
+                tally.answered((want == 0) as u64);
+                if number != want {
+                    tally.differs(0, || format!("{call} of {} {} stops: {number}", ramp.positions.len(), kind.name()));
+                }
+            }
+        }
+    }
+    tally.done()
+}
+
+/// Each call that takes a ramp, and the number of its refusal.
+fn calls(ramp: &Ramp) -> Vec<(&'static str, u32)> {
+    let number = |refused: Option<u32>| refused.unwrap_or(0);
+    let (mut places, mut colours) = (vec![0.0; ROOM.0], vec![0.0; ROOM.1]);
+    let mut record = crate::oracle::Record::empty();
+    let edit = Edit { stop: 1, colour: [0.5; 4] };
+    let mut out = [0.0; 4];
+    vec![
+        ("at", number(ours::at(ramp, 0.5).err())),
+        ("paint", ours::paint(ramp, &[0.5], &mut out)),
+        ("flatten", number(ours::flatten(ramp, 0.007, &mut record, &mut places, &mut colours).err())),
+        ("sample", number(ours::sample(ramp, 0.007, &mut record).err())),
+        // a record that may be thinned, also where the ramp was not sampled
+        ("thin", {
+            record.counts.iter_mut().for_each(|n| *n = (*n).max(1));
+            number(ours::thin(ramp, 0.007, &record, &mut places, &mut colours).err())
+        }),
+        ("refresh", number(ours::refresh(ramp, &edit, 0.007, &mut record).err())),
+        (
+            "refresh_list",
+            number(ours::refresh_list(ramp, &edit, 0.007, &mut record, &mut places, &mut colours).err()),
+        ),
+    ]
+}
