@@ -38,9 +38,10 @@ def lines_of(text):
 
 
 def count_of(line):
-    if not line or any(byte not in b"0123456789" for byte in line) or int(line) >= 1 << 64:
+    digits = line[1:] if line.startswith(b"+") else line
+    if not digits or any(byte not in b"0123456789" for byte in digits) or int(digits) >= 1 << 64:
         raise Refusal(11, 3)
-    return int(line)
+    return int(digits)
 
 
 def colour_of(code, own, foreground, background):

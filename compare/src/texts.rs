@@ -120,9 +120,6 @@ fn listed(input: &Input, error: Option<(&'static str, usize)>) -> Option<(u32, u
     }
     let mut lines = text.split(|b| *b == b'\n').map(|l| l.strip_suffix(b"\r").unwrap_or(l)).enumerate().skip(2);
     let (_, count) = lines.next()?;
-    if count.starts_with(b"+") {
-        return Some((11, 3, "11: a count with a plus sign"));
-    }
     let count = String::from_utf8_lossy(count).parse::<u64>().unwrap_or(0);
     if count > MOST_SEGMENTS.min(input.room) as u64 {
         return Some((15, 3, "15: count above 256 or the room"));

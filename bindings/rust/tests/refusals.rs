@@ -170,7 +170,9 @@ fn gimp_texts() {
         (" ".repeat(65_537), Refusal::NotAText, 0),
         (good.replace("GIMP", "gimp"), Refusal::BadHeader, 1),
         (good.replace("Name", "Nome"), Refusal::BadHeader, 2),
-        (good.replace("\n1\n", "\n+1\n"), Refusal::BadHeader, 3),
+        (good.replace("\n1\n", "\n+\n"), Refusal::BadHeader, 3),
+        (good.replace("\n1\n", "\n++1\n"), Refusal::BadHeader, 3),
+        (good.replace("\n1\n", "\n+0\n"), Refusal::NoSegment, 4),
         (good.replace("0.5", "half"), Refusal::BadSegment, 4),
         (good.replace("\n1\n", "\n2\n"), Refusal::Torn, 3),
         (String::new(), Refusal::NoSegment, 4),
@@ -180,6 +182,8 @@ fn gimp_texts() {
     for (text, refusal, line) in cases {
         assert_eq!(GimpGradient::new(text.as_bytes(), &BLACK, &WHITE), Err(ParseGgrError { refusal, line }), "{text}");
     }
+    let plus = good.replace("\n1\n", "\n+1\n");
+    assert!(GimpGradient::new(plus.as_bytes(), &BLACK, &WHITE).is_ok(), "a count with a plus");
     let (mut positions, mut channels, mut codes) = ([RUBBISH; 4], [RUBBISH; 9], [9u8; 1]);
     let out = SegmentsMut { positions: &mut positions, channels: &mut channels, codes: &mut codes };
     let refused = ParseGgrError { refusal: Refusal::TooManySegments, line: 3 };

@@ -13,7 +13,7 @@ use Rattle.rows.specs.declared.digits.Digits.{Digits}
 use Rattle.rows.specs.declared.digits.Digits.the-variants.{Bad, Is}
 use Rattle.rows.specs.declared.Parting.the-variants.{Tabs}
 use Rattle.text.specs.Text.{fields, same, starts}
-use Rattle.rows.specs.Digits.{digitsOf}
+use Rattle.rows.specs.Digits.{digitsWith}
 use Rattle.text.specs.Places.{inClass, span}
 use Rattle.rows.specs.Rows.{Numbers, all, none, numbers, longest, RowAt}
 use Rattle.rows.proofs.Fields.{field-last, field-more, parts-in}
@@ -103,15 +103,15 @@ module _ (l : List ℕ) (from end : ℕ) (h : from ≤ length l) (e : end ≡ fr
     edit-long m = by-index Bad (rw (lt-leb (length index) indexDigits (omega (arith, index-long k))))
 
     module _ (m : end - from ≤ indexDigits) where
-      short : indexOf index ≡ digitsOf index
+      short : indexOf index ≡ digitsWith false index
       unfolding indexOf
       short = rw (le-leb (length index) indexDigits (omega (arith, index-long k)))
 
-      pub edit-bad : digitsOf index ≡ Bad → entry.Unread ≡ editEntry (fields (drop from l))
+      pub edit-bad : digitsWith false index ≡ Bad → entry.Unread ≡ editEntry (fields (drop from l))
       unfolding changeEntry
       edit-bad b = by-index Bad (short ∙ b)
 
-      pub edit-row : {x : ℕ} {r : Entry} → digitsOf index ≡ Is x → r ≡ exactly 4 (toChange x) (numbers (fields (drop (end + 1) l))) → r ≡ editEntry (fields (drop from l))
+      pub edit-row : {x : ℕ} {r : Entry} → digitsWith false index ≡ Is x → r ≡ exactly 4 (toChange x) (numbers (fields (drop (end + 1) l))) → r ≡ editEntry (fields (drop from l))
       unfolding changeEntry
       edit-row {x} b g = g ∙ by-index (Is x) (short ∙ b)
 

@@ -1,6 +1,6 @@
 -- A line of the input. Document 01, 'Tools read standard input ..': fields parted by tabs, a word first, then what belongs to it.
 use Prim.Native.Nat.{ℕ, _+_}
-use mathlib.Core.Bool.{cond}
+use mathlib.Core.Bool.{false, cond}
 use mathlib.Core.List.{List, [], _∷_}
 use lib.ListN.{length, drop, getD}
 use lib.Dec.{leb, eqb}
@@ -9,7 +9,7 @@ use Rattle.blend.specs.declared.Rgba.{Rgba}
 use Rattle.blend.specs.declared.Stop.{Stop}
 use Rattle.stops.specs.declared.Kind.the-variants.{Linear, Smoothstep}
 use Rattle.text.specs.Text.{fields, same, starts}
-use Rattle.rows.specs.Digits.{digitsOf}
+use Rattle.rows.specs.Digits.{digitsWith}
 use Rattle.rows.specs.Rows.{Numbers, all, none, numbers}
 use Rattle.rows.specs.declared.digits.Digits.{Digits}
 use Rattle.rows.specs.declared.digits.Digits.the-variants.{Bad, Is}
@@ -40,12 +40,12 @@ toStop xs = entry.Stop (record { position = getD xs 0 nan; colour = channelsAt x
 unfoldable pub stopEntry : List (List ℕ) → Entry
 stopEntry fs = exactly 5 toStop (numbers fs)
 
--- an index of 1 to 18 digits
+-- an index of 1 to 18 digits, and no plus
 abbrev pub indexDigits : ℕ
 indexDigits = 18
 
 unfoldable pub indexOf : List ℕ → Digits
-indexOf f = cond (leb (length f) indexDigits) (digitsOf f) Bad
+indexOf f = cond (leb (length f) indexDigits) (digitsWith false f) Bad
 
 abbrev pub toChange : ℕ → List Float → Entry
 toChange k xs = entry.Change (record { stop = k; colour = channelsAt xs 0 })

@@ -4,7 +4,7 @@ use blend::Stop;
 use refresh::edit::Edit;
 use rows::Parting;
 use rows::digits::Digits;
-use rows::digits::digits_of;
+use rows::digits::number_of;
 use rows::row_at;
 use stops::Kind;
 use text::Class;
@@ -75,7 +75,7 @@ fn edit_entry(l: &[u8], from: usize) -> Entry
     if INDEX_DIGITS < end - from {
         return Entry::Unread;
     }
-    let Digits::Is(k) = digits_of(&l[from..end]) else {
+    let Digits::Is(k) = number_of(&l[from..end], false) else {
         return Entry::Unread;
     };
     let row = row_at(l, end + 1, Parting::Tabs);

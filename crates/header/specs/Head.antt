@@ -1,6 +1,6 @@
 -- The header of a GIMP file, its first three lines, and the name in it. Document 01, 'What a GIMP file may hold' and 'When the desk says no': line by line 11, 15; then 14.
 use Prim.Native.Nat.{ℕ, zero, suc}
-use mathlib.Core.Bool.{cond, _&&_}
+use mathlib.Core.Bool.{true, cond, _&&_}
 use mathlib.Core.List.{List, [], _∷_}
 use lib.ListN.{drop}
 use lib.Dec.{leb}
@@ -8,7 +8,7 @@ use Rattle.refusals.specs.Refusals.{badHeader, noSegment, tooManySegments}
 use Rattle.refusals.specs.Limits.{mostSegments}
 use Rattle.rows.specs.declared.digits.Digits.{Digits}
 use Rattle.rows.specs.declared.digits.Digits.the-variants.{Bad, Is}
-use Rattle.rows.specs.Digits.{digitsOf}
+use Rattle.rows.specs.Digits.{digitsWith}
 use Rattle.text.specs.Text.{unmark, lines, firstOf, restOf, same, starts, trim}
 
 -- ---- the lines of a file: those after its marks; marks alone leave an empty line 1
@@ -28,9 +28,9 @@ pub data Head : Type 0 where
   counts : ℕ → List (List ℕ) → Head
   fails : ℕ → ℕ → Head
 
--- the count of line 3 is digits alone, up to 2^64 - 1
+-- the count of line 3: digits, before which one plus may stand, up to 2^64 - 1
 abbrev pub countOf : List ℕ → Digits
-countOf l = digitsOf l
+countOf l = digitsWith true l
 
 -- count 0 is no segment
 unfoldable pub fromCount : ℕ → List (List ℕ) → Head

@@ -4,7 +4,7 @@ use refusals::MOST_SEGMENTS;
 use refusals::NO_SEGMENT;
 use refusals::TOO_MANY_SEGMENTS;
 use rows::digits::Digits;
-use rows::digits::digits_of;
+use rows::digits::number_of;
 use text::is_same;
 use text::line_at;
 use text::marks;
@@ -21,7 +21,7 @@ pub enum Lead {
     Refuse(u8, usize),
 }
 
-// Text that ends before line 3 has count 0.
+// Text that ends before line 3 has count 0. One plus may stand before the digits of the count.
 fn count_line(s: &[u8], at: usize, room: usize) -> Lead
     ensures { λ r. ⌜ ThirdLeads room (now (s .entry)) at r ⌝ }
 {
@@ -31,7 +31,7 @@ fn count_line(s: &[u8], at: usize, room: usize) -> Lead
     let l = line_at(s, at);
     let end = l.end;
     let next = l.next;
-    let Digits::Is(n) = digits_of(&s[at..end]) else {
+    let Digits::Is(n) = number_of(&s[at..end], true) else {
         return Lead::Refuse(BAD_HEADER, 3);
     };
     let m = n as usize;

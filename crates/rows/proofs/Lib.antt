@@ -5,3 +5,4 @@ pub mod Fields
 pub mod Numerals
 pub mod Numbers
 pub mod Read
+pub mod Signs

@@ -1,6 +1,6 @@
-// Digits alone, as a whole number.
+// Digits, as a whole number.
 ghost use mathlib.Core.Path.{_≡_};
-ghost use Rattle.rows.specs.Digits.{digitsOf};
+ghost use Rattle.rows.specs.Digits.{digitsOf, digitsWith};
 
 // The number, or none.
 pub enum Digits {
@@ -11,7 +11,7 @@ pub enum Digits {
 const MOST_NUMBER: u64 = 18446744073709551615;
 
 // Digits alone, at least one, whose number fits 64 bits. Each step is tested before it is made, so that none wraps.
-pub fn digits_of(l: &[u8]) -> Digits
+fn digits_of(l: &[u8]) -> Digits
     ensures { λ r. ⌜ r ≡ digitsOf (now (l .entry)) ⌝ }
 {
     if l.len() == 0 {
@@ -39,4 +39,20 @@ pub fn digits_of(l: &[u8]) -> Digits
         i += 1;
     }
     Digits::Is(v)
+}
+
+// Digits, before which one plus may stand where `plus` says so.
+pub fn number_of(l: &[u8], plus: bool) -> Digits
+    ensures { λ r. ⌜ r ≡ digitsWith plus (now (l .entry)) ⌝ }
+{
+    if !plus {
+        return digits_of(l);
+    }
+    if l.len() == 0 {
+        return Digits::Bad;
+    }
+    if l[0] == b'+' {
+        return digits_of(&l[1..]);
+    }
+    digits_of(l)
 }

@@ -13,17 +13,17 @@ returns c = let a = c .before .before .args in
 line-at-requires : tie.Need-line-at-requires
 line-at-requires c κs = search needs
 
-sub-digits-of : tie.Need-sub-digits-of
-sub-digits-of c = search needs
+sub-number-of : tie.Need-sub-number-of
+sub-number-of c = search needs
 
-part-digits-of-start : tie.Need-part-digits-of-start
-part-digits-of-start c = search needs
+part-number-of-start : tie.Need-part-number-of-start
+part-number-of-start c = search needs
 
-part-digits-of-end : tie.Need-part-digits-of-end
-part-digits-of-end c = omega (arith, c .line-at .ensures .within (search needs))
+part-number-of-end : tie.Need-part-number-of-end
+part-number-of-end c = omega (arith, c .line-at .ensures .within (search needs))
 
-digits-of-requires : tie.Need-digits-of-requires
-digits-of-requires c κs = search needs
+number-of-requires : tie.Need-number-of-requires
+number-of-requires c κs = search needs
 
 enum-known-n : tie.Need-enum-known-n
 enum-known-n c = search needs
@@ -33,23 +33,23 @@ enum-told c = search needs
 
 returns-2 : tie.Need-returns-2
 returns-2 c = let l = c .before .before .before .before in let k = c .before .before in let a = l .before .before .before .args in
-    third-bad (a .s .now) (a .at) (a .room) (search needs) (l .line-at .result .end) (l .line-at .result .next) (l .line-at .ensures) _ (k .digits-of .ensures) (c .enum-told .given .1)
+    third-bad (a .s .now) (a .at) (a .room) (search needs) (l .line-at .result .end) (l .line-at .result .next) (l .line-at .ensures) _ (k .number-of .ensures) (c .enum-told .given .1)
 
 returns-3 : tie.Need-returns-3
 returns-3 c = let l = c .before .before .before .before .before .before in let k = c .before .before .before .before in let a = l .before .before .before .args in
-    third-most (a .s .now) (a .at) (a .room) (search needs) (l .line-at .result .end) (l .line-at .result .next) (l .line-at .ensures) _ (k .digits-of .ensures) _ (c .before .before .n .given .1) (c .if2 .taken)
+    third-most (a .s .now) (a .at) (a .room) (search needs) (l .line-at .result .end) (l .line-at .result .next) (l .line-at .ensures) _ (k .number-of .ensures) _ (c .before .before .n .given .1) (c .if2 .taken)
 
 returns-4 : tie.Need-returns-4
 returns-4 c = let l = c .before .before .before .before .before .before .before in let k = c .before .before .before .before .before in let a = l .before .before .before .args in
-    third-room (a .s .now) (a .at) (a .room) (search needs) (l .line-at .result .end) (l .line-at .result .next) (l .line-at .ensures) _ (k .digits-of .ensures) _ (c .before .before .before .n .given .1) (search needs) (c .if3 .taken)
+    third-room (a .s .now) (a .at) (a .room) (search needs) (l .line-at .result .end) (l .line-at .result .next) (l .line-at .ensures) _ (k .number-of .ensures) _ (c .before .before .before .n .given .1) (search needs) (c .if3 .taken)
 
 returns-5 : tie.Need-returns-5
 returns-5 c = let l = c .before .before .before .before .before .before .before .before in let k = c .before .before .before .before .before .before in let a = l .before .before .before .args in
-    third-zero (a .s .now) (a .at) (a .room) (search needs) (l .line-at .result .end) (l .line-at .result .next) (l .line-at .ensures) _ (k .digits-of .ensures) _ (c .before .before .before .before .n .given .1) (search needs) (c .if4 .taken)
+    third-zero (a .s .now) (a .at) (a .room) (search needs) (l .line-at .result .end) (l .line-at .result .next) (l .line-at .ensures) _ (k .number-of .ensures) _ (c .before .before .before .before .n .given .1) (search needs) (c .if4 .taken)
 
 returns-6 : tie.Need-returns-6
 returns-6 c = let l = c .before .before .before .before .before .before .before .before in let k = c .before .before .before .before .before .before in let a = l .before .before .before .args in
-    third-some (a .s .now) (a .at) (a .room) (search needs) (l .line-at .result .end) (l .line-at .result .next) (l .line-at .ensures) _ (k .digits-of .ensures) _ (c .before .before .before .before .n .given .1) (search needs) (search needs) (c .if4 .left)
+    third-some (a .s .now) (a .at) (a .room) (search needs) (l .line-at .result .end) (l .line-at .result .next) (l .line-at .ensures) _ (k .number-of .ensures) _ (c .before .before .before .before .n .given .1) (search needs) (search needs) (c .if4 .left)
 
 pub count-line-spec : {M : Type 1} → statement M
 count-line-spec =
@@ -57,10 +57,10 @@ count-line-spec =
     (tie.spec
     returns
     line-at-requires
-    sub-digits-of
-    part-digits-of-start
-    part-digits-of-end
-    digits-of-requires
+    sub-number-of
+    part-number-of-start
+    part-number-of-end
+    number-of-requires
     enum-known-n
     enum-told
     returns-2

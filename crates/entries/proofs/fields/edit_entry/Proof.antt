@@ -19,17 +19,17 @@ sub-if2 c = search needs
 returns-2 : tie.Need-returns-2
 returns-2 c = edit-long (c .before .before .before .before .args .l .now) (c .before .before .before .before .args .from) (c .before .before .span-end .result) (c .before .before .before .before .pre) (c .before .before .span-end .ensures) (search needs) (c .if2 .taken)
 
-sub-digits-of : tie.Need-sub-digits-of
-sub-digits-of c = search needs
+sub-number-of : tie.Need-sub-number-of
+sub-number-of c = search needs
 
-part-digits-of-start : tie.Need-part-digits-of-start
-part-digits-of-start c = search needs
+part-number-of-start : tie.Need-part-number-of-start
+part-number-of-start c = search needs
 
-part-digits-of-end : tie.Need-part-digits-of-end
-part-digits-of-end c = field-within (c .before .before .before .before .args .l .now) (c .before .before .before .before .args .from) (c .before .before .span-end .result) (c .before .before .before .before .pre) (c .before .before .span-end .ensures)
+part-number-of-end : tie.Need-part-number-of-end
+part-number-of-end c = field-within (c .before .before .before .before .args .l .now) (c .before .before .before .before .args .from) (c .before .before .span-end .result) (c .before .before .before .before .pre) (c .before .before .span-end .ensures)
 
-digits-of-requires : tie.Need-digits-of-requires
-digits-of-requires c κs = search needs
+number-of-requires : tie.Need-number-of-requires
+number-of-requires c κs = search needs
 
 enum-known-k : tie.Need-enum-known-k
 enum-known-k c = search needs
@@ -38,7 +38,7 @@ enum-told : tie.Need-enum-told
 enum-told c = search needs
 
 returns-3 : tie.Need-returns-3
-returns-3 c = edit-bad (c .before .before .before .before .before .before .before .before .args .l .now) (c .before .before .before .before .before .before .before .before .args .from) (c .before .before .before .before .before .before .span-end .result) (c .before .before .before .before .before .before .before .before .pre) (c .before .before .before .before .before .before .span-end .ensures) (search needs) (search needs) (sym (c .before .before .digits-of .ensures) ∙ c .enum-told .given .1)
+returns-3 c = edit-bad (c .before .before .before .before .before .before .before .before .args .l .now) (c .before .before .before .before .before .before .before .before .args .from) (c .before .before .before .before .before .before .span-end .result) (c .before .before .before .before .before .before .before .before .pre) (c .before .before .before .before .before .before .span-end .ensures) (search needs) (search needs) (sym (c .before .before .number-of .ensures) ∙ c .enum-told .given .1)
 
 add-row-at : tie.Need-add-row-at
 add-row-at c = search needs
@@ -48,7 +48,7 @@ row-at-requires c κs = search needs
 
 returns-4 : tie.Need-returns-4
 returns-4 c = let r = c .before .before .before in let k = r .before .before in let d = k .before .before in let f = d .before .before .before .before in let z = f .before .before in
-    edit-row (z .args .l .now) (z .args .from) (f .span-end .result) (z .pre) (f .span-end .ensures) (search needs) (search needs) (sym (d .digits-of .ensures) ∙ k .k .given .1) (change-not (z .args .l .now) (f .span-end .result + 1) (search needs) (r .row-at .ensures) _ (c .if3 .taken))
+    edit-row (z .args .l .now) (z .args .from) (f .span-end .result) (z .pre) (f .span-end .ensures) (search needs) (search needs) (sym (d .number-of .ensures) ∙ k .k .given .1) (change-not (z .args .l .now) (f .span-end .result + 1) (search needs) (r .row-at .ensures) _ (c .if3 .taken))
 
 array-read-t19 : tie.Need-array-read-t19
 array-read-t19 c = search needs
@@ -64,7 +64,7 @@ array-read-t28 c = search needs
 
 returns-5 : tie.Need-returns-5
 returns-5 c = let r = c .before .before .before in let k = r .before .before in let d = k .before .before in let f = d .before .before .before .before in let z = f .before .before in
-    edit-row (z .args .l .now) (z .args .from) (f .span-end .result) (z .pre) (f .span-end .ensures) (search needs) (search needs) (sym (d .digits-of .ensures) ∙ k .k .given .1) (change-is (z .args .l .now) (f .span-end .result + 1) (search needs) (r .row-at .ensures) _ (c .if3 .left))
+    edit-row (z .args .l .now) (z .args .from) (f .span-end .result) (z .pre) (f .span-end .ensures) (search needs) (search needs) (sym (d .number-of .ensures) ∙ k .k .given .1) (change-is (z .args .l .now) (f .span-end .result + 1) (search needs) (r .row-at .ensures) _ (c .if3 .left))
 
 pub edit-entry-spec : {M : Type 1} → statement M
 edit-entry-spec =
@@ -74,10 +74,10 @@ edit-entry-spec =
     returns
     sub-if2
     returns-2
-    sub-digits-of
-    part-digits-of-start
-    part-digits-of-end
-    digits-of-requires
+    sub-number-of
+    part-number-of-start
+    part-number-of-end
+    number-of-requires
     enum-known-k
     enum-told
     returns-3
