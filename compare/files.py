@@ -16,8 +16,8 @@ STORED = Path(__file__).resolve().parent.parent / "crates/files"
 MARK, SPACE = b"\xef\xbb\xbf", bytes([9, 10, 11, 12, 13, 32])
 MOST_BYTES, MOST_SEGMENTS = 65536, 256
 FOREGROUND, BACKGROUND, INFINITE = (0.25, 0.25, 0.25, 1.0), (0.75, 0.75, 0.75, 1.0), (math.inf, math.inf, math.inf, 1.0)
-SEGMENT = b"0 .5 1 0 0 0 1 1 1 1 1 0 0\n"
-TORN = b"GIMP Gradient\nName: n\n1\n0 .5 1 0 0 0 1 1 1 1 1 0 0 0 1\n"
+SEGMENT, POINT = b"0 .5 1 0 0 0 1 1 1 1 1 0 0\n", b"1 1 1 0 0 0 1 1 1 1 1 0 0\n"
+FILE = b"GIMP Gradient\nName: n\n1\n0 .5 1 0 0 0 1 1 1 1 1 0 0 0 1\n"
 STANDS_FOR = {"|": b"\n", "^": b"\r", "_": b"\t", "~": b"\x0b", "!": b"\xc8", "@": MARK}
 
 
@@ -77,11 +77,19 @@ def read(text, room, foreground=FOREGROUND, background=BACKGROUND):
     count = count_of(lines[2]) if len(lines) > 2 else 0
     if count > min(MOST_SEGMENTS, room):
         raise Refusal(15, 3)
-    segments = [segment_of(line, 4 + i, foreground, background) for i, line in enumerate(lines[3:3 + count])]
+    segments, end = [], 0.0
+    for at, line in enumerate(lines[3:3 + count], 4):
+        segments.append(segment_of(line, at, foreground, background))
+        left, middle, right = segments[-1][0]
+        if not (left == end and left <= middle <= right):
+            raise Refusal(18, at)
+        end = right
     if len(segments) < count:
         raise Refusal(13, 3)
     if count == 0:
         raise Refusal(14, 4)
+    if end != 1.0:
+        raise Refusal(18, 3 + count)
     return segments, lines[1][len(b"Name:"):].strip(SPACE)
 
 
@@ -122,7 +130,7 @@ def values(label, segment):
 
 
 def many(count, n):
-    return b"GIMP Gradient\nName: many\n" + count + b"\n" + SEGMENT * n
+    return b"GIMP Gradient\nName: many\n" + count + b"\n" + SEGMENT + POINT * (n - 1)
 
 
 def tally(label, texts):
@@ -154,9 +162,9 @@ def printed():
         yield answer(f"room 2 but for one channel, count {count.decode()}", many(count, 2), (6, 15, 4))
     for length in (MOST_BYTES, MOST_BYTES + 1):
         yield shown(f"{length:,} bytes", many(b"1", 1).ljust(length, b"\0"))
-    yield tally("every prefix", (TORN[:n] for n in range(len(TORN) + 1)))
+    yield tally("every prefix", (FILE[:n] for n in range(len(FILE) + 1)))
     others = b"\x00\t\n\r +-.05e\xc8"
-    yield tally("every byte changed to a dozen others", (TORN[:i] + bytes([other]) + TORN[i + 1:] for i in range(len(TORN)) for other in others))
+    yield tally("every byte changed to a dozen others", (FILE[:i] + bytes([other]) + FILE[i + 1:] for i in range(len(FILE)) for other in others))
 
 
 def main():

@@ -69,11 +69,12 @@ extern "C" {
 #define COLORGRAD_NOT_A_TEXT 10u
 #define COLORGRAD_BAD_HEADER 11u
 #define COLORGRAD_BAD_SEGMENT 12u
-#define COLORGRAD_TORN 13u
+#define COLORGRAD_FEW_LINES 13u
 #define COLORGRAD_NO_SEGMENT 14u
 #define COLORGRAD_TOO_MANY_SEGMENTS 15u
 #define COLORGRAD_NOT_CARRIED 16u
 #define COLORGRAD_NOT_BUILT 17u
+#define COLORGRAD_TORN 18u
 
 /* What a refusal means, in one line of plain words; never null. */
 static inline const char *colorgrad_message(uint32_t refusal)
@@ -92,11 +93,12 @@ static inline const char *colorgrad_message(uint32_t refusal)
     case COLORGRAD_NOT_A_TEXT: return "the GIMP text is too long or not ASCII";
     case COLORGRAD_BAD_HEADER: return "line 1, 2 or 3 of the GIMP text is not as it must be";
     case COLORGRAD_BAD_SEGMENT: return "a segment of the GIMP text is not valid";
-    case COLORGRAD_TORN: return "the GIMP text has fewer segments than it counts";
+    case COLORGRAD_FEW_LINES: return "the GIMP text has fewer segments than it counts";
     case COLORGRAD_NO_SEGMENT: return "the GIMP text has no segment";
     case COLORGRAD_TOO_MANY_SEGMENTS: return "the GIMP text counts more segments than there is room for";
     case COLORGRAD_NOT_CARRIED: return "a segment is curved, sinusoidal or coloured by hue";
     case COLORGRAD_NOT_BUILT: return "no sharp ramp can be built of so many colours on this domain";
+    case COLORGRAD_TORN: return "the segments of the GIMP text do not run from 0 to 1, each joined to the next";
     default: return "no such refusal";
     }
 }
@@ -158,7 +160,8 @@ typedef struct {
 
 /* Reads a file's text into the three slices of a GIMP ramp; what lies past the last segment stays. The ramp is then the
  * first 3n, 8n and 2n items. Foreground and background are what a segment may name in place of a colour. Refused with 2
- * (one of these two is not finite) or 10 to 16: all three outputs are set to zero. */
+ * (one of these two is not finite), 10 to 16 or 18: all three outputs are set to zero. A file that is read runs from 0 to 1
+ * without a gap. */
 ColorgradRead colorgrad_read(const uint8_t *text, size_t text_length, ColorgradRgba foreground,
                              ColorgradRgba background, float *positions, size_t positions_length, float *channels,
                              size_t channels_length, uint8_t *codes, size_t codes_length);

@@ -67,6 +67,9 @@ fn sound(random: &mut Random) -> Vec<u8> {
 fn segment(random: &mut Random, i: usize, n: usize, plain: bool) -> String {
     let (left, right) = (i as f64 / n as f64, (i + 1) as f64 / n as f64);
     let mut words: Vec<String> = [left, (left + right) / 2.0, right].iter().map(|x| format!("{x:.6}")).collect();
+    if random.one_in(if plain { 60 } else { 12 }) {
+        words[random.below(3)] = random.pick(&["0.5", "0", "-0", "1", "0.999999", "0.000001", "2"]).to_string();
+    }
     words.extend((0..8).map(|_| number(random, plain)));
     let rare = if plain { 400 } else { 12 };
     words.push(code(

@@ -26,6 +26,7 @@ mod sharp;
 mod smallest;
 mod texts;
 mod tokens;
+mod torn;
 
 use options::Options;
 use report::Tally;
@@ -33,7 +34,7 @@ use std::path::Path;
 use std::process::ExitCode;
 
 const USAGE: &str = "compare COMMAND [N] [--seed S] [--case I]
-  roots tokens colours sharp texts counts lists refresh many   one comparison, of N inputs
+  roots tokens colours sharp texts counts torn lists refresh many   one comparison, of N inputs
   all [PERCENT]      every comparison, at its full size or at that part of it
   differences        the smallest inputs of docs/DIFFERENCES.md, with the Rust's answers and ours
   files FOLDER       the .ggr files in it, as compare/fetch gets them
@@ -44,13 +45,14 @@ const USAGE: &str = "compare COMMAND [N] [--seed S] [--case I]
 type Comparison = (&'static str, fn(&Options) -> Vec<Tally>, u64);
 
 /// Each comparison with its full size.
-const COMPARISONS: [Comparison; 9] = [
+const COMPARISONS: [Comparison; 10] = [
     ("roots", roots::run, 1 << 32),
     ("tokens", tokens::run, 100_000_000),
     ("colours", colours::run, 2_000_000),
     ("sharp", sharp::run, 1_000_000),
     ("texts", texts::run, 200_000),
     ("counts", counts::run, 400_000),
+    ("torn", torn::run, 100_000),
     ("lists", lists::run, 20_000),
     ("refresh", refresh::run, 20_000),
     ("many", many::run, 4_000),

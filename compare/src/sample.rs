@@ -32,7 +32,7 @@ const BUILT: u64 = 100;
 const OF_LISTS: [[u32; 2]; 6] = [[1, 4], [2, 8], [3, 5], [4, 7], [7, 8], [5, 1]];
 const OF_THINNED: [u32; 8] = [5, 8, 9, 9, 4, 1, 2, 3];
 const OF_REFRESHED: [u32; 18] = [1, 2, 3, 4, 5, 6, 6, 8, 0, 0, 0, 0, 0, 0, 0, 0, 0, 0];
-const OF_TEXTS: [u32; 8] = [2, 10, 11, 12, 13, 14, 15, 16];
+const OF_TEXTS: [u32; 9] = [2, 10, 11, 12, 13, 14, 15, 16, 18];
 const OF_BUILT: [u32; 3] = [17, 1, 2];
 
 /// What is longer is left out, but for one ramp of each size that is the most.

@@ -11,6 +11,7 @@ use crate::{oracle, ours};
 const MOST_BYTES: usize = 65_536;
 const RUBBISH: f32 = -7.5;
 const RUBBISH_CODE: u8 = 77;
+const TORN: &str = "18: torn";
 
 pub struct Input {
     pub text: Vec<u8>,
@@ -124,6 +125,7 @@ fn listed(input: &Input, error: Option<(&'static str, usize)>) -> Option<(u32, u
     if count > MOST_SEGMENTS.min(input.room) as u64 {
         return Some((15, 3, "15: count above 256 or the room"));
     }
+    let mut joint = Joint { right: 0.0, lines: 0, line: 0 };
     for (i, line) in lines.take(count as usize) {
         if error == Some(("invalid segment", i + 1)) {
             return None;
@@ -134,8 +136,35 @@ fn listed(input: &Input, error: Option<(&'static str, usize)>) -> Option<(u32, u
         if not_carried(line) {
             return Some((16, i + 1, "16: curved, sinusoidal or by hue"));
         }
+        match positions(line) {
+            Some(p) if joint.tears(p, i + 1) => return Some((18, i + 1, TORN)),
+            Some(_) => {}
+            // what comes after the last line end is no line
+            None => return None,
+        }
     }
-    None
+    (count > 0 && joint.lines == count && joint.right != 1.0).then_some((18, joint.line, TORN))
+}
+
+/// Where the last segment ended, how many there were, and the line of the last.
+struct Joint {
+    right: f32,
+    lines: u64,
+    line: usize,
+}
+
+impl Joint {
+    /// Whether a segment is out of order in itself or does not start where the last one ended.
+    fn tears(&mut self, [left, middle, right]: [f32; 3], line: usize) -> bool {
+        let joined = left == self.right && left <= middle && middle <= right;
+        *self = Joint { right, lines: self.lines + 1, line };
+        !joined
+    }
+}
+
+fn positions(line: &[u8]) -> Option<[f32; 3]> {
+    let numbers: Vec<f32> = words(line).into_iter().map_while(parsed).collect();
+    numbers.get(..3)?.try_into().ok()
 }
 
 fn after_marks(mut text: &[u8]) -> &[u8] {

@@ -132,14 +132,18 @@ static void gimp(void)
     size_t length = colorgrad_name(bytes, strlen(text), name, sizeof name);
     ColorgradColour at = colorgrad_at(COLORGRAD_GIMP, places, 6, colours, 16, codes, 4, 0.125f);
     size_t cut = (size_t)(strstr(text, "0.25 0.5 1") - text);
-    ColorgradRead torn = colorgrad_read(bytes, cut, black, white, places, 6, colours, 16, codes, 4);
+    ColorgradRead few = colorgrad_read(bytes, cut, black, white, places, 6, colours, 16, codes, 4);
+    static const char gap[] = "GIMP Gradient\nName: Gap\n2\n"
+                              "0 0.125 0.25 0 0 0 1 0 0.5 1 1 0 0\n0.75 0.875 1 0 0.5 1 1 1 1 1 1 0 0\n";
+    ColorgradRead torn = colorgrad_read((const uint8_t *)gap, strlen(gap), black, white, places, 6, colours, 16, codes, 4);
     printf("GIMP file '%.*s': %zu segments\n", (int)length, (const char *)name, read.segments);
     expect(read.refusal == COLORGRAD_FINE && read.segments == 2, "a GIMP text");
     expect(length == 5 && memcmp(name, "Shelf", 5) == 0, "its name");
     expect(at.refusal == COLORGRAD_FINE && at.colour.g == 0.25f && at.colour.b == 0.5f, "its colour half-way");
+    expect(few.refusal == COLORGRAD_FEW_LINES && few.line == 3, "fewer lines than counted");
     printf("a torn file: refused %u, line %zu, %s\n", (unsigned)torn.refusal, torn.line,
            colorgrad_message(torn.refusal));
-    expect(torn.refusal == COLORGRAD_TORN && torn.line == 3 && colours[2] == 0.0f, "a torn text, outputs zero");
+    expect(torn.refusal == COLORGRAD_TORN && torn.line == 5 && colours[2] == 0.0f, "a torn text, outputs zero");
 }
 
 static void tool(void)

@@ -254,9 +254,9 @@ refreshed!(SmoothstepGradient);
 /// assert_eq!(ramp.name(), "Shelf");
 /// assert_eq!(ramp.at(0.25), Color::new(0.25, 0.25, 0.25, 1.0));
 ///
-/// let torn = GimpGradient::new(&text[..28], &black, &white).unwrap_err();
-/// assert_eq!(torn, ParseGgrError { refusal: Refusal::Torn, line: 3 });
-/// assert_eq!(torn.to_string(), "the GIMP text has fewer segments than it counts (line 3)");
+/// let short = GimpGradient::new(&text[..28], &black, &white).unwrap_err();
+/// assert_eq!(short, ParseGgrError { refusal: Refusal::FewLines, line: 3 });
+/// assert_eq!(short.to_string(), "the GIMP text has fewer segments than it counts (line 3)");
 /// # Ok::<(), ParseGgrError>(())
 /// ```
 #[derive(Clone, PartialEq, Debug)]
@@ -267,7 +267,7 @@ pub struct GimpGradient {
 
 impl GimpGradient {
     /// Reads a file's text. Foreground and background are what a segment may name in place of a colour of its own. Refused
-    /// with 2 where one of these two is not finite, and with 10 to 16.
+    /// with 2 where one of these two is not finite, and with 10 to 16 and 18.
     pub fn new(text: &[u8], foreground: &Color, background: &Color) -> Result<GimpGradient, ParseGgrError> {
         let mut positions = vec![0.0; 3 * MOST_SEGMENTS];
         let mut channels = vec![0.0; 8 * MOST_SEGMENTS];

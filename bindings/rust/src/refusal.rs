@@ -42,7 +42,7 @@ pub enum Refusal {
     /// 12: a segment of a GIMP text is not valid.
     BadSegment = 12,
     /// 13: fewer segment lines than counted.
-    Torn = 13,
+    FewLines = 13,
     /// 14: no segment.
     NoSegment = 14,
     /// 15: more segments counted than 256, or than there is room for.
@@ -51,10 +51,12 @@ pub enum Refusal {
     NotCarried = 16,
     /// 17: a sharp ramp of no colours or more than 256, or on a domain on which it cannot be built.
     NotBuilt = 17,
+    /// 18: segments of a GIMP text that do not run from 0 to 1, each in order and joined to the next.
+    Torn = 18,
 }
 
 /// Every refusal, in the order of the numbers.
-const ALL: [Refusal; 17] = [
+const ALL: [Refusal; 18] = [
     Refusal::Misshapen,
     Refusal::NotFinite,
     Refusal::Falling,
@@ -67,15 +69,16 @@ const ALL: [Refusal; 17] = [
     Refusal::NotAText,
     Refusal::BadHeader,
     Refusal::BadSegment,
-    Refusal::Torn,
+    Refusal::FewLines,
     Refusal::NoSegment,
     Refusal::TooManySegments,
     Refusal::NotCarried,
     Refusal::NotBuilt,
+    Refusal::Torn,
 ];
 
 impl Refusal {
-    /// Its number, 1 to 17.
+    /// Its number, 1 to 18.
     pub fn number(self) -> u32 {
         self as u32
     }
@@ -99,11 +102,12 @@ impl Refusal {
             Refusal::NotAText => "the GIMP text is too long or not ASCII",
             Refusal::BadHeader => "line 1, 2 or 3 of the GIMP text is not as it must be",
             Refusal::BadSegment => "a segment of the GIMP text is not valid",
-            Refusal::Torn => "the GIMP text has fewer segments than it counts",
+            Refusal::FewLines => "the GIMP text has fewer segments than it counts",
             Refusal::NoSegment => "the GIMP text has no segment",
             Refusal::TooManySegments => "the GIMP text counts more segments than there is room for",
             Refusal::NotCarried => "a segment is curved, sinusoidal or coloured by hue",
             Refusal::NotBuilt => "no sharp ramp can be built of so many colours on this domain",
+            Refusal::Torn => "the segments of the GIMP text do not run from 0 to 1, each joined to the next",
         }
     }
 }

@@ -174,10 +174,13 @@ fn gimp_texts() {
         (good.replace("\n1\n", "\n++1\n"), Refusal::BadHeader, 3),
         (good.replace("\n1\n", "\n+0\n"), Refusal::NoSegment, 4),
         (good.replace("0.5", "half"), Refusal::BadSegment, 4),
-        (good.replace("\n1\n", "\n2\n"), Refusal::Torn, 3),
+        (good.replace("\n1\n", "\n2\n"), Refusal::FewLines, 3),
         (String::new(), Refusal::NoSegment, 4),
         (good.replace("\n1\n", "\n257\n"), Refusal::TooManySegments, 3),
         (good.replace("0 0\n", "1 0\n"), Refusal::NotCarried, 4),
+        (good.replace("0 0.5 1 0", "0.1 0.5 1 0"), Refusal::Torn, 4),
+        (good.replace("0 0.5 1 0", "0 0.5 0.9 0"), Refusal::Torn, 4),
+        (good.replace("0 0.5 1 0", "0 1.5 1 0"), Refusal::Torn, 4),
     ];
     for (text, refusal, line) in cases {
         assert_eq!(GimpGradient::new(text.as_bytes(), &BLACK, &WHITE), Err(ParseGgrError { refusal, line }), "{text}");
@@ -229,7 +232,7 @@ fn empty_slices() {
 #[test]
 fn numbers_and_messages_are_those_of_the_header() {
     let header = include_str!("../../../include/colorgrad.h");
-    for number in 1..=17 {
+    for number in 1..=18 {
         let refusal = Refusal::from_number(number).expect("a number of a refusal");
         assert_eq!(refusal.number(), number);
         let name = header
@@ -240,5 +243,5 @@ fn numbers_and_messages_are_those_of_the_header() {
             .find(|name| header.contains(&format!("case COLORGRAD_{name}: return \"{refusal}\"")));
         assert!(name.is_some(), "{number}: {refusal}");
     }
-    assert_eq!((Refusal::from_number(0), Refusal::from_number(18)), (None, None));
+    assert_eq!((Refusal::from_number(0), Refusal::from_number(19)), (None, None));
 }

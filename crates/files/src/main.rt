@@ -1,5 +1,7 @@
 // The reader on files of every fault, in pairs where their order is to show. Standard input has a file to a line: what
-// it shows, a tab, the file, spelt in one line. Then come files that are full, long or torn.
+// it shows, a tab, the file, spelt in one line. Then come files that are full, long or damaged.
+use damaged::changes;
+use damaged::prefixes;
 use libc::STDIN_FILENO;
 use show::grey;
 use show::show;
@@ -14,12 +16,10 @@ use spelling::front;
 use text::Class;
 use text::line_at;
 use text::span_end;
-use torn::changes;
-use torn::prefixes;
 
+mod damaged;
 mod show;
 mod sizes;
-mod torn;
 
 fn row(line: &[u8]) {
     let mut text = [0u8; 256];
@@ -78,7 +78,7 @@ fn main() {
     narrow(b"room 2 but for one channel, count 1", b"1");
     narrow(b"room 2 but for one channel, count 2", b"2");
     long();
-    let torn = b"GIMP Gradient\nName: n\n1\n0 .5 1 0 0 0 1 1 1 1 1 0 0 0 1\n";
-    prefixes(torn);
-    changes(torn);
+    let file = b"GIMP Gradient\nName: n\n1\n0 .5 1 0 0 0 1 1 1 1 1 0 0 0 1\n";
+    prefixes(file);
+    changes(file);
 }

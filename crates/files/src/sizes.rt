@@ -6,13 +6,14 @@ use crate::show::show;
 use spelling::append;
 use spelling::front;
 
-// A file of n segments into buf; its length.
+// A file of n segments, of which all but the first have no length, into buf; its length.
 fn many(buf: &mut [u8], count: &[u8], n: usize) -> usize {
     let mut at = append(buf, 0, b"GIMP Gradient\nName: many\n");
     at = append(buf, at, count);
     at = append(buf, at, b"\n");
-    for _ in 0..n {
-        at = append(buf, at, b"0 .5 1 0 0 0 1 1 1 1 1 0 0\n");
+    at = append(buf, at, b"0 .5 1 0 0 0 1 1 1 1 1 0 0\n");
+    for _ in 1..n {
+        at = append(buf, at, b"1 1 1 0 0 0 1 1 1 1 1 0 0\n");
     }
     at
 }

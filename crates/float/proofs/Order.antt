@@ -9,11 +9,11 @@ use native.Mathlib.Omega.{arith}
 use mathlib.Core.Bool.{Bool, true, false, not, _&&_, _||_}
 use lib.Dec.{T, ltb, eqb, eqb→eq, T-not, not-T}
 use lib.Ieee.{Float, nan, inf, fin, up, down, below, level, lt, eq, le, ne, isNan}
-use lib.Ieee.Fits.{down-pos, and-l, and-r, and-i}
+use lib.Ieee.Fits.{down-pos, and-l, and-r, and-i, eq→eqb}
 use lib.Ieee.Bits.{is-true}
 use lib.Ieee.Scale.{finite}
 use borrow.Author.Tests.{lt-ltb, le-ltb, eq-eqb, ne-eqb, ltb-true, ltb-false, eqb-true, eqb-false, not-false}
-use Rattle.float.proofs.SignedOrder.{le→P, P→le, P-trans, split, or-split, or-l, same}
+use Rattle.float.proofs.SignedOrder.{le→P, P→le, P-trans, split, or-split, or-l, or-r, same}
 
 -- ---- `le` is transitive
 pub le-trans : (x y z : Float) → T (le x y) → T (le y z) → T (le x z)
@@ -94,7 +94,7 @@ lt-is (fin s m e) (inf false) p q = refl
 lt-is (fin s m e) (fin t n d) p q = apart s (m * up e * down d) t (n * up d * down e)
 
 -- ---- what follows
-as-T : (b : Bool) → b ≡ true → T b
+pub as-T : (b : Bool) → b ≡ true → T b
 as-T b e = subst T (sym e) tt
 
 pub no-nan-l : (x y : Float) → T (le x y) → isNan x ≡ false
@@ -165,6 +165,39 @@ le-total x y p q = go (lt x y) refl
 pub le-antisym : (x y : Float) → T (le x y) → T (le y x) → T (eq x y)
 unfolding le
 le-antisym x y h k = elim (or-split (lt x y) (eq x y) h) [ inl u ↦ absurd (T-not (le y x) (subst T (lt-is x y (no-nan-l x y h) (no-nan-r x y h)) u) k) | inr e ↦ e ]
+
+-- equal values are each no more than the other
+pub eq→le : (x y : Float) → T (eq x y) → T (le x y)
+unfolding le
+eq→le x y h = or-r (lt x y) (eq x y) h
+
+pub eq-sym : (x y : Float) → T (eq x y) → T (eq y x)
+unfolding eq
+eq-sym nan y h = absurd h
+eq-sym (inf s) nan h = absurd h
+eq-sym (inf true) (inf true) h = tt
+eq-sym (inf true) (inf false) h = absurd h
+eq-sym (inf false) (inf true) h = absurd h
+eq-sym (inf false) (inf false) h = tt
+eq-sym (inf s) (fin t n d) h = absurd h
+eq-sym (fin s m e) nan h = absurd h
+eq-sym (fin s m e) (inf t) h = absurd h
+eq-sym (fin s m e) (fin t n d) h = level-sym s (m * up e * down d) t (n * up d * down e) h
+  where
+    level-sym : (s : Bool) (a : ℕ) (t : Bool) (b : ℕ) → T (level s a t b) → T (level t b s a)
+    level-sym true a true b h = and-i (eqb b a) true (eq→eqb (sym (eqb→eq a b (and-l (eqb a b) true h)))) tt
+    level-sym false a false b h = and-i (eqb b a) true (eq→eqb (sym (eqb→eq a b (and-l (eqb a b) true h)))) tt
+    level-sym true a false b h =
+        let e : a ≡ b = eqb→eq a b (and-l (eqb a b) (eqb a 0) h) in
+        let z : a ≡ 0 = eqb→eq a 0 (and-r (eqb a b) (eqb a 0) h) in
+        and-i (eqb b a) (eqb b 0) (eq→eqb (sym e)) (eq→eqb (sym e ∙ z))
+    level-sym false a true b h =
+        let e : a ≡ b = eqb→eq a b (and-l (eqb a b) (eqb a 0) h) in
+        let z : a ≡ 0 = eqb→eq a 0 (and-r (eqb a b) (eqb a 0) h) in
+        and-i (eqb b a) (eqb b 0) (eq→eqb (sym e)) (eq→eqb (sym e ∙ z))
+
+pub eq→ge : (x y : Float) → T (eq x y) → T (le y x)
+eq→ge x y h = eq→le y x (eq-sym x y h)
 
 -- `x != x` tests for a NaN
 pub ne-self : (x : Float) → ne x x ≡ isNan x

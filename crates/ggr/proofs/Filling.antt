@@ -4,11 +4,13 @@ use native.Mathlib.Nat.{mul-zero, mul-suc, sub-zero}
 use native.Mathlib.Numerals.{add-one}
 use native.Mathlib.Omega.{arith}
 use mathlib.Core.Path.{_≡_, refl, sym, ap, ap₂, _∙_}
+use mathlib.Core.Bool.{Bool, true, false, cond}
 use mathlib.Core.List.{List, [], _∷_, _++_, append-nil, append-assoc}
 use lib.ListN.{length, take, drop, length-append}
 use lib.Seq.{sets, sets-eq, take-at, drop-append-add, drop-drop, length-sets}
-use lib.Ieee.{Float}
-use Rattle.refusals.specs.Refusals.{fewLines}
+use lib.Ieee.{Float, eq}
+use Rattle.refusals.specs.Refusals.{fewLines, torn}
+use Rattle.float.specs.F32.{f0, f1}
 use Rattle.blend.specs.declared.Rgba.{Rgba}
 use Rattle.stops.specs.Lent.{Change, change}
 use Rattle.gradient.specs.declared.gimp.Segment.{Segment}
@@ -18,13 +20,15 @@ use Rattle.segment.specs.declared.SegmentRead.{SegmentRead}
 use Rattle.segment.specs.declared.SegmentRead.the-variants.{Valid, Fault}
 use Rattle.segment.specs.Line.{SegmentAt}
 use Rattle.segment.specs.Store.{Store, storeOf, segmentPositions, segmentChannels, segmentCodes, Stores}
+use Rattle.ggr.specs.declared.Answer.{Answer}
 use Rattle.ggr.specs.declared.Answer.the-variants.{Read, Refused}
-use Rattle.ggr.specs.File.{Outcome, found, refused, addSegment, segments, answerOf, flat, atFront, written}
-use Rattle.ggr.specs.Steps.{Filled}
+use Rattle.ggr.specs.File.{Outcome, found, refused, weighed, before, addSegment, segments, answerOf, flat, atFront, written}
+use Rattle.ggr.specs.Steps.{Filled, closedBy}
+use Rattle.ggr.proofs.Weighing.{weighs}
 
 -- ---- items one after the other
 module _ {A : Type 0} (f : Segment → List A) (w : ℕ) (each : (g : Segment) → length (f g) ≡ w) where
-  flat-length : (gs : List Segment) → length (flat f gs) ≡ w * length gs
+  pub flat-length : (gs : List Segment) → length (flat f gs) ≡ w * length gs
   unfolding flat
   flat-length [] = sym (mul-zero w)
   flat-length (g ∷ gs) = length-append (f g) (flat f gs) ∙ ap₂ _+_ (each g) (flat-length gs) ∙ one-more w (length gs) where
@@ -51,7 +55,7 @@ module _ {A : Type 0} (f : Segment → List A) (w : ℕ) (each : (g : Segment) �
     all-flat : p ≡ atFront f gs d
     all-flat = now ∙ ap (λ (n : ℕ). flat f gs ++ drop n d) (sym len)
 
-each-p : (g : Segment) → length (segmentPositions g) ≡ 3
+pub each-p : (g : Segment) → length (segmentPositions g) ≡ 3
 unfolding segmentPositions
 each-p g = refl
 
@@ -65,29 +69,23 @@ each-k g = refl
 
 -- ---- the outcome so far
 unfoldable pub prependAll : List Segment → Outcome → Outcome
-unfolding addSegment
 prependAll [] o = o
-prependAll (g ∷ gs) o = addSegment 0 (Valid g) (prependAll gs o)
+prependAll (g ∷ gs) o = before g (prependAll gs o)
 
-any-line : (n : ℕ) (g : Segment) (o : Outcome) → addSegment n (Valid g) o ≡ addSegment 0 (Valid g) o
-unfolding addSegment
-any-line n g (found gs) = refl
-any-line n g (refused a b) = refl
-
-prepend-snoc : (gs : List Segment) (g : Segment) (n : ℕ) (o : Outcome) → prependAll gs (addSegment n (Valid g) o) ≡ prependAll (gs ++ g ∷ []) o
+prepend-snoc : (gs : List Segment) (g : Segment) (o : Outcome) → prependAll gs (before g o) ≡ prependAll (gs ++ g ∷ []) o
 unfolding prependAll
-prepend-snoc [] g n o = any-line n g o
-prepend-snoc (h ∷ gs) g n o = ap (addSegment 0 (Valid h)) (prepend-snoc gs g n o)
+prepend-snoc [] g o = refl
+prepend-snoc (h ∷ gs) g o = ap (before h) (prepend-snoc gs g o)
 
 prepend-refused : (gs : List Segment) (a b : ℕ) → prependAll gs (refused a b) ≡ refused a b
-unfolding prependAll addSegment
+unfolding prependAll before
 prepend-refused [] a b = refl
-prepend-refused (g ∷ gs) a b = ap (addSegment 0 (Valid g)) (prepend-refused gs a b)
+prepend-refused (g ∷ gs) a b = ap (before g) (prepend-refused gs a b)
 
 prepend-found : (gs hs : List Segment) → prependAll gs (found hs) ≡ found (gs ++ hs)
-unfolding prependAll addSegment
+unfolding prependAll before
 prepend-found [] hs = refl
-prepend-found (g ∷ gs) hs = ap (addSegment 0 (Valid g)) (prepend-found gs hs)
+prepend-found (g ∷ gs) hs = ap (before g) (prepend-found gs hs)
 
 -- three lists make a store
 by-parts : {s : Store} {p c : List Float} {k : List ℕ} → s .positions ≡ p → s .channels ≡ c → s .codes ≡ k → s ≡ storeOf p c k
@@ -99,28 +97,28 @@ filled-no o a b store e = record { answer = sym (ap answerOf e); left = λ gs f.
   differ : {X : Type 0} → (gs : List Segment) → refused a b ≡ found gs → X
   differ gs e = absurd (let z : _≡_ {A = ℕ} 0 1 = cc in omega arith)
 
--- o is the outcome; s the text; before what the outputs held
-module _ (o : Outcome) (s : List ℕ) (fg bg : Rgba) (n : ℕ) (before : Store) where
-  -- i segments are written, and the next line starts at `at`
-  pub record Going (so-far : Store) (at i : ℕ) : Type 0 where
+-- o is the outcome; s the text; kept what the outputs held
+module _ (o : Outcome) (s : List ℕ) (fg bg : Rgba) (n : ℕ) (kept : Store) where
+  -- i segments are written, the last of them ends at `end`, and the next line starts at `at`
+  pub record Going (so-far : Store) (at : ℕ) (end : Float) (i : ℕ) : Type 0 where
     pub le : i ≤ n
     pub gs : List Segment
     pub count : length gs ≡ i
-    pub rest : o ≡ prependAll gs (segments fg bg (n - i) (4 + i) (lines (drop at s)))
-    pub long-p : length (so-far .positions) ≡ length (before .positions)
-    pub long-c : length (so-far .channels) ≡ length (before .channels)
-    pub long-k : length (so-far .codes) ≡ length (before .codes)
-    pub in-p : so-far .positions ≡ flat segmentPositions gs ++ drop (3 * i) (before .positions)
-    pub in-c : so-far .channels ≡ flat segmentChannels gs ++ drop (8 * i) (before .channels)
-    pub in-k : so-far .codes ≡ flat segmentCodes gs ++ drop (2 * i) (before .codes)
+    pub rest : o ≡ prependAll gs (segments fg bg (n - i) (4 + i) end (lines (drop at s)))
+    pub long-p : length (so-far .positions) ≡ length (kept .positions)
+    pub long-c : length (so-far .channels) ≡ length (kept .channels)
+    pub long-k : length (so-far .codes) ≡ length (kept .codes)
+    pub in-p : so-far .positions ≡ flat segmentPositions gs ++ drop (3 * i) (kept .positions)
+    pub in-c : so-far .channels ≡ flat segmentChannels gs ++ drop (8 * i) (kept .channels)
+    pub in-k : so-far .codes ≡ flat segmentCodes gs ++ drop (2 * i) (kept .codes)
 
-  pub going-start : (at : ℕ) → o ≡ segments fg bg n 4 (lines (drop at s)) → Going before at 0
+  pub going-start : (at : ℕ) → o ≡ segments fg bg n 4 f0 (lines (drop at s)) → Going kept at f0 0
   unfolding prependAll flat
   going-start at e = record {
     le = omega arith;
     gs = [];
     count = refl;
-    rest = e ∙ ap (λ (m : ℕ). segments fg bg m 4 (lines (drop at s))) (sym (sub-zero n));
+    rest = e ∙ ap (λ (m : ℕ). segments fg bg m 4 f0 (lines (drop at s))) (sym (sub-zero n));
     long-p = refl;
     long-c = refl;
     long-k = refl;
@@ -129,27 +127,32 @@ module _ (o : Outcome) (s : List ℕ) (fg bg : Rgba) (n : ℕ) (before : Store) 
     in-k = refl;
   }
 
-  module _ (so-far : Store) (at i : ℕ) (G : Going so-far at i) where
-    pub short : i < n → length s ≤ at → Filled o (change before so-far) (Refused fewLines 3)
+  module _ (so-far : Store) (at : ℕ) (end : Float) (i : ℕ) (G : Going so-far at end i) where
+    pub short : i < n → length s ≤ at → Filled o (change kept so-far) (Refused fewLines 3)
     unfolding segments
     short h e =
         let q : n - i ≡ suc (n - (i + 1)) = omega arith in
         filled-no o fewLines 3 _ (G .rest ∙ rw (q, no-lines s at e) (prepend-refused (G .gs) fewLines 3))
 
-    module _ (h : i < n) (z : at < length s) (l : SegmentRead) (after : ℕ) (w : SegmentAt fg bg s at l after) where
-      next : o ≡ prependAll (G .gs) (addSegment (4 + i) l (segments fg bg (n - (i + 1)) (suc (4 + i)) (restOf (lines (drop at s)))))
+    module _ (h : i < n) (z : at < length s) (l r : SegmentRead) (after : ℕ) (w : SegmentAt fg bg s at l after) (v : r ≡ weighed end l) where
+      -- what follows a segment
+      abbrev Rest : Segment → Outcome
+      Rest g = segments fg bg (n - (i + 1)) (suc (4 + i)) (g .right) (restOf (lines (drop at s)))
+
+      next : o ≡ prependAll (G .gs) (addSegment (4 + i) r Rest)
       unfolding segments
       next =
           let q : n - i ≡ suc (n - (i + 1)) = omega arith in
-          G .rest ∙ ap (prependAll (G .gs)) (ap₂ (λ (m : ℕ) (ls : List (List ℕ)). segments fg bg m (4 + i) ls) q (some-lines s at z)
-          ∙ ap (λ (x : SegmentRead). addSegment (4 + i) x (segments fg bg (n - (i + 1)) (suc (4 + i)) (restOf (lines (drop at s))))) (sym (w .is)))
+          G .rest ∙ ap (prependAll (G .gs)) (ap₂ (λ (m : ℕ) (ls : List (List ℕ)). segments fg bg m (4 + i) end ls) q (some-lines s at z)
+          ∙ ap (λ (x : SegmentRead). addSegment (4 + i) x Rest) (ap (weighed end) (sym (w .is)) ∙ sym v))
 
-      pub bad : (number : ℕ) → l ≡ Fault number → Filled o (change before so-far) (Refused number (4 + i))
+      pub bad : (number : ℕ) → r ≡ Fault number → Filled o (change kept so-far) (Refused number (4 + i))
       unfolding addSegment
       bad number e = filled-no o number (4 + i) _ (next ∙ rw e (prepend-refused (G .gs) number (4 + i)))
 
-      module _ (fp : 3 * n ≤ length (before .positions)) (fc : 8 * n ≤ length (before .channels)) (fk : 2 * n ≤ length (before .codes)) where
-        pub going-on : (g : Segment) → l ≡ Valid g → (now : Store) → Stores i g (change so-far now) → Going now after (i + 1)
+      module _ (fp : 3 * n ≤ length (kept .positions)) (fc : 8 * n ≤ length (kept .channels)) (fk : 2 * n ≤ length (kept .codes)) where
+        pub going-on : (g : Segment) → r ≡ Valid g → (now : Store) → Stores i g (change so-far now) → Going now after (g .right) (i + 1)
+        unfolding addSegment
         going-on g e now put =
             let ep = ap (λ (x : Store). x .positions) put in
             let ec = ap (λ (x : Store). x .channels) put in
@@ -159,15 +162,15 @@ module _ (o : Outcome) (s : List ℕ) (fg bg : Rgba) (n : ℕ) (before : Store) 
               gs = G .gs ++ g ∷ [];
               count = length-append (G .gs) (g ∷ []) ∙ ap (λ (m : ℕ). m + 1) (G .count);
               rest =
-                  next ∙ ap (λ (x : SegmentRead). prependAll (G .gs) (addSegment (4 + i) x (segments fg bg (n - (i + 1)) (suc (4 + i)) (restOf (lines (drop at s)))))) e
-                  ∙ prepend-snoc (G .gs) g (4 + i) _
-                  ∙ ap (prependAll (G .gs ++ g ∷ [])) (ap₂ (λ (m : ℕ) (ls : List (List ℕ)). segments fg bg (n - (i + 1)) m ls) line-no (sym (w .rest g e)));
+                  next ∙ ap (λ (x : SegmentRead). prependAll (G .gs) (addSegment (4 + i) x Rest)) e
+                  ∙ prepend-snoc (G .gs) g (Rest g)
+                  ∙ ap (prependAll (G .gs ++ g ∷ [])) (ap₂ (λ (m : ℕ) (ls : List (List ℕ)). segments fg bg (n - (i + 1)) m (g .right) ls) line-no (sym (w .rest g (weighs end l g (sym v ∙ e) .0))));
               long-p = ap length ep ∙ length-sets (so-far .positions) (3 * i) (segmentPositions g) ∙ G .long-p;
               long-c = ap length ec ∙ length-sets (so-far .channels) (8 * i) (segmentChannels g) ∙ G .long-c;
               long-k = ap length ek ∙ length-sets (so-far .codes) (2 * i) (segmentCodes g) ∙ G .long-k;
-              in-p = ep ∙ put-flat segmentPositions 3 each-p (G .gs) i (G .count) (before .positions) (so-far .positions) (G .in-p) g (omega (arith, G .long-p)) ∙ one-more 3 segmentPositions (before .positions);
-              in-c = ec ∙ put-flat segmentChannels 8 each-c (G .gs) i (G .count) (before .channels) (so-far .channels) (G .in-c) g (omega (arith, G .long-c)) ∙ one-more 8 segmentChannels (before .channels);
-              in-k = ek ∙ put-flat segmentCodes 2 each-k (G .gs) i (G .count) (before .codes) (so-far .codes) (G .in-k) g (omega (arith, G .long-k)) ∙ one-more 2 segmentCodes (before .codes);
+              in-p = ep ∙ put-flat segmentPositions 3 each-p (G .gs) i (G .count) (kept .positions) (so-far .positions) (G .in-p) g (omega (arith, G .long-p)) ∙ one-more 3 segmentPositions (kept .positions);
+              in-c = ec ∙ put-flat segmentChannels 8 each-c (G .gs) i (G .count) (kept .channels) (so-far .channels) (G .in-c) g (omega (arith, G .long-c)) ∙ one-more 8 segmentChannels (kept .channels);
+              in-k = ek ∙ put-flat segmentCodes 2 each-k (G .gs) i (G .count) (kept .codes) (so-far .codes) (G .in-k) g (omega (arith, G .long-k)) ∙ one-more 2 segmentCodes (kept .codes);
             } where
               line-no : suc (4 + i) ≡ 4 + (i + 1)
               line-no = omega arith
@@ -177,12 +180,28 @@ module _ (o : Outcome) (s : List ℕ) (fg bg : Rgba) (n : ℕ) (before : Store) 
                   let q : w * i + w ≡ w * (i + 1) = omega (arith, mul-suc w i, ap (λ (m : ℕ). w * m) (add-one i)) in
                   ap (λ (m : ℕ). flat f (G .gs ++ g ∷ []) ++ drop m d) q
 
-    pub full : i ≡ n → Filled o (change before so-far) (Read n)
-    unfolding segments written
-    full e =
+    -- after the last line
+    last : i ≡ n → o ≡ prependAll (G .gs) (cond (eq end f1) (found []) (refused torn (3 + n)))
+    unfolding segments
+    last e =
         let q : n - i ≡ 0 = omega arith in
-        let f : o ≡ found (G .gs) = G .rest ∙ rw q (prepend-found (G .gs) [] ∙ ap found (append-nil (G .gs))) in
-        let p = all-flat segmentPositions 3 each-p (G .gs) i (G .count) (before .positions) (so-far .positions) (G .in-p) in
-        let c = all-flat segmentChannels 8 each-c (G .gs) i (G .count) (before .channels) (so-far .channels) (G .in-c) in
-        let k = all-flat segmentCodes 2 each-k (G .gs) i (G .count) (before .codes) (so-far .codes) (G .in-k) in
-        record { answer = ap Read (sym e ∙ sym (G .count)) ∙ sym (ap answerOf f); left = λ hs j. by-parts p c k ∙ ap (λ (x : Outcome). written x before) (sym f) }
+        let m : 4 + i - 1 ≡ 3 + n = omega arith in
+        G .rest ∙ rw q (ap (λ (x : ℕ). prependAll (G .gs) (cond (eq end f1) (found []) (refused torn x))) m)
+
+    ends-early : i ≡ n → eq end f1 ≡ false → Filled o (change kept so-far) (Refused torn (3 + n))
+    ends-early e x = filled-no o torn (3 + n) _ (last e ∙ rw x (prepend-refused (G .gs) torn (3 + n)))
+
+    full : i ≡ n → eq end f1 ≡ true → Filled o (change kept so-far) (Read n)
+    unfolding written
+    full e x =
+        let f : o ≡ found (G .gs) = last e ∙ rw x (prepend-found (G .gs) [] ∙ ap found (append-nil (G .gs))) in
+        let p = all-flat segmentPositions 3 each-p (G .gs) i (G .count) (kept .positions) (so-far .positions) (G .in-p) in
+        let c = all-flat segmentChannels 8 each-c (G .gs) i (G .count) (kept .channels) (so-far .channels) (G .in-c) in
+        let k = all-flat segmentCodes 2 each-k (G .gs) i (G .count) (kept .codes) (so-far .codes) (G .in-k) in
+        record { answer = ap Read (sym e ∙ sym (G .count)) ∙ sym (ap answerOf f); left = λ hs j. by-parts p c k ∙ ap (λ (x : Outcome). written x kept) (sym f) }
+
+    pub closed : i ≡ n → (r : Answer) → r ≡ closedBy end n → Filled o (change kept so-far) r
+    closed e r q = go (eq end f1) refl q where
+      go : (b : Bool) → eq end f1 ≡ b → r ≡ cond b (Read n) (Refused torn (3 + n)) → Filled o (change kept so-far) r
+      go true x q = rw q (full e x)
+      go false x q = rw q (ends-early e x)

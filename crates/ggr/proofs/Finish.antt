@@ -53,7 +53,7 @@ module _ (fg bg : Rgba) (s : List ℕ) {room asked : ℕ} (q : asked ≡ room) (
   unfolding headBy fromHead
   file-refuse a b h = file-head ∙ rw h
 
-  pub file-counted : (n at : ℕ) → r ≡ Counted n at → fileOf room fg bg s ≡ segments fg bg n 4 (lines (drop at s))
+  pub file-counted : (n at : ℕ) → r ≡ Counted n at → fileOf room fg bg s ≡ segments fg bg n 4 f0 (lines (drop at s))
   unfolding headBy fromHead
   file-counted n at h = file-head ∙ rw h
 

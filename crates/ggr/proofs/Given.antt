@@ -1,12 +1,14 @@
--- What a file that is read gives: 1 to 256 segments, for which every lent output has room, each of a kind carried. Assumes nothing.
+-- What a file that is read gives: 1 to 256 segments, for which every lent output has room, each of a kind carried, joined from 0 to 1. Assumes nothing.
 use Prim.Native.Nat.{ℕ, zero, suc, _*_, _≤_, _<_}
 use native.Mathlib.Omega.{arith}
-use mathlib.Core.Path.{_≡_, refl, ap, _∙_}
+use mathlib.Core.Path.{_≡_, refl, sym, ap, _∙_}
 use mathlib.Core.Bool.{Bool, true, false, cond, _&&_}
 use mathlib.Core.List.{List, [], _∷_}
 use lib.ListN.{length}
+use lib.Ieee.{Float, eq}
 use Rattle.refusals.specs.Refusals.{notAText}
 use Rattle.refusals.specs.Limits.{mostSegments}
+use Rattle.float.specs.F32.{f0, f1}
 use Rattle.blend.specs.declared.Rgba.{Rgba}
 use Rattle.stops.specs.Stops.{finiteRgba}
 use Rattle.gradient.specs.declared.gimp.Segment.{Segment}
@@ -17,7 +19,8 @@ use Rattle.segment.proofs.Carried.{carriedOf, line-carried}
 use Rattle.header.specs.Head.{Head, counts, fails, headOf}
 use Rattle.header.proofs.Fits.{head-fits}
 use Rattle.ggr.specs.declared.Answer.the-variants.{Read}
-use Rattle.ggr.specs.File.{Outcome, found, refused, addSegment, segments, fromHead, fitText, fileOf, answerOf, roomOf}
+use Rattle.ggr.specs.File.{Outcome, found, refused, joins, weighed, before, addSegment, segments, fromHead, fitText, fileOf, answerOf, roomOf}
+use Rattle.ggr.proofs.Weighing.{weighs}
 use Rattle.ggr.proofs.Finish.{room-fits}
 
 -- each segment is of a kind carried
@@ -25,11 +28,17 @@ unfoldable pub allCarried : List Segment → Bool
 allCarried [] = true
 allCarried (g ∷ gs) = carriedOf g && allCarried gs
 
+-- each segment joins the one before, which ends at `end`, and the last ends at 1
+unfoldable pub orderly : Float → List Segment → Bool
+orderly end [] = eq end f1
+orderly end (g ∷ gs) = joins end g && orderly (g .right) gs
+
 pub record Given (room : ℕ) (gs : List Segment) : Type 0 where
   pub some : 0 < length gs
   pub most : length gs ≤ mostSegments
   pub fits : length gs ≤ room
   pub kinds : allCarried gs ≡ true
+  pub order : orderly f0 gs ≡ true
 
 no-file : {X : Type 0} {gs : List Segment} {o : Outcome} {a b : ℕ} → o ≡ found gs → o ≡ refused a b → X
 no-file e f = absurd (let z : _≡_ {A = ℕ} 0 1 = cc in omega arith)
@@ -40,31 +49,50 @@ passed-test true o a b gs e = (refl, e)
 passed-test false o a b gs e = no-file e refl
 
 -- ---- the segment lines
-added : (n : ℕ) (r : SegmentRead) (o : Outcome) (line : ℕ) → ((g : Segment) → r ≡ Valid g → carriedOf g ≡ true)
-    → ((gs : List Segment) → o ≡ found gs → (length gs ≡ n) × (allCarried gs ≡ true))
-    → (gs : List Segment) → addSegment line r o ≡ found gs → (length gs ≡ suc n) × (allCarried gs ≡ true)
-unfolding addSegment allCarried
-added n (Valid g) (found hs) line c ih gs e =
+-- what n lines give, where the segment before them ends at `end`
+record Run (end : Float) (n : ℕ) (gs : List Segment) : Type 0 where
+  count : length gs ≡ n
+  kinds : allCarried gs ≡ true
+  order : orderly end gs ≡ true
+
+ahead : (end : Float) (n : ℕ) (g : Segment) (o : Outcome) → carriedOf g ≡ true → joins end g ≡ true
+    → ((hs : List Segment) → o ≡ found hs → Run (g .right) n hs) → (gs : List Segment) → before g o ≡ found gs → Run end (suc n) gs
+unfolding before allCarried orderly
+ahead end n g (found hs) c j ih gs e =
     let q : gs ≡ g ∷ hs = cc in
     let w = ih hs refl in
-    (ap length q ∙ ap suc (w .0), ap allCarried q ∙ ap (λ (t : Bool). t && allCarried hs) (c g refl) ∙ w .1)
-added n (Valid g) (refused a b) line c ih gs e = no-file e refl
-added n (Fault a) o line c ih gs e = no-file e refl
+    record {
+      count = ap length q ∙ ap suc (w .count);
+      kinds = ap allCarried q ∙ ap (λ (t : Bool). t && allCarried hs) c ∙ w .kinds;
+      order = ap (orderly end) q ∙ ap (λ (t : Bool). t && orderly (g .right) hs) j ∙ w .order;
+    }
+ahead end n g (refused a b) c j ih gs e = no-file e refl
 
-all-read : (fg bg : Rgba) (n line : ℕ) (ls : List (List ℕ)) (gs : List Segment) → segments fg bg n line ls ≡ found gs → (length gs ≡ n) × (allCarried gs ≡ true)
-unfolding segments allCarried
-all-read fg bg zero line ls gs e = let q : gs ≡ [] = cc in (ap length q, ap allCarried q)
-all-read fg bg (suc n) line [] gs e = no-file e refl
-all-read fg bg (suc n) line (l ∷ ls) gs e =
-    added n (segmentOf fg bg l) (segments fg bg n (suc line) ls) line (line-carried fg bg l) (all-read fg bg n (suc line) ls) gs e
+module _ (end : Float) (n line : ℕ) (l : SegmentRead) (rest : Segment → Outcome) (c : (g : Segment) → l ≡ Valid g → carriedOf g ≡ true)
+    (ih : (g : Segment) (hs : List Segment) → rest g ≡ found hs → Run (g .right) n hs) where
+  added : (r : SegmentRead) → r ≡ weighed end l → (gs : List Segment) → addSegment line r rest ≡ found gs → Run end (suc n) gs
+  unfolding addSegment
+  added (Valid g) q gs e = let w = weighs end l g (sym q) in ahead end n g (rest g) (c g (w .0)) (w .1) (ih g) gs e
+  added (Fault a) q gs e = no-file e refl
+
+all-read : (fg bg : Rgba) (n line : ℕ) (end : Float) (ls : List (List ℕ)) (gs : List Segment) → segments fg bg n line end ls ≡ found gs → Run end n gs
+unfolding segments allCarried orderly
+all-read fg bg zero line end ls gs e =
+    let w = passed-test (eq end f1) (found []) _ _ gs e in
+    let q : gs ≡ [] = cc in
+    record { count = ap length q; kinds = ap allCarried q; order = ap (orderly end) q ∙ w .0 }
+all-read fg bg (suc n) line end [] gs e = no-file e refl
+all-read fg bg (suc n) line end (l ∷ ls) gs e =
+    added end n line (segmentOf fg bg l) (λ g. segments fg bg n (suc line) (g .right) ls) (line-carried fg bg l)
+    (λ g. all-read fg bg n (suc line) (g .right) ls) (weighed end (segmentOf fg bg l)) refl gs e
 
 -- ---- the header
 from-head : (fg bg : Rgba) (room : ℕ) (s : List ℕ) (h : Head) → headOf room s ≡ h → (gs : List Segment) → fromHead fg bg h ≡ found gs → Given room gs
 unfolding fromHead
 from-head fg bg room s (counts n ls) q gs e =
     let few = head-fits s q in
-    let w = all-read fg bg n 4 ls gs e in
-    record { some = omega (arith, w .0, few); most = omega (arith, w .0, few); fits = omega (arith, w .0, few); kinds = w .1 }
+    let w = all-read fg bg n 4 f0 ls gs e in
+    record { some = omega (arith, w .count, few); most = omega (arith, w .count, few); fits = omega (arith, w .count, few); kinds = w .kinds; order = w .order }
 from-head fg bg room s (fails a b) q gs e = no-file e refl
 
 -- ---- the file
@@ -74,7 +102,7 @@ given fg bg room s gs e =
     let w = passed-test (finiteRgba fg && finiteRgba bg) (cond (fitText s) (fromHead fg bg (headOf room s)) (refused notAText 0)) _ _ gs e in
     from-head fg bg room s (headOf room s) refl gs (passed-test (fitText s) (fromHead fg bg (headOf room s)) _ _ gs (w .1) .1)
 
-found-by : (o : Outcome) (n : ℕ) → Read n ≡ answerOf o → (gs : List Segment) × (o ≡ found gs) × (length gs ≡ n)
+pub found-by : (o : Outcome) (n : ℕ) → Read n ≡ answerOf o → (gs : List Segment) × (o ≡ found gs) × (length gs ≡ n)
 found-by (found gs) n e = (gs, refl, cc)
 found-by (refused a b) n e = absurd (let z : _≡_ {A = ℕ} 0 1 = cc in omega arith)
 

@@ -1,4 +1,6 @@
 -- Laws that belong to no one function.
+mod Weighing
 mod Filling
 mod Finish
 pub mod Given
+pub mod Orderly

@@ -1,13 +1,14 @@
--- A GIMP file as a whole: what reading it answers and writes, and its name. Document 01, 'What a GIMP file may hold' and 'When the desk says no'.
-use Prim.Native.Nat.{ℕ, zero, suc, _/_, min}
+-- A GIMP file as a whole: what reading it answers and writes, and its name. Document 01, 'What a GIMP file may hold' and 'When the desk says no'; document 02 (iii).
+use Prim.Native.Nat.{ℕ, zero, suc, _-_, _/_, min}
 use mathlib.Core.Path.{_≡_}
 use mathlib.Core.Bool.{Bool, cond, _&&_}
 use mathlib.Core.List.{List, [], _∷_, _++_}
 use lib.ListN.{length, drop, replicate}
 use lib.Dec.{leb}
-use Rattle.refusals.specs.Refusals.{notFinite, notAText, fewLines}
+use lib.Ieee.{Float, le, eq}
+use Rattle.refusals.specs.Refusals.{notFinite, notAText, fewLines, torn}
 use Rattle.refusals.specs.Limits.{mostSegments, mostText}
-use Rattle.float.specs.F32.{f0}
+use Rattle.float.specs.F32.{f0, f1}
 use Rattle.blend.specs.declared.Rgba.{Rgba}
 use Rattle.stops.specs.Stops.{finiteRgba}
 use Rattle.stops.specs.Lent.{Change}
@@ -26,23 +27,37 @@ pub data Outcome : Type 0 where
   found : List Segment → Outcome
   refused : ℕ → ℕ → Outcome
 
--- ---- the segment lines: line by line 12, 16; then 13
+-- ---- the segment lines: line by line 12, 16, 18; then 13; then the last end 18
 
--- what a line holds, before what follows it
-unfoldable pub addSegment : ℕ → SegmentRead → Outcome → Outcome
-addSegment line (Valid g) (found gs) = found (g ∷ gs)
-addSegment line (Valid g) (refused number at) = refused number at
-addSegment line (Fault number) o = refused number line
+-- A segment joins what ends at `end`: it starts there, and left ≤ middle ≤ right. Values are compared, so that -0 is 0.
+unfoldable pub joins : Float → Segment → Bool
+joins end g = eq (g .left) end && (le (g .left) (g .middle) && le (g .middle) (g .right))
 
--- the next n segments, the first of them at this line; what follows is not read
-unfoldable pub segments : Rgba → Rgba → ℕ → ℕ → List (List ℕ) → Outcome
-segments fg bg zero line ls = found []
-segments fg bg (suc n) line [] = refused fewLines 3
-segments fg bg (suc n) line (l ∷ ls) = addSegment line (segmentOf fg bg l) (segments fg bg n (suc line) ls)
+-- a line is torn where it holds a segment that does not join what ends at `end`
+unfoldable pub weighed : Float → SegmentRead → SegmentRead
+weighed end (Valid g) = cond (joins end g) (Valid g) (Fault torn)
+weighed end (Fault number) = Fault number
 
--- the segments that the header counts, from line 4 on
+-- a segment, and what follows it
+unfoldable pub before : Segment → Outcome → Outcome
+before g (found gs) = found (g ∷ gs)
+before g (refused number line) = refused number line
+
+-- what a line holds, and what follows its segment
+unfoldable pub addSegment : ℕ → SegmentRead → (Segment → Outcome) → Outcome
+addSegment line (Valid g) rest = before g (rest g)
+addSegment line (Fault number) rest = refused number line
+
+-- the next n segments, the first of them at this line, where the one before ends at `end`; what follows is not read
+unfoldable pub segments : Rgba → Rgba → ℕ → ℕ → Float → List (List ℕ) → Outcome
+segments fg bg zero line end ls = cond (eq end f1) (found []) (refused torn (line - 1))
+segments fg bg (suc n) line end [] = refused fewLines 3
+segments fg bg (suc n) line end (l ∷ ls) =
+    addSegment line (weighed end (segmentOf fg bg l)) (λ g. segments fg bg n (suc line) (g .right) ls)
+
+-- the segments that the header counts, from line 4 and from 0 on
 unfoldable pub fromHead : Rgba → Rgba → Head → Outcome
-fromHead fg bg (counts n ls) = segments fg bg n 4 ls
+fromHead fg bg (counts n ls) = segments fg bg n 4 f0 ls
 fromHead fg bg (fails number line) = refused number line
 
 -- ---- the file: foreground or background not finite is 2, first of all; then 10; then the lines

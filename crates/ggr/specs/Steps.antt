@@ -1,14 +1,19 @@
 -- What private functions promise each other.
-use Prim.Native.Nat.{ℕ}
+use Prim.Native.Nat.{ℕ, _+_}
 use mathlib.Core.Path.{_≡_}
+use mathlib.Core.Bool.{cond}
 use mathlib.Core.List.{List}
 use lib.ListN.{drop}
+use lib.Ieee.{Float, eq}
+use Rattle.refusals.specs.Refusals.{torn}
+use Rattle.float.specs.F32.{f0, f1}
 use Rattle.blend.specs.declared.Rgba.{Rgba}
 use Rattle.stops.specs.Lent.{Change}
 use Rattle.gradient.specs.declared.gimp.Segment.{Segment}
 use Rattle.text.specs.Text.{lines}
 use Rattle.segment.specs.Store.{Store}
 use Rattle.ggr.specs.declared.Answer.{Answer}
+use Rattle.ggr.specs.declared.Answer.the-variants.{Read, Refused}
 use Rattle.ggr.specs.File.{Outcome, found, segments, fileOf, answerOf, written, roomIn}
 
 -- the answer is right, and so are the outputs where it is no refusal
@@ -18,7 +23,11 @@ pub record Filled (o : Outcome) (store : Change Store) (r : Answer) : Type 0 whe
 
 -- of the n segment lines of the text s from `from` on, and of the whole text
 abbrev pub Fills : Rgba → Rgba → List ℕ → ℕ → ℕ → Change Store → Answer → Type 0
-Fills fg bg s from n store r = Filled (segments fg bg n 4 (lines (drop from s))) store r
+Fills fg bg s from n store r = Filled (segments fg bg n 4 f0 (lines (drop from s))) store r
 
 abbrev pub ReadsInto : Rgba → Rgba → List ℕ → Change Store → Answer → Type 0
 ReadsInto fg bg s store r = Filled (fileOf (roomIn (store .entry)) fg bg s) store r
+
+-- the answer after the last of n segments, which ends at `end`
+abbrev pub closedBy : Float → ℕ → Answer
+closedBy end n = cond (eq end f1) (Read n) (Refused torn (3 + n))

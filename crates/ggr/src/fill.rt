@@ -1,12 +1,14 @@
 // A file read into the lent outputs.
 use super::Answer;
 use blend::Rgba;
+use gradient::gimp::Segment;
 use header::Lead;
 use header::read_header;
 use refusals::FEW_LINES;
 use refusals::MOST_TEXT;
 use refusals::NOT_A_TEXT;
 use refusals::NOT_FINITE;
+use refusals::TORN;
 use segment::SegmentRead;
 use segment::segment_at;
 use segment::store::put_segment;
@@ -17,8 +19,8 @@ ghost use Prim.Native.Nat.{_*_, _≤_};
 ghost use lib.ListN.{length};
 ghost use Rattle.refusals.specs.Limits.{mostSegments};
 ghost use Rattle.segment.specs.Store.{lentStore};
-ghost use Rattle.ggr.specs.File.{fitText, roomOf};
-ghost use Rattle.ggr.specs.Steps.{Fills, ReadsInto};
+ghost use Rattle.ggr.specs.File.{fitText, joins, roomOf, weighed};
+ghost use Rattle.ggr.specs.Steps.{Fills, ReadsInto, closedBy};
 
 fn is_fit_text(s: &[u8]) -> bool
     ensures { λ r. ⌜ r ≡ fitText (now (s .entry)) ⌝ }
@@ -43,6 +45,45 @@ fn room_of(p: usize, c: usize, k: usize) -> usize
     n
 }
 
+// Whether g starts where the one before ends, and its positions are in order.
+fn joins_on(end: f32, g: Segment) -> bool
+    ensures { λ r. ⌜ r ≡ joins end g ⌝ }
+{
+    if g.left != end {
+        return false;
+    }
+    if g.left <= g.middle {
+        return g.middle <= g.right;
+    }
+    false
+}
+
+// What a line holds, where the segment before it ends at `end`.
+fn weigh(end: f32, o: SegmentRead) -> SegmentRead
+    ensures { λ r. ⌜ r ≡ weighed end o ⌝ }
+{
+    match o {
+        SegmentRead::Fault(_) => o,
+        SegmentRead::Valid(g) => {
+            if joins_on(end, g) {
+                return o;
+            }
+            SegmentRead::Fault(TORN)
+        }
+    }
+}
+
+// What is answered after the last of n segments, which ends at `end`.
+fn closing(end: f32, n: usize) -> Answer
+    requires { ⌜ n ≤ mostSegments ⌝ }
+    ensures { λ r. ⌜ r ≡ closedBy end n ⌝ }
+{
+    if end == 1.0 {
+        return Answer::Read(n);
+    }
+    Answer::Refused(TORN, 3 + n)
+}
+
 // The n segment lines from `from` on, written into the outputs.
 fn fill(
     s: &[u8],
@@ -58,25 +99,28 @@ fn fill(
     ensures { λ r. ⌜ Fills fg bg (now (s .entry)) from n (lentStore p c k) r ⌝ }
 {
     let mut at = from;
+    let mut end = 0.0;
     let mut i = 0;
     while i < n {
         if s.len() <= at {
             return Answer::Refused(FEW_LINES, 3);
         }
         let l = segment_at(s, at, fg, bg);
-        let o = l.read;
+        let read = l.read;
+        let o = weigh(end, read);
         match o {
             SegmentRead::Fault(number) => {
                 return Answer::Refused(number, 4 + i);
             }
             SegmentRead::Valid(g) => {
                 put_segment(p, c, k, i, g);
+                end = g.right;
             }
         }
         at = l.next;
         i += 1;
     }
-    Answer::Read(n)
+    closing(end, n)
 }
 
 // Reads a file: the answer is right, and so are the outputs where it is no refusal.

@@ -2,3 +2,4 @@ pub mod Valid
 pub mod Same
 pub mod GimpSearch
 pub mod GimpLaws
+pub mod NoGap

@@ -1,2 +1,3 @@
 pub mod Gimp
 pub mod Ramp
+pub mod Joined

@@ -211,11 +211,12 @@ fn read(label: &[u8], text: &[u8]) {
     out(b"\n");
 }
 
-// A GIMP file whose line 3 counts so many segments, with 257 lines for them.
+// A GIMP file whose line 3 counts so many segments, with 257 lines for them, of which all but the first have no length.
 fn counted(label: &[u8], header: &[u8; 29]) {
-    let mut text = [0u8; 6968];
+    let mut text = [0u8; 6712];
     fill(&mut text, 0, header, 29);
-    fill(&mut text, 29, b"0 .5 1 0 0 0 1 1 1 1 1 0 0\n", 6939);
+    fill(&mut text, 29, b"0 .5 1 0 0 0 1 1 1 1 1 0 0\n", 27);
+    fill(&mut text, 56, b"1 1 1 0 0 0 1 1 1 1 1 0 0\n", 6656);
     read(label, &text);
 }
 

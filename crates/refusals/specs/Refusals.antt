@@ -68,3 +68,7 @@ notCarried = 16
 -- building sharp: n outside 1 to 256, domain not finite, min above max, or built positions not finite, falling, or not ending at max
 abbrev pub notBuilt : ℕ
 notBuilt = 17
+
+-- a segment whose positions are not left ≤ middle ≤ right, or whose left end does not equal the right end of the one before, or a first that doesn't start at 0, or a last that doesn't end at 1 (its line)
+abbrev pub torn : ℕ
+torn = 18

@@ -52,6 +52,9 @@ pub const NOT_CARRIED: u8 = 16;
 // A sharp ramp cannot be built of these colours on this domain.
 pub const NOT_BUILT: u8 = 17;
 
+// The segments of a GIMP file do not run in order from 0 to 1, each joined to the one before.
+pub const TORN: u8 = 18;
+
 // Stops of a ramp.
 pub const MOST_STOPS: usize = 2048;
 

@@ -7,6 +7,7 @@ use lib.ListN.{length, getD, replicate}
 use lib.Seq.{sets}
 use lib.Ieee.{Float, lt}
 use lib.Ieee.Scale.{finite}
+use Rattle.refusals.specs.Refusals.{noRoom, listNotFinite, listFalling}
 use Rattle.float.specs.F32.{_⊖_, _⊘_, f0, epsilon}
 use Rattle.float.specs.Number.{magnitudeOf}
 use Rattle.blend.specs.Blend.{linear}
@@ -53,7 +54,7 @@ listEvaluations g far ps = 3 * weighedOf g far ps + length (keptOf g far ps)
 -- a stop at t of colour c, with n emitted before it, the last at `last`: 7, 8, 9, or 0 for none
 unfoldable pub stopRefusal : ℕ → ℕ → Float → Float → Rgba → ℕ
 stopRefusal room n last t c =
-    cond (leb room n) 7 (cond (finite t && finiteRgba c) (cond (lt t last) 9 0) 8)
+    cond (leb room n) noRoom (cond (finite t && finiteRgba c) (cond (lt t last) listFalling 0) listNotFinite)
 
 -- the first that is not 0
 abbrev pub firstRefusal : ℕ → ℕ → ℕ

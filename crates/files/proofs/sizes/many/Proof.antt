@@ -7,10 +7,10 @@ use Rattle.files.proofs.sizes.many.Statement.{statement}
 use Rattle.files.proofs.sizes.many.Tie as tie
 
 abbrev Inv-loop : tie.InvT-loop
-Inv-loop buf₀ count n at₀ t7 counter₀ buf at counter = length buf ≡ length buf₀
+Inv-loop buf₀ count n at₀ t8 counter₀ buf at counter = length buf ≡ length buf₀
 
 abbrev μ-loop : tie.MeasureT-loop
-μ-loop buf₀ count n at₀ t7 counter₀ buf at counter = n - counter
+μ-loop buf₀ count n at₀ t8 counter₀ buf at counter = n - counter
 
 slice-aggregate-append : tie.Need-slice-aggregate-append Inv-loop μ-loop
 slice-aggregate-append c = search needs
@@ -27,14 +27,20 @@ slice-aggregate-append-2 c = search needs
 append-requires-3 : tie.Need-append-requires-3 Inv-loop μ-loop
 append-requires-3 c κs = search needs
 
-loop-holds : tie.Need-loop-holds Inv-loop μ-loop
-loop-holds c = search needs
-
 slice-aggregate-append-3 : tie.Need-slice-aggregate-append-3 Inv-loop μ-loop
 slice-aggregate-append-3 c = search needs
 
 append-requires-4 : tie.Need-append-requires-4 Inv-loop μ-loop
 append-requires-4 c κs = search needs
+
+loop-holds : tie.Need-loop-holds Inv-loop μ-loop
+loop-holds c = search needs
+
+slice-aggregate-append-4 : tie.Need-slice-aggregate-append-4 Inv-loop μ-loop
+slice-aggregate-append-4 c = search needs
+
+append-requires-5 : tie.Need-append-requires-5 Inv-loop μ-loop
+append-requires-5 c κs = search needs
 
 add-counter : tie.Need-add-counter Inv-loop μ-loop
 add-counter c = search needs
@@ -62,9 +68,11 @@ many-spec =
     append-requires-2
     slice-aggregate-append-2
     append-requires-3
-    loop-holds
     slice-aggregate-append-3
     append-requires-4
+    loop-holds
+    slice-aggregate-append-4
+    append-requires-5
     add-counter
     loop-less
     loop-again

@@ -4,19 +4,20 @@ use Prim.Native.Nat.{_-_}
 use native.Mathlib.Omega.{arith}
 use mathlib.Core.Path.{refl}
 use lib.ListN.{drop}
+use Rattle.float.specs.F32.{f0}
 use Rattle.text.specs.Text.{lines}
 use Rattle.segment.specs.Store.{storeOf}
 use Rattle.ggr.specs.File.{segments}
-use Rattle.ggr.proofs.Filling.{Going, going-start, short, bad, going-on, full}
+use Rattle.ggr.proofs.Filling.{Going, going-start, short, bad, going-on, closed}
 use Rattle.ggr.proofs.fill.fill.Statement.{statement}
 use Rattle.ggr.proofs.fill.fill.Tie as tie
 
 abbrev Inv-loop : tie.InvT-loop
-Inv-loop s from n fg bg p₀ c₀ k₀ at₀ i₀ p c k at i =
-    Going (segments fg bg n 4 (lines (drop from s))) s fg bg n (storeOf p₀ c₀ k₀) (storeOf p c k) at i
+Inv-loop s from n fg bg p₀ c₀ k₀ at₀ end₀ i₀ p c k at end i =
+    Going (segments fg bg n 4 f0 (lines (drop from s))) s fg bg n (storeOf p₀ c₀ k₀) (storeOf p c k) at end i
 
 abbrev μ-loop : tie.MeasureT-loop
-μ-loop s from n fg bg p₀ c₀ k₀ at₀ i₀ p c k at i = n - i
+μ-loop s from n fg bg p₀ c₀ k₀ at₀ end₀ i₀ p c k at end i = n - i
 
 loop-holds : tie.Need-loop-holds Inv-loop μ-loop
 loop-holds c = let a = c .before .before .before .before .args in
@@ -35,16 +36,19 @@ returns : tie.Need-returns Inv-loop μ-loop
 returns c =
     let l = c .before .before in
     let a = l .before .before .before .before .before .args in
-    short _ (a .s .now) (a .fg) (a .bg) (a .n) _ _ (l .loop .at) (l .loop .i) (l .loop .inv) (search needs) (c .if1 .taken)
+    short _ (a .s .now) (a .fg) (a .bg) (a .n) _ _ (l .loop .at) (l .loop .end) (l .loop .i) (l .loop .inv) (search needs) (c .if1 .taken)
 
 segment-at-requires : tie.Need-segment-at-requires Inv-loop μ-loop
 segment-at-requires c κs = search needs
 
+weigh-requires : tie.Need-weigh-requires Inv-loop μ-loop
+weigh-requires c κs = search needs
+
 enum-known-o : tie.Need-enum-known-o Inv-loop μ-loop
 enum-known-o c = search needs
 
-add-t17 : tie.Need-add-t17 Inv-loop μ-loop
-add-t17 c = search needs
+add-t19 : tie.Need-add-t19 Inv-loop μ-loop
+add-t19 c = search needs
 
 same-length-4 : tie.Need-same-length-4 Inv-loop μ-loop
 same-length-4 c = search needs
@@ -58,9 +62,10 @@ same-length-6 c = search needs
 returns-2 : tie.Need-returns-2 Inv-loop μ-loop
 returns-2 c =
     let q = c .before .before .before in
-    let l = q .before .before .before in
+    let read = q .before in
+    let l = read .before .before .before in
     let a = l .before .before .before .before .before .args in
-    bad _ (a .s .now) (a .fg) (a .bg) (a .n) _ _ (l .loop .at) (l .loop .i) (l .loop .inv) (search needs) (search needs) (q .segment-at .result .read) (q .segment-at .result .next) (q .segment-at .ensures) _ (c .before .o .given .1)
+    bad _ (a .s .now) (a .fg) (a .bg) (a .n) _ _ (l .loop .at) (l .loop .end) (l .loop .i) (l .loop .inv) (search needs) (search needs) (read .segment-at .result .read) _ (read .segment-at .result .next) (read .segment-at .ensures) (q .weigh .ensures) _ (c .before .o .given .1)
 
 enum-known-o-2 : tie.Need-enum-known-o-2 Inv-loop μ-loop
 enum-known-o-2 c = search needs
@@ -71,8 +76,9 @@ put-segment-requires c κs = search needs
 add-i : tie.Need-add-i Inv-loop μ-loop
 add-i c =
     let put = c .before .before .before .before .before .before in
-    let l = put .before .before .before .before .before .before .before .before .before .before in
-    omega (arith, put .before .before .before .before .before .before .before .before .before .loop-test .taken, l .before .before .before .before .before .pre .0)
+    let valid = put .before .before .before .before .before in
+    let turn = valid .before .before .before .before .before in
+    omega (arith, turn .loop-test .taken, turn .before .before .before .before .before .before .pre .0)
 
 loop-less : tie.Need-loop-less Inv-loop μ-loop
 loop-less c = search needs
@@ -82,10 +88,14 @@ loop-again c =
     let put = c .before .before .before .before .before .before in
     let valid = put .before .before .before .before .before in
     let q = valid .before .before in
-    let l = q .before .before .before in
+    let read = q .before in
+    let l = read .before .before .before in
     let start = l .before .before .before .before .before in
     let a = start .args in
-    going-on _ (a .s .now) (a .fg) (a .bg) (a .n) _ _ (l .loop .at) (l .loop .i) (l .loop .inv) (search needs) (search needs) (q .segment-at .result .read) (q .segment-at .result .next) (q .segment-at .ensures) (start .pre .1) (start .pre .2) (start .pre .3) _ (valid .o2 .given .1) _ (put .put-segment .ensures)
+    going-on _ (a .s .now) (a .fg) (a .bg) (a .n) _ _ (l .loop .at) (l .loop .end) (l .loop .i) (l .loop .inv) (search needs) (search needs) (read .segment-at .result .read) _ (read .segment-at .result .next) (read .segment-at .ensures) (q .weigh .ensures) (start .pre .1) (start .pre .2) (start .pre .3) _ (valid .o2 .given .1) _ (put .put-segment .ensures)
+
+closing-requires : tie.Need-closing-requires Inv-loop μ-loop
+closing-requires c κs = c .before .before .before .before .before .before .pre .0
 
 same-length-7 : tie.Need-same-length-7 Inv-loop μ-loop
 same-length-7 c = search needs
@@ -98,9 +108,9 @@ same-length-9 c = search needs
 
 returns-3 : tie.Need-returns-3 Inv-loop μ-loop
 returns-3 c =
-    let l = c .before in
+    let l = c .before .before in
     let a = l .before .before .before .before .before .args in
-    full _ (a .s .now) (a .fg) (a .bg) (a .n) _ _ (l .loop .at) (l .loop .i) (l .loop .inv) (omega arith)
+    closed _ (a .s .now) (a .fg) (a .bg) (a .n) _ _ (l .loop .at) (l .loop .end) (l .loop .i) (l .loop .inv) (omega arith) _ (c .closing .ensures)
 
 pub fill-spec : {M : Type 1} → statement M
 fill-spec =
@@ -114,8 +124,9 @@ fill-spec =
     same-length-3
     returns
     segment-at-requires
+    weigh-requires
     enum-known-o
-    add-t17
+    add-t19
     same-length-4
     same-length-5
     same-length-6
@@ -125,6 +136,7 @@ fill-spec =
     add-i
     loop-less
     loop-again
+    closing-requires
     same-length-7
     same-length-8
     same-length-9

@@ -3,11 +3,11 @@ use borrow.Author.Needs.{needs}
 use Prim.Native.Nat.{_-_}
 use mathlib.Core.Path.{_≡_}
 use lib.ListN.{length}
-use Rattle.files.proofs.torn.prefixes.Statement.{statement}
-use Rattle.files.proofs.torn.prefixes.Tie as tie
+use Rattle.files.proofs.damaged.prefixes.Statement.{statement}
+use Rattle.files.proofs.damaged.prefixes.Tie as tie
 
 abbrev Inv-loop : tie.InvT-loop
-Inv-loop text counts₀ n₀ t4 n-end counts n = length counts ≡ 18
+Inv-loop text counts₀ n₀ t4 n-end counts n = length counts ≡ 20
 
 abbrev μ-loop : tie.MeasureT-loop
 μ-loop text counts₀ n₀ t4 n-end counts n = n-end - n

@@ -3,11 +3,11 @@ use borrow.Author.Needs.{needs}
 use Prim.Native.Nat.{_-_}
 use mathlib.Core.Path.{_≡_}
 use lib.ListN.{length}
-use Rattle.files.proofs.torn.changes.Statement.{statement}
-use Rattle.files.proofs.torn.changes.Tie as tie
+use Rattle.files.proofs.damaged.changes.Statement.{statement}
+use Rattle.files.proofs.damaged.changes.Tie as tie
 
 abbrev Inv-loop : tie.InvT-loop
-Inv-loop file counts₀ text₀ i₀ t5 counts text i = (length counts ≡ 18) × (length text ≡ 55)
+Inv-loop file counts₀ text₀ i₀ t5 counts text i = (length counts ≡ 20) × (length text ≡ 55)
 
 abbrev μ-loop : tie.MeasureT-loop
 μ-loop file counts₀ text₀ i₀ t5 counts text i = 55 - i

@@ -1,14 +1,14 @@
--- `show_tally` is safe and ends: the place read is below 17. Assumes nothing.
+-- `show_tally` is safe and ends: the place read is below 19. Assumes nothing.
 use borrow.Author.Needs.{needs}
 use Prim.Native.Nat.{_-_, _≤_}
-use Rattle.files.proofs.torn.show_tally.Statement.{statement}
-use Rattle.files.proofs.torn.show_tally.Tie as tie
+use Rattle.files.proofs.damaged.show_tally.Statement.{statement}
+use Rattle.files.proofs.damaged.show_tally.Tie as tie
 
 abbrev Inv-loop : tie.InvT-loop
-Inv-loop label counts i₀ t5 t6 t7 t8 i = i ≤ 17
+Inv-loop label counts i₀ t5 t6 t7 t8 i = i ≤ 19
 
 abbrev μ-loop : tie.MeasureT-loop
-μ-loop label counts i₀ t5 t6 t7 t8 i = 17 - i
+μ-loop label counts i₀ t5 t6 t7 t8 i = 19 - i
 
 out-requires : tie.Need-out-requires Inv-loop μ-loop
 out-requires c κs = search needs

@@ -3,8 +3,8 @@ use borrow.Author.Needs.{needs}
 use Prim.Native.Nat.{_-_}
 use mathlib.Core.Path.{_≡_}
 use lib.ListN.{length}
-use Rattle.files.proofs.torn.change.Statement.{statement}
-use Rattle.files.proofs.torn.change.Tie as tie
+use Rattle.files.proofs.damaged.change.Statement.{statement}
+use Rattle.files.proofs.damaged.change.Tie as tie
 
 abbrev Inv-loop : tie.InvT-loop
 Inv-loop counts₀ text₀ i others kept j₀ counts text j = (length counts ≡ length counts₀) × (length text ≡ length text₀)

@@ -29,16 +29,16 @@ fn tally(counts: &mut [u64], text: &[u8]) {
         Answer::Read(_) => add(counts, 0, 1),
         Answer::Refused(refusal, line) => {
             add(counts, refusal as usize, 1);
-            add(counts, 17, line as u64);
+            add(counts, 19, line as u64);
         }
     }
 }
 
-fn show_tally(label: &[u8], counts: &[u64; 18]) {
+fn show_tally(label: &[u8], counts: &[u64; 20]) {
     out(label);
     out(b": read ");
     number(counts[0]);
-    for i in 1..17 {
+    for i in 1..19 {
         if counts[i] != 0 {
             out(b", refused ");
             number(i as u64);
@@ -47,12 +47,12 @@ fn show_tally(label: &[u8], counts: &[u64; 18]) {
         }
     }
     out(b", lines add up to ");
-    number(counts[17]);
+    number(counts[19]);
     out(b"\n");
 }
 
 pub(crate) fn prefixes(text: &[u8]) {
-    let mut counts = [0u64; 18];
+    let mut counts = [0u64; 20];
     for n in 0..text.len() {
         tally(&mut counts, front(text, n));
     }
@@ -74,7 +74,7 @@ fn change(counts: &mut [u64], text: &mut [u8], i: usize) {
 }
 
 pub(crate) fn changes(file: &[u8]) {
-    let mut counts = [0u64; 18];
+    let mut counts = [0u64; 20];
     let mut text = [0u8; 55];
     append(&mut text, 0, file);
     for i in 0..55 {
