@@ -11,12 +11,12 @@ weightsOf t =
     let t3 = t2 ⊗ t in
     record { w0 = f1 ⊖ f3 ⊗ t ⊕ f3 ⊗ t2 ⊖ t3; w1 = f4 ⊖ f6 ⊗ t2 ⊕ f3 ⊗ t3; w2 = f1 ⊕ f3 ⊗ t ⊕ f3 ⊗ t2 ⊖ f3 ⊗ t3; w3 = t3 }
 
-unfoldable pub weighed : Weights → Float → Float → Float → Float → Float
-weighed w v0 v1 v2 v3 = (w .w0 ⊗ v0 ⊕ w .w1 ⊗ v1 ⊕ w .w2 ⊗ v2 ⊕ w .w3 ⊗ v3) ⊘ f6
+unfoldable pub weightedSum : Weights → Float → Float → Float → Float → Float
+weightedSum w v0 v1 v2 v3 = (w .w0 ⊗ v0 ⊕ w .w1 ⊗ v1 ⊕ w .w2 ⊗ v2 ⊕ w .w3 ⊗ v3) ⊘ f6
 
 -- one channel
 abbrev pub basis1 : Float → Float → Float → Float → Float → Float
-basis1 t v0 v1 v2 v3 = weighed (weightsOf t) v0 v1 v2 v3
+basis1 t v0 v1 v2 v3 = weightedSum (weightsOf t) v0 v1 v2 v3
 
 unfoldable pub basis : Float → Rgba → Rgba → Rgba → Rgba → Rgba
 basis t p0 p1 p2 p3 =

@@ -3,7 +3,7 @@ use super::Rgba;
 use super::Stop;
 use super::utils;
 ghost use mathlib.Core.Path.{_≡_};
-ghost use Rattle.blend.specs.Basis.{weightsOf, weighed, basis};
+ghost use Rattle.blend.specs.Basis.{weightsOf, weightedSum, basis};
 ghost use Rattle.blend.specs.Pair.{basisPair};
 
 // What each of four values counts, six times over.
@@ -28,7 +28,7 @@ fn weights_at(t: f32) -> Weights
 }
 
 fn weigh(w: Weights, v0: f32, v1: f32, v2: f32, v3: f32) -> f32
-    ensures { λ r. ⌜ r ≡ weighed w v0 v1 v2 v3 ⌝ }
+    ensures { λ r. ⌜ r ≡ weightedSum w v0 v1 v2 v3 ⌝ }
 {
     (w.w0 * v0 + w.w1 * v1 + w.w2 * v2 + w.w3 * v3) / 6.0
 }

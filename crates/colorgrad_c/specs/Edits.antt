@@ -22,16 +22,16 @@ use Rattle.plain.specs.declared.lists.SampleMade.{SampleMade}
 abbrev pub editOf : ℕ → Rgba → Edit
 editOf stop colour = record { stop = stop; colour = colour }
 
--- the promises of `refresh`, of a ramp of any kind; a code that names no kind is 1 and changes nothing
-module _ (code : ℕ) (ramp : Kind → Ramp) (e : Edit) (asked : Float) where
+-- the promises of `refresh`, of a ramp of any kind and the edit that gives a stop a colour; a code that names no kind is 1 and changes nothing
+module _ (code : ℕ) (ramp : Kind → Ramp) (stop : ℕ) (colour : Rgba) (asked : Float) where
   abbrev pub CodedRefreshes : Change Held → SampleMade → Type 0
   CodedRefreshes held =
-      Shows code (λ (kind : Kind). Refreshes (ramp kind) e asked held)
+      Shows code (λ (kind : Kind). Refreshes (ramp kind) (editOf stop colour) asked held)
       (λ (a : Refreshed). (a ≡ refreshed.Refused misshapen) × (held .exit ≡ held .entry))
       refreshedShown
 
   abbrev pub CodedRefreshLists : Change Held → Change Output → ListMade → Type 0
   CodedRefreshLists held out =
-      Shows code (λ (kind : Kind). RefreshLists (ramp kind) e asked held out)
+      Shows code (λ (kind : Kind). RefreshLists (ramp kind) (editOf stop colour) asked held out)
       (λ (a : Listed). (a ≡ listed.Refused misshapen) × ((held .exit ≡ held .entry) × (out .exit ≡ out .entry)))
       listedShown

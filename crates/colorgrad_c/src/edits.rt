@@ -13,7 +13,7 @@ use refusals::MISSHAPEN;
 ghost use Rattle.sampling.specs.Lent.{lentHeld};
 ghost use Rattle.linearize.specs.Lent.{lentOutput};
 ghost use Rattle.plain.specs.Kinds.{codedRamp};
-ghost use Rattle.colorgrad_c.specs.Edits.{editOf, CodedRefreshes, CodedRefreshLists};
+ghost use Rattle.colorgrad_c.specs.Edits.{CodedRefreshes, CodedRefreshLists};
 
 #[no_mangle]
 pub extern "C" fn colorgrad_refresh(
@@ -27,7 +27,7 @@ pub extern "C" fn colorgrad_refresh(
     rows: &mut [f32],
     counts: &mut [u8],
 ) -> SampleMade
-    ensures { λ r. ⌜ CodedRefreshes kind (codedRamp positions channels codes) (editOf stop colour) threshold (lentHeld rows counts) r ⌝ }
+    ensures { λ r. ⌜ CodedRefreshes kind (codedRamp positions channels codes) stop colour threshold (lentHeld rows counts) r ⌝ }
 {
     let Coded::Of(known) = kinds::kind_of(kind) else {
         return refreshed_shown(Refreshed::Refused(MISSHAPEN));
@@ -59,7 +59,7 @@ pub extern "C" fn colorgrad_refresh_list(
     places: &mut [f32],
     colours: &mut [f32],
 ) -> ListMade
-    ensures { λ r. ⌜ CodedRefreshLists kind (codedRamp positions channels codes) (editOf stop colour) threshold (lentHeld rows counts) (lentOutput places colours) r ⌝ }
+    ensures { λ r. ⌜ CodedRefreshLists kind (codedRamp positions channels codes) stop colour threshold (lentHeld rows counts) (lentOutput places colours) r ⌝ }
 {
     let Coded::Of(known) = kinds::kind_of(kind) else {
         return listed_shown(Listed::Refused(MISSHAPEN));

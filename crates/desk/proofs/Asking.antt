@@ -49,7 +49,7 @@ was-ramp (unread l) r = absurd (let z : _≡_ {A = ℕ} 0 1 = cc in omega arith)
 was-ramp (input k x ss d) r = record { stops = ss; is = sym (ap (with-stops ss) r); count = ap count-of r }
 
 -- ---- what was read, with its stops in what is lent
-pub record Ready (s : List ℕ) (lent : Change Output) (kind : Kind) (x : Float) (n : ℕ) (e : Edited) : Type 0 where
+pub record ReadRamp (s : List ℕ) (lent : Change Output) (kind : Kind) (x : Float) (n : ℕ) (e : Edited) : Type 0 where
   pub stops : List Stop
   pub is : inputOf s ≡ input kind x stops e
   pub count : n ≡ length stops
@@ -68,7 +68,7 @@ module _ {s : List ℕ} {lent : Change Output} {r : Asked} (w : Reads s lent r) 
   unfolding deskOf inputText
   says-unread i = record { is = sym (ap inputText (was-unread (inputOf s) (sym i ∙ w .answer))) }
 
-  pub reads-ready : {kind : Kind} {x : Float} {n : ℕ} {e : Edited} → r ≡ asked.Ramp kind x n e → Ready s lent kind x n e
+  pub reads-ready : {kind : Kind} {x : Float} {n : ℕ} {e : Edited} → r ≡ asked.Ramp kind x n e → ReadRamp s lent kind x n e
   reads-ready i =
       let a = was-ramp (inputOf s) (sym i ∙ w .answer) in
       let same : a .stops ≡ _ = stops-are s (a .is) in
@@ -80,7 +80,7 @@ module _ {s : List ℕ} {lent : Change Output} {r : Asked} (w : Reads s lent r) 
         channels = w .channels ∙ ap (λ (l : List Stop). sets (lent .entry .channels) 0 (channelsIn l)) (sym same);
       }
 
-module _ {s : List ℕ} {lent : Change Output} {kind : Kind} {x : Float} {n : ℕ} {e : Edited} (w : Ready s lent kind x n e) where
+module _ {s : List ℕ} {lent : Change Output} {kind : Kind} {x : Float} {n : ℕ} {e : Edited} (w : ReadRamp s lent kind x n e) where
   -- more stops than are kept
   pub too-many : {ps cs : List Float} → mostKept < n → Says (deskOf s) (reply.Refused 1) ps cs
   unfolding deskOf inputText

@@ -145,7 +145,7 @@ small (fin true m e) h k f = halves true m e f (under (m * up e) (2 ^ 127) (down
 within-halves : (x : Float) → Within x → Halves x
 within-halves x w = small x (subst (λ (y : Float). T (lt y x)) neg-top (w .low)) (subst (λ (y : Float). T (lt x y)) top-is (w .high)) (w .one)
 
-pub within-finite : (x : Float) → Within x → T (finite x)
+within-finite : (x : Float) → Within x → T (finite x)
 within-finite x w = go x (within-halves x w .whole)
   where
     go : (x : Float) → T (finite (twice x)) → T (finite x)
@@ -156,13 +156,6 @@ within-finite x w = go x (within-halves x w .whole)
 -- 1e38 is below it
 abbrev pub most : Float
 most = ofBits binary32 0x7e96_7699
-
-most-top : T (lt most top) × T (lt (neg top) (neg most))
-unfolding ofBits neg lt
-most-top = (tt, tt)
-
-pub within-most : (x : Float) → T (fits binary32 x) → T (le (neg most) x) → T (le x most) → Within x
-within-most x f l h = record { one = f; low = order.lt-le-trans (neg top) (neg most) x (most-top .1) l; high = order.le-lt-trans x most top h (most-top .0) }
 
 -- ---- the midpoint lies between
 abbrev mid : Float → Float → Float
@@ -199,9 +192,6 @@ module _ (x y : Float) (wx : Within x) (wy : Within y) where
 
   pub mid-le : (z : Float) → T (le x z) → T (le y z) → T (le (mid x y) z)
   mid-le z h k = elim lies [ inl l ↦ order.le-trans (mid x y) y z (l .high) k | inr l ↦ order.le-trans (mid x y) x z (l .high) h ]
-
-  pub le-mid : (z : Float) → T (le z x) → T (le z y) → T (le z (mid x y))
-  le-mid z h k = elim lies [ inl l ↦ order.le-trans z x (mid x y) h (l .low) | inr l ↦ order.le-trans z y (mid x y) k (l .low) ]
 
   pub mid-lt : (z : Float) → T (lt x z) → T (lt y z) → T (lt (mid x y) z)
   mid-lt z h k = elim lies [ inl l ↦ order.le-lt-trans (mid x y) y z (l .high) k | inr l ↦ order.le-lt-trans (mid x y) x z (l .high) h ]

@@ -22,7 +22,7 @@ use Rattle.segment.specs.Line.{SegmentAt}
 use Rattle.segment.specs.Store.{Store, storeOf, segmentPositions, segmentChannels, segmentCodes, Stores}
 use Rattle.ggr.specs.declared.Answer.{Answer}
 use Rattle.ggr.specs.declared.Answer.the-variants.{Read, Refused}
-use Rattle.ggr.specs.File.{Outcome, found, refused, weighed, before, addSegment, segments, answerOf, flat, atFront, written}
+use Rattle.ggr.specs.File.{FileRead, found, refused, joinedTo, before, addSegment, segments, answerOf, flat, atFront, written}
 use Rattle.ggr.specs.Steps.{Filled, closedBy}
 use Rattle.ggr.proofs.Weighing.{weighs}
 
@@ -68,11 +68,11 @@ unfolding segmentCodes
 each-k g = refl
 
 -- ---- the outcome so far
-unfoldable pub prependAll : List Segment → Outcome → Outcome
+unfoldable pub prependAll : List Segment → FileRead → FileRead
 prependAll [] o = o
 prependAll (g ∷ gs) o = before g (prependAll gs o)
 
-prepend-snoc : (gs : List Segment) (g : Segment) (o : Outcome) → prependAll gs (before g o) ≡ prependAll (gs ++ g ∷ []) o
+prepend-snoc : (gs : List Segment) (g : Segment) (o : FileRead) → prependAll gs (before g o) ≡ prependAll (gs ++ g ∷ []) o
 unfolding prependAll
 prepend-snoc [] g o = refl
 prepend-snoc (h ∷ gs) g o = ap (before h) (prepend-snoc gs g o)
@@ -92,13 +92,13 @@ by-parts : {s : Store} {p c : List Float} {k : List ℕ} → s .positions ≡ p 
 by-parts {s} e f g = rw (← e, ← f, ← g)
 
 -- a refusal promises no output
-pub filled-no : (o : Outcome) (a b : ℕ) (store : Change Store) → o ≡ refused a b → Filled o store (Refused a b)
+pub filled-no : (o : FileRead) (a b : ℕ) (store : Change Store) → o ≡ refused a b → Filled o store (Refused a b)
 filled-no o a b store e = record { answer = sym (ap answerOf e); left = λ gs f. differ gs (sym e ∙ f) } where
   differ : {X : Type 0} → (gs : List Segment) → refused a b ≡ found gs → X
   differ gs e = absurd (let z : _≡_ {A = ℕ} 0 1 = cc in omega arith)
 
 -- o is the outcome; s the text; kept what the outputs held
-module _ (o : Outcome) (s : List ℕ) (fg bg : Rgba) (n : ℕ) (kept : Store) where
+module _ (o : FileRead) (s : List ℕ) (fg bg : Rgba) (n : ℕ) (kept : Store) where
   -- i segments are written, the last of them ends at `end`, and the next line starts at `at`
   pub record Going (so-far : Store) (at : ℕ) (end : Float) (i : ℕ) : Type 0 where
     pub le : i ≤ n
@@ -134,9 +134,9 @@ module _ (o : Outcome) (s : List ℕ) (fg bg : Rgba) (n : ℕ) (kept : Store) wh
         let q : n - i ≡ suc (n - (i + 1)) = omega arith in
         filled-no o fewLines 3 _ (G .rest ∙ rw (q, no-lines s at e) (prepend-refused (G .gs) fewLines 3))
 
-    module _ (h : i < n) (z : at < length s) (l r : SegmentRead) (after : ℕ) (w : SegmentAt fg bg s at l after) (v : r ≡ weighed end l) where
+    module _ (h : i < n) (z : at < length s) (l r : SegmentRead) (after : ℕ) (w : SegmentAt fg bg s at l after) (v : r ≡ joinedTo end l) where
       -- what follows a segment
-      abbrev Rest : Segment → Outcome
+      abbrev Rest : Segment → FileRead
       Rest g = segments fg bg (n - (i + 1)) (suc (4 + i)) (g .right) (restOf (lines (drop at s)))
 
       next : o ≡ prependAll (G .gs) (addSegment (4 + i) r Rest)
@@ -144,7 +144,7 @@ module _ (o : Outcome) (s : List ℕ) (fg bg : Rgba) (n : ℕ) (kept : Store) wh
       next =
           let q : n - i ≡ suc (n - (i + 1)) = omega arith in
           G .rest ∙ ap (prependAll (G .gs)) (ap₂ (λ (m : ℕ) (ls : List (List ℕ)). segments fg bg m (4 + i) end ls) q (some-lines s at z)
-          ∙ ap (λ (x : SegmentRead). addSegment (4 + i) x Rest) (ap (weighed end) (sym (w .is)) ∙ sym v))
+          ∙ ap (λ (x : SegmentRead). addSegment (4 + i) x Rest) (ap (joinedTo end) (sym (w .is)) ∙ sym v))
 
       pub bad : (number : ℕ) → r ≡ Fault number → Filled o (change kept so-far) (Refused number (4 + i))
       unfolding addSegment
@@ -198,7 +198,7 @@ module _ (o : Outcome) (s : List ℕ) (fg bg : Rgba) (n : ℕ) (kept : Store) wh
         let p = all-flat segmentPositions 3 each-p (G .gs) i (G .count) (kept .positions) (so-far .positions) (G .in-p) in
         let c = all-flat segmentChannels 8 each-c (G .gs) i (G .count) (kept .channels) (so-far .channels) (G .in-c) in
         let k = all-flat segmentCodes 2 each-k (G .gs) i (G .count) (kept .codes) (so-far .codes) (G .in-k) in
-        record { answer = ap Read (sym e ∙ sym (G .count)) ∙ sym (ap answerOf f); left = λ hs j. by-parts p c k ∙ ap (λ (x : Outcome). written x kept) (sym f) }
+        record { answer = ap Read (sym e ∙ sym (G .count)) ∙ sym (ap answerOf f); left = λ hs j. by-parts p c k ∙ ap (λ (x : FileRead). written x kept) (sym f) }
 
     pub closed : i ≡ n → (r : Answer) → r ≡ closedBy end n → Filled o (change kept so-far) r
     closed e r q = go (eq end f1) refl q where

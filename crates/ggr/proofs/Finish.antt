@@ -23,7 +23,7 @@ use Rattle.header.specs.Head.{headOf, nameIn}
 use Rattle.header.specs.Leads.{headBy, leadFits, Leads}
 use Rattle.ggr.specs.declared.Answer.{Answer}
 use Rattle.ggr.specs.declared.Answer.the-variants.{Read, Refused}
-use Rattle.ggr.specs.File.{Outcome, found, refused, segments, fromHead, fitText, fileOf, answerOf, numberOfAnswer, lineOfAnswer, segmentsOfAnswer, numberIn, lineIn, segmentsIn, written, roomOf, Done, transparent, whenRead, nameOf}
+use Rattle.ggr.specs.File.{FileRead, found, refused, segments, fromHead, fitText, fileOf, answerOf, numberOfAnswer, lineOfAnswer, segmentsOfAnswer, numberIn, lineIn, segmentsIn, written, segmentRoom, Done, transparent, whenRead, nameOf}
 use Rattle.ggr.specs.Steps.{Filled}
 
 -- ---- the order of the refusals
@@ -40,7 +40,7 @@ module _ (room : ℕ) (fg bg : Rgba) (s : List ℕ) where
   unfolding fileOf
   file-text e f g = rw (e, f, g)
 
-pub filled-as : (o o' : Outcome) (store : Change Store) (r : Answer) → o ≡ o' → Filled o' store r → Filled o store r
+pub filled-as : (o o' : FileRead) (store : Change Store) (r : Answer) → o ≡ o' → Filled o' store r → Filled o store r
 filled-as o o' store r e w = rw e w
 
 -- ---- where the header leads, read with the room that there is
@@ -61,13 +61,13 @@ pub lead-fits : {room : ℕ} {s : List ℕ} {r : Lead} → Leads room s r → (n
 unfolding leadFits
 lead-fits w n at e = rw e at (w .fits)
 
-pub room-fits : (n p c k : ℕ) → n ≤ roomOf p c k → (3 * n ≤ p) × (8 * n ≤ c) × (2 * n ≤ k)
-unfolding roomOf
+pub room-fits : (n p c k : ℕ) → n ≤ segmentRoom p c k → (3 * n ≤ p) × (8 * n ≤ c) × (2 * n ≤ k)
+unfolding segmentRoom
 room-fits n p c k h = omega arith
 
 -- ---- the end
 -- an answer's number, line and segments are those of what the file holds
-told : (o : Outcome) → (numberOfAnswer (answerOf o) ≡ numberIn o) × (lineOfAnswer (answerOf o) ≡ lineIn o) × (segmentsOfAnswer (answerOf o) ≡ segmentsIn o)
+told : (o : FileRead) → (numberOfAnswer (answerOf o) ≡ numberIn o) × (lineOfAnswer (answerOf o) ≡ lineIn o) × (segmentsOfAnswer (answerOf o) ≡ segmentsIn o)
 told (found gs) = (refl, refl, refl)
 told (refused a b) = (refl, refl, refl)
 
@@ -75,12 +75,12 @@ told (refused a b) = (refl, refl, refl)
 all-zero : {A : Type 0} (z : A) (l : List A) → sets l 0 (replicate (length l - 0) z) ≡ replicate (length l) z
 all-zero z l = ap (λ (n : ℕ). sets l 0 (replicate n z)) (sub-zero (length l)) ∙ sets-all l (replicate (length l) z) (length-replicate (length l) z)
 
-module _ (o : Outcome) (r : Answer) (store : Change Store) (w : Filled o store r) where
-  found-by : (o : Outcome) (n : ℕ) → r ≡ Read n → r ≡ answerOf o → (gs : List Segment) × (o ≡ found gs)
+module _ (o : FileRead) (r : Answer) (store : Change Store) (w : Filled o store r) where
+  found-by : (o : FileRead) (n : ℕ) → r ≡ Read n → r ≡ answerOf o → (gs : List Segment) × (o ≡ found gs)
   found-by (found gs) n e f = (gs, refl)
   found-by (refused a b) n e f = absurd (let z : _≡_ {A = ℕ} 0 1 = cc in omega arith)
 
-  refused-by : (o : Outcome) (a b : ℕ) → r ≡ Refused a b → r ≡ answerOf o → o ≡ refused a b
+  refused-by : (o : FileRead) (a b : ℕ) → r ≡ Refused a b → r ≡ answerOf o → o ≡ refused a b
   refused-by (found gs) a b e f = absurd (let z : _≡_ {A = ℕ} 0 1 = cc in omega arith)
   refused-by (refused x y) a b e f = cc
 
@@ -107,16 +107,16 @@ module _ (o : Outcome) (r : Answer) (store : Change Store) (w : Filled o store r
         let zp : p ≡ replicate (length (store .entry .positions)) f0 = ep ∙ all-zero f0 (store .exit .positions) ∙ ap (λ (n : ℕ). replicate n f0) lp in
         let zc : c ≡ replicate (length (store .entry .channels)) f0 = ec ∙ all-zero f0 (store .exit .channels) ∙ ap (λ (n : ℕ). replicate n f0) lc in
         let zk : k ≡ replicate (length (store .entry .codes)) 0 = ek ∙ ap (λ (n : ℕ). replicate n 0) lk in
-        done (storeOf p c k) (rw (zp, zc, zk) (ap (λ (x : Outcome). written x (store .entry)) (sym g)))
+        done (storeOf p c k) (rw (zp, zc, zk) (ap (λ (x : FileRead). written x (store .entry)) (sym g)))
 
 -- ---- the name
 module _ (s : List ℕ) (r : Answer) (e : r ≡ answerOf (fileOf mostSegments transparent transparent s)) where
-  is-found : (o : Outcome) (n : ℕ) → r ≡ Read n → r ≡ answerOf o → (x : List ℕ) → whenRead o x ≡ x
+  is-found : (o : FileRead) (n : ℕ) → r ≡ Read n → r ≡ answerOf o → (x : List ℕ) → whenRead o x ≡ x
   unfolding whenRead
   is-found (found gs) n f g x = refl
   is-found (refused a b) n f g x = absurd (let z : _≡_ {A = ℕ} 0 1 = cc in omega arith)
 
-  is-refused : (o : Outcome) (a b : ℕ) → r ≡ Refused a b → r ≡ answerOf o → (x : List ℕ) → whenRead o x ≡ []
+  is-refused : (o : FileRead) (a b : ℕ) → r ≡ Refused a b → r ≡ answerOf o → (x : List ℕ) → whenRead o x ≡ []
   unfolding whenRead
   is-refused (found gs) a b f g x = absurd (let z : _≡_ {A = ℕ} 0 1 = cc in omega arith)
   is-refused (refused c d) a b f g x = refl

@@ -1,5 +1,5 @@
 -- What a file that is read gives: 1 to 256 segments, for which every lent output has room, each of a kind carried, joined from 0 to 1. Assumes nothing.
-use Prim.Native.Nat.{ℕ, zero, suc, _*_, _≤_, _<_}
+use Prim.Native.Nat.{ℕ, zero, suc, _≤_, _<_}
 use native.Mathlib.Omega.{arith}
 use mathlib.Core.Path.{_≡_, refl, sym, ap, _∙_}
 use mathlib.Core.Bool.{Bool, true, false, cond, _&&_}
@@ -19,9 +19,8 @@ use Rattle.segment.proofs.Carried.{carriedOf, line-carried}
 use Rattle.header.specs.Head.{Head, counts, fails, headOf}
 use Rattle.header.proofs.Fits.{head-fits}
 use Rattle.ggr.specs.declared.Answer.the-variants.{Read}
-use Rattle.ggr.specs.File.{Outcome, found, refused, joins, weighed, before, addSegment, segments, fromHead, fitText, fileOf, answerOf, roomOf}
+use Rattle.ggr.specs.File.{FileRead, found, refused, joins, joinedTo, before, addSegment, segments, fromHead, fitText, fileOf, answerOf}
 use Rattle.ggr.proofs.Weighing.{weighs}
-use Rattle.ggr.proofs.Finish.{room-fits}
 
 -- each segment is of a kind carried
 unfoldable pub allCarried : List Segment → Bool
@@ -40,11 +39,11 @@ pub record Given (room : ℕ) (gs : List Segment) : Type 0 where
   pub kinds : allCarried gs ≡ true
   pub order : orderly f0 gs ≡ true
 
-no-file : {X : Type 0} {gs : List Segment} {o : Outcome} {a b : ℕ} → o ≡ found gs → o ≡ refused a b → X
+no-file : {X : Type 0} {gs : List Segment} {o : FileRead} {a b : ℕ} → o ≡ found gs → o ≡ refused a b → X
 no-file e f = absurd (let z : _≡_ {A = ℕ} 0 1 = cc in omega arith)
 
 -- a test that leads on, or to a refusal
-passed-test : (t : Bool) (o : Outcome) (a b : ℕ) (gs : List Segment) → cond t o (refused a b) ≡ found gs → (t ≡ true) × (o ≡ found gs)
+passed-test : (t : Bool) (o : FileRead) (a b : ℕ) (gs : List Segment) → cond t o (refused a b) ≡ found gs → (t ≡ true) × (o ≡ found gs)
 passed-test true o a b gs e = (refl, e)
 passed-test false o a b gs e = no-file e refl
 
@@ -55,7 +54,7 @@ record Run (end : Float) (n : ℕ) (gs : List Segment) : Type 0 where
   kinds : allCarried gs ≡ true
   order : orderly end gs ≡ true
 
-ahead : (end : Float) (n : ℕ) (g : Segment) (o : Outcome) → carriedOf g ≡ true → joins end g ≡ true
+ahead : (end : Float) (n : ℕ) (g : Segment) (o : FileRead) → carriedOf g ≡ true → joins end g ≡ true
     → ((hs : List Segment) → o ≡ found hs → Run (g .right) n hs) → (gs : List Segment) → before g o ≡ found gs → Run end (suc n) gs
 unfolding before allCarried orderly
 ahead end n g (found hs) c j ih gs e =
@@ -68,9 +67,9 @@ ahead end n g (found hs) c j ih gs e =
     }
 ahead end n g (refused a b) c j ih gs e = no-file e refl
 
-module _ (end : Float) (n line : ℕ) (l : SegmentRead) (rest : Segment → Outcome) (c : (g : Segment) → l ≡ Valid g → carriedOf g ≡ true)
+module _ (end : Float) (n line : ℕ) (l : SegmentRead) (rest : Segment → FileRead) (c : (g : Segment) → l ≡ Valid g → carriedOf g ≡ true)
     (ih : (g : Segment) (hs : List Segment) → rest g ≡ found hs → Run (g .right) n hs) where
-  added : (r : SegmentRead) → r ≡ weighed end l → (gs : List Segment) → addSegment line r rest ≡ found gs → Run end (suc n) gs
+  added : (r : SegmentRead) → r ≡ joinedTo end l → (gs : List Segment) → addSegment line r rest ≡ found gs → Run end (suc n) gs
   unfolding addSegment
   added (Valid g) q gs e = let w = weighs end l g (sym q) in ahead end n g (rest g) (c g (w .0)) (w .1) (ih g) gs e
   added (Fault a) q gs e = no-file e refl
@@ -84,7 +83,7 @@ all-read fg bg zero line end ls gs e =
 all-read fg bg (suc n) line end [] gs e = no-file e refl
 all-read fg bg (suc n) line end (l ∷ ls) gs e =
     added end n line (segmentOf fg bg l) (λ g. segments fg bg n (suc line) (g .right) ls) (line-carried fg bg l)
-    (λ g. all-read fg bg n (suc line) (g .right) ls) (weighed end (segmentOf fg bg l)) refl gs e
+    (λ g. all-read fg bg n (suc line) (g .right) ls) (joinedTo end (segmentOf fg bg l)) refl gs e
 
 -- ---- the header
 from-head : (fg bg : Rgba) (room : ℕ) (s : List ℕ) (h : Head) → headOf room s ≡ h → (gs : List Segment) → fromHead fg bg h ≡ found gs → Given room gs
@@ -102,16 +101,6 @@ given fg bg room s gs e =
     let w = passed-test (finiteRgba fg && finiteRgba bg) (cond (fitText s) (fromHead fg bg (headOf room s)) (refused notAText 0)) _ _ gs e in
     from-head fg bg room s (headOf room s) refl gs (passed-test (fitText s) (fromHead fg bg (headOf room s)) _ _ gs (w .1) .1)
 
-pub found-by : (o : Outcome) (n : ℕ) → Read n ≡ answerOf o → (gs : List Segment) × (o ≡ found gs) × (length gs ≡ n)
+pub found-by : (o : FileRead) (n : ℕ) → Read n ≡ answerOf o → (gs : List Segment) × (o ≡ found gs) × (length gs ≡ n)
 found-by (found gs) n e = (gs, refl, cc)
 found-by (refused a b) n e = absurd (let z : _≡_ {A = ℕ} 0 1 = cc in omega arith)
-
--- a caller's parts of its outputs: after the answer `Read n` they hold n segments
-pub read-fits : (fg bg : Rgba) (p c k : ℕ) (s : List ℕ) (n : ℕ) → Read n ≡ answerOf (fileOf (roomOf p c k) fg bg s)
-    → (0 < n) × (n ≤ mostSegments) × (3 * n ≤ p) × (8 * n ≤ c) × (2 * n ≤ k)
-read-fits fg bg p c k s n e =
-    let f = found-by (fileOf (roomOf p c k) fg bg s) n e in
-    let w = given fg bg (roomOf p c k) s (f .0) (f .1) in
-    let q : n ≤ roomOf p c k = omega (arith, f .2, w .fits) in
-    let r = room-fits n p c k q in
-    (omega (arith, f .2, w .some), omega (arith, f .2, w .most), r .0, r .1, r .2)

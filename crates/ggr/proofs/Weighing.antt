@@ -9,7 +9,7 @@ use Rattle.refusals.specs.Refusals.{torn}
 use Rattle.gradient.specs.declared.gimp.Segment.{Segment}
 use Rattle.segment.specs.declared.SegmentRead.{SegmentRead}
 use Rattle.segment.specs.declared.SegmentRead.the-variants.{Valid, Fault}
-use Rattle.ggr.specs.File.{joins, weighed}
+use Rattle.ggr.specs.File.{joins, joinedTo}
 
 -- ---- the tests
 module _ (end : Float) (g : Segment) where
@@ -30,21 +30,21 @@ module _ (end : Float) (g : Segment) where
 
 -- ---- the line
 module _ (end : Float) (o : SegmentRead) where
-  pub as-read : (g : Segment) → o ≡ Valid g → joins end g ≡ true → Valid g ≡ weighed end o
-  unfolding weighed
+  pub as-read : (g : Segment) → o ≡ Valid g → joins end g ≡ true → Valid g ≡ joinedTo end o
+  unfolding joinedTo
   as-read g e h = rw (e, h)
 
-  pub gone : (g : Segment) → o ≡ Valid g → joins end g ≡ false → Fault torn ≡ weighed end o
-  unfolding weighed
+  pub gone : (g : Segment) → o ≡ Valid g → joins end g ≡ false → Fault torn ≡ joinedTo end o
+  unfolding joinedTo
   gone g e h = rw (e, h)
 
-  pub as-faulty : (number : ℕ) → o ≡ Fault number → o ≡ weighed end o
-  unfolding weighed
+  pub as-faulty : (number : ℕ) → o ≡ Fault number → o ≡ joinedTo end o
+  unfolding joinedTo
   as-faulty number e = rw e
 
 -- a line that is not torn holds the segment that was read, and it joins
-pub weighs : (end : Float) (l : SegmentRead) (g : Segment) → weighed end l ≡ Valid g → (l ≡ Valid g) × (joins end g ≡ true)
-unfolding weighed
+pub weighs : (end : Float) (l : SegmentRead) (g : Segment) → joinedTo end l ≡ Valid g → (l ≡ Valid g) × (joins end g ≡ true)
+unfolding joinedTo
 weighs end (Fault a) g e = absurd (let z : _≡_ {A = ℕ} 0 1 = cc in omega arith)
 weighs end (Valid h) g e = go (joins end h) refl e where
   go : (b : Bool) → joins end h ≡ b → cond b (Valid h) (Fault torn) ≡ Valid g → (Valid h ≡ Valid g) × (joins end g ≡ true)

@@ -23,9 +23,9 @@ use Rattle.ggr.specs.declared.Answer.{Answer}
 use Rattle.ggr.specs.declared.Answer.the-variants.{Read, Refused}
 
 -- ---- what a file holds, or the number of a refusal and its line, 0 if none
-pub data Outcome : Type 0 where
-  found : List Segment → Outcome
-  refused : ℕ → ℕ → Outcome
+pub data FileRead : Type 0 where
+  found : List Segment → FileRead
+  refused : ℕ → ℕ → FileRead
 
 -- ---- the segment lines: line by line 12, 16, 18; then 13; then the last end 18
 
@@ -34,29 +34,29 @@ unfoldable pub joins : Float → Segment → Bool
 joins end g = eq (g .left) end && (le (g .left) (g .middle) && le (g .middle) (g .right))
 
 -- a line is torn where it holds a segment that does not join what ends at `end`
-unfoldable pub weighed : Float → SegmentRead → SegmentRead
-weighed end (Valid g) = cond (joins end g) (Valid g) (Fault torn)
-weighed end (Fault number) = Fault number
+unfoldable pub joinedTo : Float → SegmentRead → SegmentRead
+joinedTo end (Valid g) = cond (joins end g) (Valid g) (Fault torn)
+joinedTo end (Fault number) = Fault number
 
 -- a segment, and what follows it
-unfoldable pub before : Segment → Outcome → Outcome
+unfoldable pub before : Segment → FileRead → FileRead
 before g (found gs) = found (g ∷ gs)
 before g (refused number line) = refused number line
 
 -- what a line holds, and what follows its segment
-unfoldable pub addSegment : ℕ → SegmentRead → (Segment → Outcome) → Outcome
+unfoldable pub addSegment : ℕ → SegmentRead → (Segment → FileRead) → FileRead
 addSegment line (Valid g) rest = before g (rest g)
 addSegment line (Fault number) rest = refused number line
 
 -- the next n segments, the first of them at this line, where the one before ends at `end`; what follows is not read
-unfoldable pub segments : Rgba → Rgba → ℕ → ℕ → Float → List (List ℕ) → Outcome
+unfoldable pub segments : Rgba → Rgba → ℕ → ℕ → Float → List (List ℕ) → FileRead
 segments fg bg zero line end ls = cond (eq end f1) (found []) (refused torn (line - 1))
 segments fg bg (suc n) line end [] = refused fewLines 3
 segments fg bg (suc n) line end (l ∷ ls) =
-    addSegment line (weighed end (segmentOf fg bg l)) (λ g. segments fg bg n (suc line) (g .right) ls)
+    addSegment line (joinedTo end (segmentOf fg bg l)) (λ g. segments fg bg n (suc line) (g .right) ls)
 
 -- the segments that the header counts, from line 4 and from 0 on
-unfoldable pub fromHead : Rgba → Rgba → Head → Outcome
+unfoldable pub fromHead : Rgba → Rgba → Head → FileRead
 fromHead fg bg (counts n ls) = segments fg bg n 4 f0 ls
 fromHead fg bg (fails number line) = refused number line
 
@@ -66,7 +66,7 @@ fromHead fg bg (fails number line) = refused number line
 unfoldable pub fitText : List ℕ → Bool
 fitText s = leb (length s) mostText && every ascii (unmark s)
 
-unfoldable pub fileOf : ℕ → Rgba → Rgba → List ℕ → Outcome
+unfoldable pub fileOf : ℕ → Rgba → Rgba → List ℕ → FileRead
 fileOf room fg bg s =
     cond (finiteRgba fg && finiteRgba bg)
     (cond (fitText s) (fromHead fg bg (headOf room s)) (refused notAText 0))
@@ -75,7 +75,7 @@ fileOf room fg bg s =
 -- ---- what is answered and written
 
 -- each case of the answer: how many segments, or document 01's number and line
-abbrev pub answerOf : Outcome → Answer
+abbrev pub answerOf : FileRead → Answer
 answerOf (found gs) = Read (length gs)
 answerOf (refused number line) = Refused number line
 
@@ -93,15 +93,15 @@ segmentsOfAnswer (Read n) = n
 segmentsOfAnswer (Refused number line) = 0
 
 -- and the same of what a file holds
-abbrev pub numberIn : Outcome → ℕ
+abbrev pub numberIn : FileRead → ℕ
 numberIn (found gs) = 0
 numberIn (refused number line) = number
 
-abbrev pub lineIn : Outcome → ℕ
+abbrev pub lineIn : FileRead → ℕ
 lineIn (found gs) = 0
 lineIn (refused number line) = line
 
-abbrev pub segmentsIn : Outcome → ℕ
+abbrev pub segmentsIn : FileRead → ℕ
 segmentsIn (found gs) = length gs
 segmentsIn (refused number line) = 0
 
@@ -115,19 +115,19 @@ abbrev pub atFront {ℓ} : {A : Type ℓ} → (Segment → List A) → List Segm
 atFront f gs old = flat f gs ++ drop (length (flat f gs)) old
 
 -- what reading leaves in its outputs: the segments of the file at the front. A refusal sets the whole lent output to zero.
-unfoldable pub written : Outcome → Store → Store
+unfoldable pub written : FileRead → Store → Store
 written (found gs) s = storeOf (atFront segmentPositions gs (s .positions)) (atFront segmentChannels gs (s .channels)) (atFront segmentCodes gs (s .codes))
 written (refused number line) s = storeOf (replicate (length (s .positions)) f0) (replicate (length (s .channels)) f0) (replicate (length (s .codes)) 0)
 
 -- room is the whole items that every lent output holds
-unfoldable pub roomOf : ℕ → ℕ → ℕ → ℕ
-roomOf p c k = min (p / 3) (min (c / 8) (k / 2))
+unfoldable pub segmentRoom : ℕ → ℕ → ℕ → ℕ
+segmentRoom p c k = min (p / 3) (min (c / 8) (k / 2))
 
 abbrev pub roomIn : Store → ℕ
-roomIn s = roomOf (length (s .positions)) (length (s .channels)) (length (s .codes))
+roomIn s = segmentRoom (length (s .positions)) (length (s .channels)) (length (s .codes))
 
 -- the answer, and the final contents of every lent output
-pub record Done (o : Outcome) (store : Change Store) (r : Answer) : Type 0 where
+pub record Done (o : FileRead) (store : Change Store) (r : Answer) : Type 0 where
   pub answer : r ≡ answerOf o
   pub number : numberOfAnswer r ≡ numberIn o
   pub line : lineOfAnswer r ≡ lineIn o
@@ -143,7 +143,7 @@ Reading fg bg s store r = Done (fileOf (roomIn (store .entry)) fg bg s) store r
 abbrev pub transparent : Rgba
 transparent = record { r = f0; g = f0; b = f0; a = f0 }
 
-unfoldable pub whenRead : Outcome → List ℕ → List ℕ
+unfoldable pub whenRead : FileRead → List ℕ → List ℕ
 whenRead (found gs) n = n
 whenRead (refused number line) n = []
 

@@ -14,10 +14,10 @@ use Rattle.text.specs.Text.{lines}
 use Rattle.segment.specs.Store.{Store}
 use Rattle.ggr.specs.declared.Answer.{Answer}
 use Rattle.ggr.specs.declared.Answer.the-variants.{Read, Refused}
-use Rattle.ggr.specs.File.{Outcome, found, segments, fileOf, answerOf, written, roomIn}
+use Rattle.ggr.specs.File.{FileRead, found, segments, fileOf, answerOf, written, roomIn}
 
 -- the answer is right, and so are the outputs where it is no refusal
-pub record Filled (o : Outcome) (store : Change Store) (r : Answer) : Type 0 where
+pub record Filled (o : FileRead) (store : Change Store) (r : Answer) : Type 0 where
   pub answer : r ≡ answerOf o
   pub left : (gs : List Segment) → o ≡ found gs → store .exit ≡ written o (store .entry)
 

@@ -19,7 +19,7 @@ ghost use Prim.Native.Nat.{_*_, _≤_};
 ghost use lib.ListN.{length};
 ghost use Rattle.refusals.specs.Limits.{mostSegments};
 ghost use Rattle.segment.specs.Store.{lentStore};
-ghost use Rattle.ggr.specs.File.{fitText, joins, roomOf, weighed};
+ghost use Rattle.ggr.specs.File.{fitText, joins, segmentRoom, joinedTo};
 ghost use Rattle.ggr.specs.Steps.{Fills, ReadsInto, closedBy};
 
 fn is_fit_text(s: &[u8]) -> bool
@@ -33,7 +33,7 @@ fn is_fit_text(s: &[u8]) -> bool
 }
 
 fn room_of(p: usize, c: usize, k: usize) -> usize
-    ensures { λ r. ⌜ r ≡ roomOf p c k ⌝ }
+    ensures { λ r. ⌜ r ≡ segmentRoom p c k ⌝ }
 {
     let mut n = p / 3;
     if c / 8 < n {
@@ -60,7 +60,7 @@ fn joins_on(end: f32, g: Segment) -> bool
 
 // What a line holds, where the segment before it ends at `end`.
 fn weigh(end: f32, o: SegmentRead) -> SegmentRead
-    ensures { λ r. ⌜ r ≡ weighed end o ⌝ }
+    ensures { λ r. ⌜ r ≡ joinedTo end o ⌝ }
 {
     match o {
         SegmentRead::Fault(_) => o,

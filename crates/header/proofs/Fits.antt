@@ -11,7 +11,7 @@ use Rattle.float.proofs.Flags.{both-l, both-r}
 use Rattle.rows.specs.declared.digits.Digits.{Digits}
 use Rattle.rows.specs.declared.digits.Digits.the-variants.{Bad, Is}
 use Rattle.text.specs.Text.{same, starts}
-use Rattle.header.specs.Head.{textLines, countOf, Head, counts, fails, fromCount, counted, fromThird, fromSecond, fromLines, headOf, title, nameTag}
+use Rattle.header.specs.Head.{textLines, segmentCount, Head, counts, fails, fromCount, counted, fromThird, fromSecond, fromLines, headOf, title, nameTag}
 
 -- how many, of a head that counts
 abbrev Few : ℕ → ℕ → Type 0
@@ -42,7 +42,7 @@ module _ {room n : ℕ} {rest : List (List ℕ)} where
   third-fits : (ls : List (List ℕ)) → fromThird room ls ≡ counts n rest → Few room n
   unfolding fromThird
   third-fits [] e = no-head e refl
-  third-fits (l ∷ ls) e = counted-fits (countOf l) ls e
+  third-fits (l ∷ ls) e = counted-fits (segmentCount l) ls e
 
   second-fits : (ls : List (List ℕ)) → fromSecond room ls ≡ counts n rest → Few room n
   unfolding fromSecond

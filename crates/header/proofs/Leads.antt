@@ -15,7 +15,7 @@ use Rattle.text.specs.Places.{LineAt}
 use Rattle.text.proofs.Lines.{no-lines, some-lines}
 use Rattle.header.specs.declared.Lead.{Lead}
 use Rattle.header.specs.declared.Lead.the-variants.{Counted, Refuse}
-use Rattle.header.specs.Head.{orEmpty, textLines, countOf, Head, counts, fails, fromCount, counted, fromThird, fromSecond, fromLines, title, nameTag}
+use Rattle.header.specs.Head.{orEmpty, textLines, segmentCount, Head, counts, fails, fromCount, counted, fromThird, fromSecond, fromLines, title, nameTag}
 use Rattle.header.specs.Leads.{nextAt, leadOf, headBy, leadFits, LeadsTo, Leads}
 use Rattle.header.specs.Steps.{SecondLeads, ThirdLeads}
 
@@ -44,10 +44,10 @@ module _ (s : List ℕ) (at room : ℕ) where
   unfolding fromThird
   third-end h = refuses room _ s _ noSegment 4 (ap (fromThird room) (no-lines s at h))
 
-  module _ (h : at < length s) (end next : ℕ) (w : LineAt s at end next) (k : Digits) (q : k ≡ countOf (take (end - at) (drop at s))) where
+  module _ (h : at < length s) (end next : ℕ) (w : LineAt s at end next) (k : Digits) (q : k ≡ segmentCount (take (end - at) (drop at s))) where
     by : fromThird room (lines (drop at s)) ≡ counted room k (restOf (lines (drop at s)))
     unfolding fromThird
-    by = ap (fromThird room) (some-lines s at h) ∙ ap (λ (c : Digits). counted room c (restOf (lines (drop at s)))) (sym (q ∙ ap countOf (w .first)))
+    by = ap (fromThird room) (some-lines s at h) ∙ ap (λ (c : Digits). counted room c (restOf (lines (drop at s)))) (sym (q ∙ ap segmentCount (w .first)))
 
     pub third-bad : k ≡ Bad → ThirdLeads room s at (Refuse badHeader 3)
     unfolding counted

@@ -29,8 +29,8 @@ pub data Head : Type 0 where
   fails : ℕ → ℕ → Head
 
 -- the count of line 3: digits, before which one plus may stand, up to 2^64 - 1
-abbrev pub countOf : List ℕ → Digits
-countOf l = digitsWith true l
+abbrev pub segmentCount : List ℕ → Digits
+segmentCount l = digitsWith true l
 
 -- count 0 is no segment
 unfoldable pub fromCount : ℕ → List (List ℕ) → Head
@@ -44,7 +44,7 @@ counted room (Is n) ls = cond (leb n mostSegments && leb n room) (fromCount n ls
 -- line 3 is the segment count
 unfoldable pub fromThird : ℕ → List (List ℕ) → Head
 fromThird room [] = fails noSegment 4
-fromThird room (l ∷ ls) = counted room (countOf l) ls
+fromThird room (l ∷ ls) = counted room (segmentCount l) ls
 
 -- `Name:`
 abbrev pub nameTag : List ℕ

@@ -11,14 +11,14 @@ use lib.ListN.{length, take, drop, getD, length-append, length-drop, List·getD-
 use lib.Seq.{length-take-le, getD-append-add, getD-take, getD-drop, drop-cons, take-length}
 use lib.Ieee.{Float, nan}
 use Rattle.sampling.specs.Cells.{joined, summed}
-use Rattle.linearize.specs.Places.{rowPoints, listOf, firstPlace, nextPlace, pointAt, follow, pointsBefore, Within}
+use Rattle.linearize.specs.Places.{rowPoints, listOf, firstPlace, nextPlace, pointAt, follow, pointsBefore, InRecord}
 use Rattle.linearize.specs.Inner.{Ready}
-use Rattle.linearize.specs.declared.Place.{Place}
+use Rattle.linearize.specs.declared.RowPlace.{RowPlace}
 use Rattle.sampling.proofs.Joined.{length-summed, summed-mono, item}
 
 -- ---- the next place
 
-module _ (counts : List ℕ) (p : Place) where
+module _ (counts : List ℕ) (p : RowPlace) where
   pub same-row : p .index + 1 < getD counts (p .row) 0 → record { row = p .row; index = p .index + 1 } ≡ nextPlace counts p
   unfolding nextPlace
   same-row h = simp (lt-ltb (p .index + 1) (getD counts (p .row) 0) h)
@@ -27,11 +27,11 @@ module _ (counts : List ℕ) (p : Place) where
   unfolding nextPlace
   next-row h = simp (le-ltb (p .index + 1) (getD counts (p .row) 0) h)
 
-pub point-in : (rows : List Float) (max : Float) (p : Place) → p .row < 36 → getD rows (p .row * 128 + p .index) nan ≡ pointAt rows max p
+pub point-in : (rows : List Float) (max : Float) (p : RowPlace) → p .row < 36 → getD rows (p .row * 128 + p .index) nan ≡ pointAt rows max p
 unfolding pointAt
 point-in rows max p h = simp (lt-ltb (p .row) 36 h)
 
-pub point-end : (rows : List Float) (max : Float) (p : Place) → 36 ≤ p .row → max ≡ pointAt rows max p
+pub point-end : (rows : List Float) (max : Float) (p : RowPlace) → 36 ≤ p .row → max ≡ pointAt rows max p
 unfolding pointAt
 point-end rows max p h = simp (le-ltb (p .row) 36 h)
 
@@ -62,21 +62,21 @@ module _ (rows : List Float) (counts : List ℕ) (max : Float) (ok : Ready rows 
   pub list-most : length (listOf rows counts max) ≤ 4609
   list-most = omega (arith, list-length, summed-bounds 36 (omega arith))
 
-  pub first-within : Within counts firstPlace
+  pub first-within : InRecord counts firstPlace
   first-within = record { in-row = λ h. omega (arith, ok .some 0 h); in-end = λ h. absurd (h (omega arith)) }
 
   pub first-before : pointsBefore counts firstPlace ≡ 0
   unfolding pointsBefore summed
   first-before = refl
 
-  pub within-index : (p : Place) → Within counts p → p .index < 128
+  pub within-index : (p : RowPlace) → InRecord counts p → p .index < 128
   within-index p w = by (ltb (p .row) 36) refl
     where
       by : (b : Bool) → ltb (p .row) 36 ≡ b → p .index < 128
       by true e = let h = ltb-true (p .row) 36 e in omega (arith, w .in-row h, ok .most (p .row) h)
       by false e = let h = ltb-false (p .row) 36 e in omega (arith, w .in-end (λ k. absurd (omega arith)))
 
-  module _ (p : Place) (w : Within counts p) where
+  module _ (p : RowPlace) (w : InRecord counts p) where
     in-rows : p .row < 36 → getD (listOf rows counts max) (pointsBefore counts p) nan ≡ pointAt rows max p
     unfolding listOf pointsBefore
     in-rows h =
@@ -116,10 +116,10 @@ module _ (rows : List Float) (counts : List ℕ) (max : Float) (ok : Ready rows 
               let f = ltb-false (p .index + 1) (countAt (p .row)) e in
               rw (← next-row counts p f, add-one) (omega (arith, w .in-row h))
 
-      pub next-within : Within counts (nextPlace counts p)
+      pub next-within : InRecord counts (nextPlace counts p)
       next-within = by (ltb (p .index + 1) (countAt (p .row))) refl
         where
-          by : (b : Bool) → ltb (p .index + 1) (countAt (p .row)) ≡ b → Within counts (nextPlace counts p)
+          by : (b : Bool) → ltb (p .index + 1) (countAt (p .row)) ≡ b → InRecord counts (nextPlace counts p)
           by true e =
               let f = ltb-true (p .index + 1) (countAt (p .row)) e in
               rw (← same-row counts p f) (record { in-row = λ k. f; in-end = λ k. absurd (k h) })
@@ -136,7 +136,7 @@ module _ (rows : List Float) (counts : List ℕ) (max : Float) (ok : Ready rows 
     before-end h = let e = w .in-end h in rw (e .0, e .1) (list-length ∙ omega arith)
 
   -- the place after the first
-  pub second-within : Within counts (nextPlace counts firstPlace)
+  pub second-within : InRecord counts (nextPlace counts firstPlace)
   second-within = next-within firstPlace first-within (omega arith)
 
   pub second-before : pointsBefore counts (nextPlace counts firstPlace) ≡ 1
@@ -150,7 +150,7 @@ module _ (rows : List Float) (counts : List ℕ) (max : Float) (ok : Ready rows 
       drop-cons (listOf rows counts max) 0 nan (omega (arith, list-some)) ∙ rw (h, ← e)
 
   -- n points from a place on are the list's
-  pub followed : (n : ℕ) (p : Place) → Within counts p → pointsBefore counts p + n ≤ length (listOf rows counts max)
+  pub followed : (n : ℕ) (p : RowPlace) → InRecord counts p → pointsBefore counts p + n ≤ length (listOf rows counts max)
       → follow rows counts max n p ≡ take n (drop (pointsBefore counts p) (listOf rows counts max))
   unfolding follow
   followed zero p w h = refl

@@ -8,19 +8,19 @@ use lib.ListN.{length, drop, drop-of-length-le}
 use lib.Seq.{drop-cons}
 use lib.Ieee.{Float, nan}
 use Rattle.sampling.specs.Midpoints.{Gradient, Far}
-use Rattle.linearize.specs.Places.{listOf, firstPlace, nextPlace, pointAt, pointsBefore, Within}
+use Rattle.linearize.specs.Places.{listOf, firstPlace, nextPlace, pointAt, pointsBefore, InRecord}
 use Rattle.thinning.specs.Walk.{Run, run, emitRun, stepRun, Outcome, outcome}
 use Rattle.sampling.specs.Inner.{Coloured}
 use Rattle.linearize.specs.Inner.{Ready, Started, Thinned}
-use Rattle.linearize.specs.declared.Place.{Place}
+use Rattle.linearize.specs.declared.RowPlace.{RowPlace}
 use Rattle.sampling.specs.declared.Point.{Point}
 use Rattle.thinning.specs.declared.Progress.{Progress}
 use Rattle.linearize.proofs.Following.{second-within, second-before, list-most, point-is, before-next, next-within, more-follow, before-end}
 use Rattle.thinning.proofs.Walks.{Emitted, emitted-as, Stepped, stepped, last-stop}
 
 module _ (g : Gradient) (far : Far) (room : ℕ) (rows : List Float) (counts : List ℕ) (max : Float) (r₀ : Run) where
-  pub record Going (ps cs : List Float) (s : Progress) (p : Place) (x : Point) : Type 0 where
-    pub within : Within counts p
+  pub record Going (ps cs : List Float) (s : Progress) (p : RowPlace) (x : Point) : Type 0 where
+    pub within : InRecord counts p
     pub point : x .t ≡ pointAt rows max p
     pub coloured : Coloured g x
     pub kept : Coloured g (s .last)
@@ -35,7 +35,7 @@ module _ (g : Gradient) (far : Far) (room : ℕ) (rows : List Float) (counts : L
   abbrev ts : List Float
   ts = listOf rows counts max
 
-  pub started : (s : Progress) (ps cs : List Float) (p : Place) (x : Point) → Started g room s → p ≡ nextPlace counts firstPlace → x .t ≡ pointAt rows max p → Coloured g x
+  pub started : (s : Progress) (ps cs : List Float) (p : RowPlace) (x : Point) → Started g room s → p ≡ nextPlace counts firstPlace → x .t ≡ pointAt rows max p → Coloured g x
       → Going g far room rows counts max (run s ps cs) ps cs s p x
   started s ps cs p x w e h k =
       let b : pointsBefore counts p ≡ 1 = rw e (second-before rows counts max ok) in
@@ -53,10 +53,10 @@ module _ (g : Gradient) (far : Far) (room : ℕ) (rows : List Float) (counts : L
       }
 
   -- a point is weighed, and the next one comes after it
-  module _ (r₀ : Run) (ps cs : List Float) (s : Progress) (p : Place) (x : Point) (w : Going g far room rows counts max r₀ ps cs s p x) (lt : p .row < 36)
-      (q : Place) (y : Point) (eq : q ≡ nextPlace counts p) (at : y .t ≡ pointAt rows max q) (cy : Coloured g y)
+  module _ (r₀ : Run) (ps cs : List Float) (s : Progress) (p : RowPlace) (x : Point) (w : Going g far room rows counts max r₀ ps cs s p x) (lt : p .row < 36)
+      (q : RowPlace) (y : Point) (eq : q ≡ nextPlace counts p) (at : y .t ≡ pointAt rows max q) (cy : Coloured g y)
       (ps′ cs′ : List Float) (s′ : Progress) (e : run s′ ps′ cs′ ≡ stepRun far room (run s ps cs) x y) where
-    next-in : Within counts q
+    next-in : InRecord counts q
     next-in = rw eq (next-within rows counts max ok p (w .within) lt)
 
     next-before : pointsBefore counts q ≡ pointsBefore counts p + 1
@@ -104,7 +104,7 @@ module _ (g : Gradient) (far : Far) (room : ℕ) (rows : List Float) (counts : L
         }
 
   -- the last point is a stop
-  pub ended : (r₀ : Run) (ps cs : List Float) (s : Progress) (p : Place) (x : Point) → Going g far room rows counts max r₀ ps cs s p x → (p .row < 36 → ⊥)
+  pub ended : (r₀ : Run) (ps cs : List Float) (s : Progress) (p : RowPlace) (x : Point) → Going g far room rows counts max r₀ ps cs s p x → (p .row < 36 → ⊥)
       → (ps′ cs′ : List Float) (s′ : Progress) → run s′ ps′ cs′ ≡ emitRun room (run s ps cs) x
       → Thinned (outcome g far room r₀ (drop 1 ts)) room (run s′ ps′ cs′)
   ended r₀ ps cs s p x w ge ps′ cs′ s′ e =

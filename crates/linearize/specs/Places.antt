@@ -8,7 +8,7 @@ use lib.ListN.{take, drop, getD}
 use lib.Ieee.{Float, nan}
 use Rattle.sampling.specs.Constants.{cells, rowLength}
 use Rattle.sampling.specs.Cells.{joined, summed}
-use Rattle.linearize.specs.declared.Place.{Place}
+use Rattle.linearize.specs.declared.RowPlace.{RowPlace}
 
 -- row i's points
 abbrev pub rowPoints : List Float → List ℕ → ℕ → List Float
@@ -19,29 +19,29 @@ unfoldable pub listOf : List Float → List ℕ → Float → List Float
 listOf rows counts max = joined (rowPoints rows counts) cells ++ max ∷ []
 
 -- the first place, and the next: in the same row, or at the start of the row after it; max stands at the start of row 36
-abbrev pub firstPlace : Place
+abbrev pub firstPlace : RowPlace
 firstPlace = record { row = 0; index = 0 }
 
-unfoldable pub nextPlace : List ℕ → Place → Place
+unfoldable pub nextPlace : List ℕ → RowPlace → RowPlace
 nextPlace counts p =
     cond (ltb (p .index + 1) (getD counts (p .row) 0))
     (record { row = p .row; index = p .index + 1 })
     (record { row = p .row + 1; index = 0 })
 
 -- the point at a place
-unfoldable pub pointAt : List Float → Float → Place → Float
+unfoldable pub pointAt : List Float → Float → RowPlace → Float
 pointAt rows max p = cond (ltb (p .row) cells) (getD rows (p .row * rowLength + p .index) nan) max
 
 -- n points from a place on
-unfoldable pub follow : List Float → List ℕ → Float → ℕ → Place → List Float
+unfoldable pub follow : List Float → List ℕ → Float → ℕ → RowPlace → List Float
 follow rows counts max zero p = []
 follow rows counts max (suc n) p = pointAt rows max p ∷ follow rows counts max n (nextPlace counts p)
 
 -- how many points stand before a place
-unfoldable pub pointsBefore : List ℕ → Place → ℕ
+unfoldable pub pointsBefore : List ℕ → RowPlace → ℕ
 pointsBefore counts p = summed (λ i. getD counts i 0) (p .row) + p .index
 
 -- a place of the record: of a row's points, or max
-pub record Within (counts : List ℕ) (p : Place) : Type 0 where
+pub record InRecord (counts : List ℕ) (p : RowPlace) : Type 0 where
   pub in-row : p .row < cells → p .index < getD counts (p .row) 0
   pub in-end : (p .row < cells → ⊥) → (p .row ≡ cells) × (p .index ≡ 0)

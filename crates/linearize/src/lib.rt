@@ -30,7 +30,7 @@ pub enum Listed {
 }
 
 // A place in a record: a row and an index in it. Max stands at the start of the row after the last.
-pub(crate) struct Place {
+pub(crate) struct RowPlace {
     pub(crate) row: usize,
     pub(crate) index: usize,
 }

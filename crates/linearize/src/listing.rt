@@ -1,6 +1,6 @@
 // Thinning: the points of a record one after the other, each kept or not, and the stops written out.
 use crate::Listed;
-use crate::Place;
+use crate::RowPlace;
 use sampling::Sampler;
 use sampling::cells::evaluate;
 use sampling::segments;
@@ -24,22 +24,22 @@ ghost use Rattle.linearize.specs.Inner.{Ready, Started, points, MakesLis
 ghost use Rattle.linearize.specs.Lent.{lentOutput};
 ghost use Rattle.stops.specs.Lent.{rampIn, lentRamp, old, new};
 
-fn next_place(counts: &[u8], place: Place) -> Place
+fn next_place(counts: &[u8], place: RowPlace) -> RowPlace
     requires { ⌜ (length (now counts) ≡ cells) × ((place .row < cells) × (place .index < rowLength)) ⌝ }
     ensures { λ r. ⌜ r ≡ nextPlace (old counts) place ⌝ }
 {
     let row = place.row;
     let index = place.index + 1;
     if index < counts[row] as usize {
-        return Place { row, index };
+        return RowPlace { row, index };
     }
-    Place {
+    RowPlace {
         row: row + 1,
         index: 0,
     }
 }
 
-fn point_at(rows: &[f32], max: f32, place: Place) -> f32
+fn point_at(rows: &[f32], max: f32, place: RowPlace) -> f32
     requires { ⌜ (length (now rows) ≡ recordLength) × (place .index < rowLength) ⌝ }
     ensures { λ r. ⌜ r ≡ pointAt (old rows) max place ⌝ }
 {
@@ -72,7 +72,7 @@ fn thin_points(
     ensures { λ r. ⌜ ThinsRest (lentRamp kind positions channels codes) cutoff room (points rows counts max) start (lentOutput «out_positions» «out_channels») r ⌝ }
 {
     let mut s = start;
-    let mut place = next_place(counts, Place { row: 0, index: 0 });
+    let mut place = next_place(counts, RowPlace { row: 0, index: 0 });
     let mut x = evaluate(
         kind,
         positions,

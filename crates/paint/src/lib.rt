@@ -41,8 +41,9 @@ pub fn at(kind: Kind, positions: &[f32], channels: &[f32], codes: &[u8], t: f32)
     }
 }
 
-// Stores a colour where there is room for it: `stops` has the same store for any output, with tests, which each point would
-// pay for here.
+// Stores a colour where there is room for it. `stops` has this store for any output, and `paint_segments` one like this: only
+// a private function may ask for room, and the compiler does not see at each point that `paint` has tested it, so one store
+// for all would cost each point a test. So it is with `colour` of `pairs`, and the colour that `stops` reads.
 fn put_colour(out: &mut [f32], k: usize, c: Rgba)
     requires { ⌜ k + 4 ≤ length (now out) ⌝ }
     ensures { λ _. ⌜ new out ≡ sets (old out) k (channelsOf c) ⌝ }

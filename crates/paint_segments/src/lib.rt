@@ -11,92 +11,13 @@ ghost use lib.Seq.{sets};
 ghost use Rattle.blend.specs.Channels.{channelsOf};
 ghost use Rattle.stops.specs.Stops.{colourAt};
 ghost use Rattle.stops.specs.Lent.{old, new};
-ghost use Rattle.gradient.specs.Gimp.{segments, leftAt, rightAt, segmentFound, gimpSegment, gimpColour};
+ghost use Rattle.gradient.specs.Gimp.{segments, gimpSegment, gimpColour};
 ghost use Rattle.paint_segments.specs.Over.{agree, paintedOver, segmentsOver};
-ghost use Rattle.paint_segments.specs.Within.{Cut, Fits, inOrder, Orderly, strictlyInside, Peeked, Starts, Written};
+ghost use Rattle.paint_segments.specs.Within.{Cut, Fits, Orderly, strictlyInside, Peeked, Starts, Written};
 
-// With fewer segments than this the search is as quick as a guess.
-const MANY: usize = 32;
+mod search;
 
-// Whether the positions rise, from 0 or later to 1 or before.
-fn is_orderly(positions: &[f32]) -> bool
-    ensures { λ r. ⌜ r ≡ inOrder (old positions) ⌝ }
-{
-    let n = positions.len();
-    if n < 3 {
-        return false;
-    }
-    if positions[0] < 0.0 {
-        return false;
-    }
-    if positions[n - 1] > 1.0 {
-        return false;
-    }
-    sharp_ramp::is_steady(positions, positions[n - 1])
-}
-
-// 1 where t lies past the left end of segment i, else 0.
-fn past(positions: &[f32], i: usize, t: f32) -> usize
-    requires { ⌜ i < segments (now positions) ⌝ }
-    ensures { λ r. ⌜ r ≤ 1 ⌝ }
-{
-    stops::below(positions[3 * i], t)
-}
-
-// About the segment that t lies in; which one it is, is not promised. No branch has to be guessed.
-fn guess(positions: &[f32], t: f32) -> usize
-    requires { ⌜ 1 ≤ segments (now positions) ⌝ }
-    ensures { λ r. ⌜ r < segments (old positions) ⌝ }
-{
-    let mut base = 0;
-    let mut left = positions.len() / 3;
-    while 3 < left {
-        let part = left / 4;
-        let a = past(positions, base + part, t);
-        let b = past(positions, base + 2 * part, t);
-        let c = past(positions, base + 3 * part, t);
-        base += part * (a + b + c);
-        left -= 3 * part;
-    }
-    if 2 < left {
-        return base + past(positions, base + 1, t) + past(positions, base + 2, t);
-    }
-    if 1 < left {
-        return base + past(positions, base + 1, t);
-    }
-    base
-}
-
-// Whether t lies inside segment i. Each of two answers is 1 or 0, and n times their sum is above n + i, where i is less than
-// n, just where both are 1: one comparison, so that no branch has to be guessed.
-fn is_inside(positions: &[f32], i: usize, t: f32) -> bool
-    requires { ⌜ i < segments (now positions) ⌝ }
-    ensures { λ r. ⌜ r ≡ strictlyInside (leftAt (old positions) i) (rightAt (old positions) i) t ⌝ }
-{
-    let n = positions.len();
-    let at = 3 * i;
-    n + i < n * (stops::below(positions[at], t) + stops::below(t, positions[at + 2]))
-}
-
-// The segment whose colour is taken. Of many that are orderly one is guessed: where t lies inside it, it is the one that
-// the search finds.
-fn find_segment(positions: &[f32], t: f32, orderly: bool) -> usize
-    requires { ⌜ (1 ≤ segments (now positions)) × (orderly ≡ true → Orderly (now positions)) ⌝ }
-    ensures { λ r. ⌜ r ≡ segmentFound (old positions) t ⌝ }
-{
-    if orderly {
-        if 3 * MANY <= positions.len() {
-            let g = guess(positions, t);
-            if is_inside(positions, g, t) {
-                return g;
-            }
-        }
-    }
-    gimp::find_segment(positions, t)
-}
-
-// Stores a colour where there is room for it: `stops` has the same store for any output, with tests, which each point would
-// pay for here.
+// Stores a colour where there is room for it, without a test; `put_colour` of `paint` says why the two are not one.
 fn put_colour(out: &mut [f32], k: usize, c: Rgba)
     requires { ⌜ k + 4 ≤ length (now out) ⌝ }
     ensures { λ _. ⌜ new out ≡ sets (old out) k (channelsOf c) ⌝ }
@@ -152,7 +73,7 @@ fn point_or(ts: &[f32], j: usize, end: usize, other: f32) -> f32
     other
 }
 
-// The same test as `is_inside`, branched: of points in order nearly every one lies inside, so the branch is guessed rightly.
+// The same test as `is_inside` of `search`, branched: of points in order nearly every one lies inside, so the branch is guessed rightly.
 fn is_strictly_inside(left: f32, right: f32, t: f32) -> bool
     ensures { λ r. ⌜ r ≡ strictlyInside left right t ⌝ }
 {
@@ -220,7 +141,7 @@ fn paint_on(
         put_colour(out, 4 * i, black);
         return i + 1;
     }
-    let s = find_segment(positions, t, orderly);
+    let s = search::find_segment(positions, t, orderly);
     let mut end = i + 1;
     if orderly {
         end = ts.len();
@@ -233,7 +154,7 @@ fn paint_all(positions: &[f32], channels: &[f32], codes: &[u8], ts: &[f32], out:
     requires { ⌜ Fits (now positions) (now channels) (now codes) (now ts) (now out) ⌝ }
     ensures { λ _. ⌜ new out ≡ paintedOver (gimpColour (old positions) (old channels) (old codes)) (old ts) (old out) ⌝ }
 {
-    let orderly = is_orderly(positions);
+    let orderly = search::is_orderly(positions);
     let mut i = 0;
     while i < ts.len() {
         i = paint_on(positions, channels, codes, ts, out, orderly, i);

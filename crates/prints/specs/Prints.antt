@@ -15,7 +15,7 @@ use Rattle.decimal.specs.Decimal.{areDigits, valueAfter, beforePoint, afterPoin
 use Rattle.decimal.specs.declared.Token.{Token}
 use Rattle.decimal.specs.declared.Token.the-variants.{Number, NoNumber}
 use Rattle.blend.specs.Blend.{linear, smooth}
-use Rattle.blend.specs.Basis.{weightsOf, weighed, basis}
+use Rattle.blend.specs.Basis.{weightsOf, weightedSum, basis}
 use Rattle.blend.specs.CatmullRom.{chord, tangent, cubic, coefficientsOf, segmentOf, cubicAt, segmentAt}
 use Rattle.blend.specs.Pair.{linearPair, smoothPair, basisPair, catmullPair}
 use Rattle.stops.specs.Place.{firstAt, placeOf}
@@ -44,7 +44,7 @@ reds (b ∷ bs) = ofBits binary32 b ∷ f0 ∷ f0 ∷ f1 ∷ reds bs
 
 -- the red at t of a ramp
 pub red : Kind → List ℕ → List ℕ → List ℕ → ℕ → ℕ
-unfolding colourOf colourIn between pairOf leftOf rightOf beyond linearPair smoothPair basisPair catmullPair placeOf firstAt linear smooth weightsOf weighed basis chord tangent cubic coefficientsOf segmentOf cubicAt segmentAt magnitudeOf rootOf gimpColour offDomain gimpSegment segmentColour segmentFound search along linearFactor bent blended ofBits toBits add sub mul div neg le lt isNan
+unfolding colourOf colourIn between pairOf leftOf rightOf beyond linearPair smoothPair basisPair catmullPair placeOf firstAt linear smooth weightsOf weightedSum basis chord tangent cubic coefficientsOf segmentOf cubicAt segmentAt magnitudeOf rootOf gimpColour offDomain gimpSegment segmentColour segmentFound search along linearFactor bent blended ofBits toBits add sub mul div neg le lt isNan
 red kind positions channels codes t = toBits binary32 (colourOf (rampOf kind (floats positions) (reds channels) codes) (ofBits binary32 t) .r)
 
 -- from black at 0 to red at 1

@@ -15,7 +15,7 @@ use Rattle.decimal.specs.declared.Token.{Token}
 use Rattle.decimal.specs.declared.Token.the-variants.{Number, NoNumber}
 use Rattle.decimal.specs.Decimal.{readOf}
 use Rattle.rows.specs.declared.Parting.{Parting}
-use Rattle.rows.specs.Rows.{Numbers, all, none, addNumber, numbers, partsAt, rowEnd, longest, rowOf, rowAt, RowAt}
+use Rattle.rows.specs.Rows.{Numbers, all, none, addNumber, numbers, partsAt, rowEnd, longest, rowNumbers, rowAt, RowAt}
 use Rattle.rows.specs.Steps.{FieldAt}
 
 -- ---- numbers before others
@@ -38,8 +38,8 @@ unfolding prepend addNumber
 prepend-all [] ys = refl
 prepend-all (x ∷ xs) ys = ap (addNumber (Number x)) (prepend-all xs ys)
 
-too-many : (xs : List Float) → longest ≤ length xs → (k : Token) (o : Numbers) → rowOf (prepend xs (addNumber k o)) ≡ []
-unfolding rowOf addNumber
+too-many : (xs : List Float) → longest ≤ length xs → (k : Token) (o : Numbers) → rowNumbers (prepend xs (addNumber k o)) ≡ []
+unfolding rowNumbers addNumber
 too-many xs h NoNumber o = rw (prepend-none xs)
 too-many xs h (Number x) none = rw (prepend-none xs)
 too-many xs h (Number x) (all ys) = rw (prepend-all xs (x ∷ ys), lt-leb (length (xs ++ x ∷ ys)) longest (omega (arith, length-append xs (x ∷ ys))))
@@ -88,18 +88,18 @@ module _ {by : Parting} {s : List ℕ} {at : ℕ} {d : List Float} {n i : ℕ} (
         }
 
     pub over : longest ≤ n → {d′ : List Float} {n′ next′ : ℕ} → (d′ ≡ replicate longest f0) × (n′ ≡ 0) × (next′ ≡ at) → RowAt by s at d′ n′ next′
-    over h = no-row by s at (ap rowOf next-part ∙ too-many (take n d) (omega (arith, size)) (readOf part) (numbers (partsAt by s next)))
+    over h = no-row by s at (ap rowNumbers next-part ∙ too-many (take n d) (omega (arith, size)) (readOf part) (numbers (partsAt by s next)))
 
     pub no-number : readOf part ≡ NoNumber → {d′ : List Float} {n′ next′ : ℕ} → (d′ ≡ replicate longest f0) × (n′ ≡ 0) × (next′ ≡ at) → RowAt by s at d′ n′ next′
-    unfolding rowOf addNumber
+    unfolding rowNumbers addNumber
     no-number e = no-row by s at (rw (next-part, e, prepend-none (take n d)))
 
   -- no part is left
   module _ (k : some ≡ false) where
     got : rowAt by s at ≡ take n d
-    unfolding numbers rowOf
+    unfolding numbers rowNumbers
     got =
-        ap rowOf (f .read ∙ ap (λ (ws : List (List ℕ)). prepend (take n d) (numbers ws)) (w .no-part k) ∙ prepend-all (take n d) [] ∙ ap all (append-nil (take n d)))
+        ap rowNumbers (f .read ∙ ap (λ (ws : List (List ℕ)). prepend (take n d) (numbers ws)) (w .no-part k) ∙ prepend-all (take n d) [] ∙ ap all (append-nil (take n d)))
         ∙ rw (le-leb (length (take n d)) longest (omega (arith, size, f .few)))
 
     pub row-none : n ≡ 0 → {d′ : List Float} {n′ next′ : ℕ} → (d′ ≡ replicate longest f0) × (n′ ≡ 0) × (next′ ≡ at) → RowAt by s at d′ n′ next′
@@ -114,16 +114,16 @@ module _ {by : Parting} {s : List ℕ} {at : ℕ} {d : List Float} {n i : ℕ} (
     }
 
 -- ---- what a row tells of the numbers of its parts
-row-some : (o : Numbers) → 0 < length (rowOf o) → o ≡ all (rowOf o)
-unfolding rowOf
+row-some : (o : Numbers) → 0 < length (rowNumbers o) → o ≡ all (rowNumbers o)
+unfolding rowNumbers
 row-some none h = absurd (omega arith)
 row-some (all xs) h = go (leb (length xs) longest) h where
   go : (t : Bool) → 0 < length (cond t xs []) → all xs ≡ all (cond t xs [])
   go true h = refl
   go false h = absurd (omega arith)
 
-row-all : (xs : List Float) → length xs ≤ longest → rowOf (all xs) ≡ xs
-unfolding rowOf
+row-all : (xs : List Float) → length xs ≤ longest → rowNumbers (all xs) ≡ xs
+unfolding rowNumbers
 row-all xs h = rw (le-leb (length xs) longest h)
 
 module _ {by : Parting} {s : List ℕ} {at : ℕ} {d : List Float} {n next : ℕ} (w : RowAt by s at d n next) where
@@ -140,7 +140,7 @@ module _ {by : Parting} {s : List ℕ} {at : ℕ} {d : List Float} {n next : ℕ
 
   -- another number of them, or none
   pub row-not : (k : ℕ) → k ≤ longest → (n ≡ k → ⊥) → (xs : List Float) → numbers (partsAt by s at) ≡ all xs → length xs ≡ k → ⊥
-  row-not k b h xs e l = h (w .count ∙ ap length (ap rowOf e ∙ row-all xs (omega arith)) ∙ l)
+  row-not k b h xs e l = h (w .count ∙ ap length (ap rowNumbers e ∙ row-all xs (omega arith)) ∙ l)
 
   -- what follows it
   pub row-next : 0 < n → next ≡ rowEnd by s at

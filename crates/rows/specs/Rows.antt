@@ -44,12 +44,12 @@ abbrev pub longest : ℕ
 longest = 15
 
 -- the numbers of a row: none of them where a part is no number, or where there are more than the longest row has
-unfoldable pub rowOf : Numbers → List Float
-rowOf none = []
-rowOf (all xs) = cond (leb (length xs) longest) xs []
+unfoldable pub rowNumbers : Numbers → List Float
+rowNumbers none = []
+rowNumbers (all xs) = cond (leb (length xs) longest) xs []
 
 abbrev pub rowAt : Parting → List ℕ → ℕ → List Float
-rowAt by s at = rowOf (numbers (partsAt by s at))
+rowAt by s at = rowNumbers (numbers (partsAt by s at))
 
 -- the row at `at` is the first n numbers of d, which is 0 after them; `next` is where what follows it starts, or `at` where there is none
 pub record RowAt (by : Parting) (s : List ℕ) (at : ℕ) (d : List Float) (n next : ℕ) : Type 0 where

@@ -1,6 +1,6 @@
 -- `name` meets its contract: the part of line 2 where the file is read, and nothing where it is not. Assumes nothing.
 use mathlib.Core.Path.{_∙_}
-use Rattle.ggr.specs.File.{roomOf}
+use Rattle.ggr.specs.File.{segmentRoom}
 use Rattle.ggr.proofs.Finish.{name-none, name-read}
 use borrow.Author.Needs.{needs}
 use Rattle.ggr.proofs.name.Statement.{statement}
@@ -28,7 +28,7 @@ slice-aggregate-result : tie.Need-slice-aggregate-result
 slice-aggregate-result c = search needs
 
 returns : tie.Need-returns
-unfolding roomOf
+unfolding segmentRoom
 returns c =
     let told = c .before in
     let file = told .before .before .before .before .before in
@@ -38,7 +38,7 @@ name-part-requires : tie.Need-name-part-requires
 name-part-requires c κs = search needs
 
 returns-2 : tie.Need-returns-2
-unfolding roomOf
+unfolding segmentRoom
 returns-2 c =
     let told = c .before in
     let file = told .before .before .before .before .before in

@@ -60,7 +60,10 @@ add-point-or : tie.Need-add-point-or Inv-loop μ-loop
 add-point-or c = search needs
 
 point-or-requires : tie.Need-point-or-requires Inv-loop μ-loop
-point-or-requires c κs = let s = c .before .before .before .before .before .before .before .before .before .before .before in s .pre .1 .inside
+point-or-requires c κs =
+    let held = c .before .before .before .before .before in
+    let s = held .before .before .before .before .before .before in
+    s .pre .1 .inside
 
 place-along-requires-3 : tie.Need-place-along-requires-3 Inv-loop μ-loop
 place-along-requires-3 c κs = search needs
@@ -71,20 +74,23 @@ blend-requires c κs = search needs
 mul-put-colour : tie.Need-mul-put-colour Inv-loop μ-loop
 mul-put-colour c =
     let l = c .before .before .before .before in
-    let s = l .before .before .before .before .before .before .before .before .before .before .before in
+    let held = l .before .before .before .before .before in
+    let s = held .before .before .before .before .before .before in
     omega (arith, s .good .1 .1 .1 .0 .1, l .before .loop .inv .0)
 
 put-colour-requires : tie.Need-put-colour-requires Inv-loop μ-loop
 put-colour-requires c κs =
     let l = c .before .before .before .before in
-    let s = l .before .before .before .before .before .before .before .before .before .before .before in
+    let held = l .before .before .before .before .before in
+    let s = held .before .before .before .before .before .before in
     let h = l .before .loop .inv .2 (l .loop-test .taken) .there in
     omega (arith, l .before .loop .inv .1, s .pre .0 .room)
 
 add-i : tie.Need-add-i Inv-loop μ-loop
 add-i c =
     let l = c .before .before .before .before .before .before .before in
-    let s = l .before .before .before .before .before .before .before .before .before .before .before in
+    let held = l .before .before .before .before .before in
+    let s = held .before .before .before .before .before .before in
     omega (arith, s .good .1 .1 .1 .0 .1, l .before .loop .inv .0)
 
 is-strictly-inside-requires : tie.Need-is-strictly-inside-requires Inv-loop μ-loop

@@ -44,7 +44,9 @@ starts-with-requires-2 : tie.Need-starts-with-requires-2
 starts-with-requires-2 c κs = search needs
 
 threshold-entry-requires : tie.Need-threshold-entry-requires
-threshold-entry-requires c κs = let at-start = c .before .before .before .before .before .before .before .before .before .before .before .before .before in
+threshold-entry-requires c κs =
+    let at-is-same2 = c .before .before .before .before in
+    let at-start = at-is-same2 .before .before .before .before .before .before .before .before .before in
     starts-long thresholdTag (at-start .args .l .now) (sym (c .before .starts-with2 .ensures) ∙ c .if4 .taken)
 
 returns-4 : tie.Need-returns-4
@@ -58,7 +60,10 @@ starts-with-requires-3 : tie.Need-starts-with-requires-3
 starts-with-requires-3 c κs = search needs
 
 edit-entry-requires : tie.Need-edit-entry-requires
-edit-entry-requires c κs = let at-start = c .before .before .before .before .before .before .before .before .before .before .before .before .before .before .before .before in
+edit-entry-requires c κs =
+    let at-starts-with2 = c .before .before .before .before in
+    let at-is-same2 = at-starts-with2 .before .before .before in
+    let at-start = at-is-same2 .before .before .before .before .before .before .before .before .before in
     starts-long editTag (at-start .args .l .now) (sym (c .before .starts-with3 .ensures) ∙ c .if5 .taken)
 
 returns-5 : tie.Need-returns-5

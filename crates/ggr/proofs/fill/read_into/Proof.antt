@@ -3,7 +3,7 @@ use Prim.Native.Nat.{_≤_}
 use native.Mathlib.Omega.{arith}
 use lib.ListN.{length}
 use Rattle.float.proofs.Flags.{failed, passed}
-use Rattle.ggr.specs.File.{roomOf}
+use Rattle.ggr.specs.File.{segmentRoom}
 use Rattle.ggr.proofs.Filling.{filled-no}
 use Rattle.ggr.proofs.Finish.{file-fg, file-bg, file-text, file-refuse, file-counted, filled-as, lead-fits, room-fits}
 use borrow.Author.Needs.{needs}
@@ -54,7 +54,7 @@ fill-requires c κs =
     let one = two .before .before in
     let a = one .before .before .before .before .before .before .args in
     let f = lead-fits (h .read-header .ensures) _ _ (counted .lead2 .given .1) in
-    let q : counted .lead2 .given .0 .0 ≤ roomOf (length (a .p .now)) (length (a .c .now)) (length (a .k .now)) = omega (arith, f, h .before .room-of .ensures) in
+    let q : counted .lead2 .given .0 .0 ≤ segmentRoom (length (a .p .now)) (length (a .c .now)) (length (a .k .now)) = omega (arith, f, h .before .room-of .ensures) in
     let r = room-fits _ _ _ _ q in
     (f .0, r .0, r .1, r .2)
 

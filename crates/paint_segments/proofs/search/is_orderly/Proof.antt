@@ -1,8 +1,8 @@
 -- `is_orderly` meets its contract, test by test. Assumes nothing.
 use Rattle.paint_segments.proofs.Orders.{too-few, below, above, by-steps}
 use borrow.Author.Needs.{needs}
-use Rattle.paint_segments.proofs.is_orderly.Statement.{statement}
-use Rattle.paint_segments.proofs.is_orderly.Tie as tie
+use Rattle.paint_segments.proofs.search.is_orderly.Statement.{statement}
+use Rattle.paint_segments.proofs.search.is_orderly.Tie as tie
 
 returns : tie.Need-returns
 returns c = too-few _ (c .if1 .taken)

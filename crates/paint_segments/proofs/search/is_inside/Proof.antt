@@ -7,8 +7,8 @@ use lib.Ieee.{lt}
 use Rattle.stops.proofs.Narrowing.{passed-over}
 use Rattle.stops.proofs.Nearby.{both-yes}
 use Rattle.gradient.specs.Gimp.{leftAt, rightAt}
-use Rattle.paint_segments.proofs.is_inside.Statement.{statement}
-use Rattle.paint_segments.proofs.is_inside.Tie as tie
+use Rattle.paint_segments.proofs.search.is_inside.Statement.{statement}
+use Rattle.paint_segments.proofs.search.is_inside.Tie as tie
 
 mul-at : tie.Need-mul-at
 mul-at c = search needs

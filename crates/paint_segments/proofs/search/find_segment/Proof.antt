@@ -2,8 +2,8 @@
 use denote.Ref.{now}
 use Rattle.paint_segments.proofs.Hits.{hit}
 use borrow.Author.Needs.{needs}
-use Rattle.paint_segments.proofs.find_segment.Statement.{statement}
-use Rattle.paint_segments.proofs.find_segment.Tie as tie
+use Rattle.paint_segments.proofs.search.find_segment.Statement.{statement}
+use Rattle.paint_segments.proofs.search.find_segment.Tie as tie
 
 mul-if2 : tie.Need-mul-if2
 mul-if2 c = search needs

@@ -3,8 +3,8 @@ use Prim.Native.Nat.{_+_, _/_, _≤_}
 use native.Mathlib.Omega.{arith}
 use Rattle.gradient.specs.Gimp.{segments}
 use Rattle.paint_segments.proofs.Guessing.{passed-over}
-use Rattle.paint_segments.proofs.guess.Statement.{statement}
-use Rattle.paint_segments.proofs.guess.Tie as tie
+use Rattle.paint_segments.proofs.search.guess.Statement.{statement}
+use Rattle.paint_segments.proofs.search.guess.Tie as tie
 
 abbrev Inv-loop : tie.InvT-loop
 Inv-loop positions t base₀ left₀ base left = (1 ≤ left) × (base + left ≤ segments positions)
