@@ -59,7 +59,8 @@ def segment_of(line, at, foreground, background):
     codes = [math.trunc(x) for x in (numbers[11:] + [0.0, 0.0])[:4]]
     if any(not 0 <= code <= most for code, most in zip(codes, (5, 2, 4, 4))):
         raise Refusal(12, at)
-    if codes[0] in (1, 2) or codes[1] != 0:
+    outside = codes[0] == 2 and not numbers[0] <= numbers[1] <= numbers[2]
+    if codes[0] == 1 or codes[1] != 0 or outside:
         raise Refusal(16, at)
     left, right = (colour_of(code, tuple(own), foreground, background) for code, own in ((codes[2], numbers[3:7]), (codes[3], numbers[7:11])))
     return numbers[:3], left + right, codes[:2]

@@ -29,8 +29,10 @@ extern "C" {
 #define COLORGRAD_CATMULL_ROM 4u
 #define COLORGRAD_GIMP 5u
 
-/* ---- codes of a GIMP segment that are carried: four of blending, one of colouring */
+/* ---- codes of a GIMP segment that are carried: five of blending, one of colouring. The middle of a sinusoidal segment must
+ * not be outside its ends, or the segment counts as not carried. */
 #define COLORGRAD_BLEND_LINEAR 0u
+#define COLORGRAD_BLEND_SINUSOIDAL 2u
 #define COLORGRAD_BLEND_SPHERICAL_INCREASING 3u
 #define COLORGRAD_BLEND_SPHERICAL_DECREASING 4u
 #define COLORGRAD_BLEND_STEP 5u
@@ -96,7 +98,7 @@ static inline const char *colorgrad_message(uint32_t refusal)
     case COLORGRAD_FEW_LINES: return "the GIMP text has fewer segments than it counts";
     case COLORGRAD_NO_SEGMENT: return "the GIMP text has no segment";
     case COLORGRAD_TOO_MANY_SEGMENTS: return "the GIMP text counts more segments than there is room for";
-    case COLORGRAD_NOT_CARRIED: return "a segment is curved, sinusoidal or coloured by hue";
+    case COLORGRAD_NOT_CARRIED: return "a segment is curved or coloured by hue, or sinusoidal with its middle outside its ends";
     case COLORGRAD_NOT_BUILT: return "no sharp ramp can be built of so many colours on this domain";
     case COLORGRAD_TORN: return "the segments of the GIMP text do not run from 0 to 1, each joined to the next";
     default: return "no such refusal";

@@ -19,9 +19,9 @@ use std::path::Path;
 const REPETITIONS: usize = 21;
 const POINTS: usize = 4096;
 
-/// The blendings carried: GIMP's code, and a name.
-const BLENDINGS: [(u8, &str); 4] =
-    [(0, "linear"), (3, "spherical increasing"), (4, "spherical decreasing"), (5, "step")];
+/// The blendings carried: GIMP's code, and a name. The first four, in turn, make a ramp of several.
+const BLENDINGS: [(u8, &str); 5] =
+    [(0, "linear"), (3, "spherical increasing"), (4, "spherical decreasing"), (5, "step"), (2, "sinusoidal")];
 
 /// Every table, or the one that is asked for by name.
 pub fn run(options: &Options) {

@@ -87,7 +87,14 @@ fn short_segments() -> Vec<Ramp> {
         with(&plain, |r| r.codes[0] = 1),
         with(&plain, |r| r.codes[1] = 1),
         // 1 before 2
-        with(&plain, |r| (r.positions[0], r.codes[2]) = (NAN, 2)),
+        with(&plain, |r| (r.positions[0], r.codes[2]) = (NAN, 1)),
+        // sinusoidal with the middle outside: below the left end, above the right one, reversed, not a number
+        with(&plain, |r| (r.positions[1], r.codes[0]) = ((-0.0f32).next_down(), 2)),
+        with(&plain, |r| (r.positions[4], r.codes[2]) = (1.0f32.next_up(), 2)),
+        with(&plain, |r| (r.positions[3], r.positions[5], r.codes[2]) = (1.0, 0.5, 2)),
+        with(&plain, |r| (r.positions[1], r.codes[0]) = (NAN, 2)),
+        // inside, and then 2
+        with(&plain, |r| (r.positions[5], r.codes[2]) = (f32::INFINITY, 2)),
         with(&plain, |r| r.positions[4] = f32::INFINITY),
         with(&plain, |r| r.channels[15] = NAN),
     ]

@@ -70,7 +70,7 @@ impl Ramp {
             let segments = n / 3;
             return (1..=MOST_SEGMENTS).contains(&segments)
                 && (n, self.channels.len(), self.codes.len()) == (3 * segments, 8 * segments, 2 * segments)
-                && self.codes.chunks(2).all(|c| matches!(c[0], 0 | 3 | 4 | 5) && c[1] == 0);
+                && self.codes.chunks(2).zip(self.positions.chunks(3)).all(|(c, p)| carried(c, p));
         }
         (2..=MOST_STOPS).contains(&n)
             && self.channels.len() == 4 * n
@@ -91,7 +91,12 @@ impl Ramp {
     }
 }
 
-/// A ramp that passes the check.
+/// A sinusoidal segment only where its middle is not outside its ends.
+fn carried(codes: &[u8], p: &[f32]) -> bool {
+    codes[1] == 0 && (matches!(codes[0], 0 | 3 | 4 | 5) || codes[0] == 2 && p[0] <= p[1] && p[1] <= p[2])
+}
+
+/// A ramp that passes the check; no segment is sinusoidal, since these are compared by themselves (`sine`).
 pub fn random_ramp(random: &mut Random, kind: Kind) -> Ramp {
     if kind == Kind::Gimp {
         return random_segments(random);
@@ -216,7 +221,7 @@ fn spoil(random: &mut Random, ramp: &mut Ramp) {
         5 if n > 0 => ramp.positions[random.below(n)] = random.finite(),
         6 if !ramp.codes.is_empty() => {
             let at = random.below(ramp.codes.len());
-            ramp.codes[at] = random.below(8) as u8;
+            ramp.codes[at] = random.pick(&[0, 1, 3, 4, 5, 6, 7]);
         }
         7 => {
             // one item more than may be

@@ -85,6 +85,7 @@ fn lent() {
         channels: [0.0, 0.0, 0.0, 1.0, 1.0, 1.0, 1.0, 1.0].repeat(n),
         codes: [blending, 0].repeat(n),
     };
+    let outside = Ramp { positions: vec![0.0, 1.5, 1.0], ..segments(1, 2) };
     let inputs = [
         ("linear, 2,049 stops", stops(Kind::Linear, &many, &many)),
         ("linear, positions 1, 0", stops(Kind::Linear, &[1.0, 0.0], &[0.0, 1.0])),
@@ -99,6 +100,7 @@ fn lent() {
         ("smoothstep, no stop", stops(Kind::Smoothstep, &[], &[])),
         ("lent GIMP segments, 257", segments(257, 0)),
         ("lent GIMP segment, curved", segments(1, 1)),
+        ("lent GIMP segment, sinusoidal, its middle outside", outside),
     ];
     for (input, ramp) in inputs {
         let rust = || match oracle::unchecked(&ramp) {
@@ -127,7 +129,7 @@ fn texts() {
     let many = format!("{head}257\n{}", format!("{SEGMENT}\n").repeat(257));
     let one = |segment: &str| format!("{head}1\n{segment}\n").into_bytes();
     let count = |count: &str| format!("{head}{count}\n{SEGMENT}\n").into_bytes();
-    let inputs: [(&str, Vec<u8>, f32); 14] = [
+    let inputs: [(&str, Vec<u8>, f32); 16] = [
         ("a name in UTF-8", format!("GIMP Gradient\nName: \u{e9}\n1\n{SEGMENT}\n").into_bytes(), 0.0),
         ("line 1 not UTF-8", [b"\xff", &long.as_bytes()[13..]].concat(), 0.0),
         ("65,537 bytes", [long.as_bytes(), &vec![b' '; 65_537 - long.len()]].concat(), 0.0),
@@ -139,6 +141,8 @@ fn texts() {
         ("count 2^64 - 1", count("18446744073709551615"), 0.0),
         ("count +1", count("+1"), 0.0),
         ("blending 1", one("0 .5 1 0 0 0 1 1 1 1 1 1 0"), 0.0),
+        ("blending 2, middle outside", one("0 1.5 1 0 0 0 1 1 1 1 1 2 0"), 0.0),
+        ("blending 2, .6 .5 .4", one(".6 .5 .4 0 0 0 1 1 1 1 1 2 0"), 0.0),
         ("colouring 1", one("0 .5 1 0 0 0 1 1 1 1 1 0 1"), 0.0),
         ("blending 1, then no segment", format!("{head}2\n0 .5 1 0 0 0 1 1 1 1 1 1 0\nx\n").into_bytes(), 0.0),
         ("foreground red not-a-number", long.clone().into_bytes(), NAN),

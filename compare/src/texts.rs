@@ -134,7 +134,10 @@ fn listed(input: &Input, error: Option<(&'static str, usize)>) -> Option<(u32, u
             return Some((12, i + 1, "12: an exponent, or more than 18 digits"));
         }
         if not_carried(line) {
-            return Some((16, i + 1, "16: curved, sinusoidal or by hue"));
+            return Some((16, i + 1, "16: curved or by hue"));
+        }
+        if sine_outside(line) {
+            return Some((16, i + 1, "16: sinusoidal, its middle outside"));
         }
         match positions(line) {
             Some(p) if joint.tears(p, i + 1) => return Some((18, i + 1, TORN)),
@@ -190,9 +193,17 @@ fn foreign_number(line: &[u8]) -> bool {
 
 /// A blending or a colouring that is not carried, in a line that the Rust takes.
 fn not_carried(line: &[u8]) -> bool {
-    let numbers: Vec<f32> = words(line).into_iter().filter_map(parsed).collect();
-    let whole = |i: usize| numbers.get(i).map_or(0, |x| *x as i64);
-    matches!(whole(11), 1 | 2) || whole(12) != 0
+    code(line, 11) == 1 || code(line, 12) != 0
+}
+
+/// A sinusoidal segment whose middle is outside its ends.
+fn sine_outside(line: &[u8]) -> bool {
+    let inside = |[left, middle, right]: [f32; 3]| left <= middle && middle <= right;
+    code(line, 11) == 2 && !positions(line).is_some_and(inside)
+}
+
+fn code(line: &[u8], i: usize) -> i64 {
+    words(line).into_iter().filter_map(parsed).nth(i).map_or(0, |x| x as i64)
 }
 
 /// The name is the Rust's wherever reading with room 256 and finite colours succeeds, and empty elsewhere.

@@ -26,7 +26,7 @@ struct Text {
 type Fault = fn(&mut Text, usize);
 
 /// What can be wrong with line i of the segments, or with the whole.
-const FAULTS: [Fault; 15] = [
+const FAULTS: [Fault; 16] = [
     |text, i| text.lines[i].positions[0] = text.lines[i].positions[0].next_up(),
     |text, i| text.lines[i].positions[0] = text.lines[i].positions[0].next_down(),
     |text, i| text.lines[i].positions[2] = text.lines[i].positions[2].next_up(),
@@ -37,6 +37,7 @@ const FAULTS: [Fault; 15] = [
     |text, i| text.lines[i].colour = "x",
     |text, i| text.lines[i].codes = "1 0",
     |text, i| text.lines[i].codes = "0 1",
+    |text, i| text.lines[i].codes = "2 0",
     |text, i| text.lines.truncate(i),
     |text, _| text.header = "GIMP gradient",
     |text, i| text.count = i.to_string(),

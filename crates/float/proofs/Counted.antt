@@ -8,6 +8,7 @@ use lib.Count.{leadingZeros, leading-top}
 use lib.Dec.{lit<}
 use lib.Pow.{pow-add, pow-pos, shl-exact, split}
 use lib.Ieee.{Float, nan, inf, fin, binary32, up, down, round, sub, ofInt, toBits, ofBits}
+use lib.Ieee.Back.{round-whole}
 use lib.Ieee.Bits.{ofBits-toBits}
 use lib.Ieee.Exact.{HasValue}
 use lib.Ieee.Fits.{down-pos, ofInt-fits, nearest-le}
@@ -47,6 +48,11 @@ sub-values (fin false m e) (fin false n d) a b c v w p h =
     level m n e d a b c v w =
         sub-mul (m * d) (n * e) c ∙ less (mul-right-comm m d c ∙ ap (λ (x : ℕ). x * d) v ∙ mul-assoc a e d) (mul-right-comm n e c ∙ ap (λ (x : ℕ). x * e) w ∙ mul-assoc b d e ∙ ap (λ (x : ℕ). b * x) (mul-comm d e))
         ∙ sym (sub-mul a b (e * d))
+
+-- of whole numbers that an f32 holds as they are
+pub count-less : (a b : ℕ) → b ≤ a → a ≤ 2 ^ 24 → countOf a ⊖ countOf b ≡ countOf (a - b)
+unfolding ofInt
+count-less a b h l = sub-values (countOf a) (countOf b) a b 1 (round-whole binary32 false a l) (round-whole binary32 false b (le-trans h l)) (lit< tt) h
 
 -- the pattern of 2 ^ 23 is 1258291200
 of-digits : (n : ℕ) → n < 8388608 → HasValue (ofBits binary32 (1258291200 + n)) false ((8388608 + n) * 2 ^ 149) (2 ^ 149)

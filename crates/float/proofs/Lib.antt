@@ -15,3 +15,5 @@ pub mod WholePart
 pub mod SignedRound
 pub mod Rounding
 pub mod Midpoint
+pub mod Wholes
+pub mod Clamped

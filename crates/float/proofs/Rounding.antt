@@ -30,7 +30,7 @@ sums p c d q e f r g h s i j a b =
     (join (p * h * (f * j)) (g * d * (f * j)) (r * d * (f * j)) (c * h * (f * j)) (q * j * (d * h)) (i * f * (d * h)) (s * f * (d * h)) (e * j * (d * h)) (simp add-mul at a) (simp add-mul at b))
 
 -- what is not negative has no `con`
-no-con : (x : Float) → T (finite x) → T (le f0 x) → con x ≡ 0
+pub no-con : (x : Float) → T (finite x) → T (le f0 x) → con x ≡ 0
 unfolding ofBits
 no-con x f h = go x (le→linear f0 x tt f h)
   where

@@ -189,6 +189,17 @@ le→linear (fin s m e) (fin t n d) p q h =
     let k = P→linear s (m * up e * down d) t (n * up d * down e) (le→P s (m * up e * down d) t (n * up d * down e) h) in
     omega (arith, plus-times s (m * up e) (down d), minus-times s (m * up e) (down d), plus-times t (n * up d) (down e), minus-times t (n * up d) (down e))
 
+pub linear→le : (x y : Float) → T (finite x) → T (finite y) → pro x * den y + con y * den x ≤ pro y * den x + con x * den y → T (le x y)
+unfolding le
+linear→le nan y p q h = absurd p
+linear→le (inf s) y p q h = absurd p
+linear→le (fin s m e) nan p q h = absurd q
+linear→le (fin s m e) (inf t) p q h = absurd q
+linear→le (fin s m e) (fin t n d) p q h =
+    P→le s (m * up e * down d) t (n * up d * down e)
+    (linear→P s (m * up e * down d) t (n * up d * down e)
+    (omega (arith, plus-times s (m * up e) (down d), minus-times s (m * up e) (down d), plus-times t (n * up d) (down e), minus-times t (n * up d) (down e))))
+
 pub add-rounds : (x y : Float) → T (finite x) → T (finite y) → Rounds (x ⊕ y) (pro x * den y + pro y * den x) (con x * den y + con y * den x) (den x * den y)
 unfolding add
 add-rounds nan y p q = absurd p

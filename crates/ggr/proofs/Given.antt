@@ -15,7 +15,8 @@ use Rattle.gradient.specs.declared.gimp.Segment.{Segment}
 use Rattle.segment.specs.declared.SegmentRead.{SegmentRead}
 use Rattle.segment.specs.declared.SegmentRead.the-variants.{Valid, Fault}
 use Rattle.segment.specs.Line.{segmentOf}
-use Rattle.segment.proofs.Carried.{carriedOf, line-carried}
+use Rattle.gradient.specs.Gimp.{carriedOf}
+use Rattle.segment.proofs.Carried.{line-carried}
 use Rattle.header.specs.Head.{Head, counts, fails, headOf}
 use Rattle.header.proofs.Fits.{head-fits}
 use Rattle.ggr.specs.declared.Answer.the-variants.{Read}

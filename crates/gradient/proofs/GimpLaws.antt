@@ -12,12 +12,13 @@ use borrow.Author.Tests.{leb-true, eqb-true, eq-eqb, ne-eqb}
 use Rattle.refusals.specs.Refusals.{misshapen, notFinite}
 use Rattle.refusals.specs.Limits.{mostSegments}
 use Rattle.float.proofs.Flags.{both-l, both-r}
+use Rattle.sine.specs.Wave.{waveOf}
 use Rattle.blend.specs.Blend.{linear, black}
 use Rattle.blend.specs.Finite.{allFinite}
 use Rattle.blend.specs.declared.Rgba.{Rgba}
 use Rattle.stops.specs.Stops.{colourAt}
 use Rattle.stops.specs.declared.Checked.the-variants.{Fine, Refused}
-use Rattle.gradient.specs.Gimp.{segments, leftAt, middleAt, rightAt, blendingAt, colouringAt, stepCode, increasingCode, decreasingCode, carried, allCarried, gimpShaped, gimpCheck, segmentFound, along, linearFactor, increasing, decreasing, bent, blended, gimpSegment, segmentColour, offDomain, gimpColour}
+use Rattle.gradient.specs.Gimp.{segments, leftAt, middleAt, rightAt, blendingAt, colouringAt, stepCode, sinusoidalCode, increasingCode, decreasingCode, inOrder, carried, carriedAt, allCarried, gimpShaped, gimpCheck, segmentFound, along, linearFactor, increasing, decreasing, bent, blended, gimpSegment, segmentColour, offDomain, gimpColour}
 use Rattle.gradient.specs.declared.gimp.Segment.{Segment}
 
 -- ---- a code past the end
@@ -25,23 +26,23 @@ pub no-code : (ks : List ℕ) (i : ℕ) → length ks ≤ i → 0 ≡ getD ks i 
 no-code ks i h = sym (List·getD-eq-default ks 0 h)
 
 -- ---- the kinds, one by one
-module _ (n i : ℕ) (ks : List ℕ) where
-  carried-step : i < n → allCarried (n - i) i ks ≡ (carried (blendingAt ks i) (colouringAt ks i) && allCarried (n - (i + 1)) (i + 1) ks)
+module _ (n i : ℕ) (ps : List Float) (ks : List ℕ) where
+  carried-step : i < n → allCarried (n - i) i ps ks ≡ (carriedAt ps ks i && allCarried (n - (i + 1)) (i + 1) ps ks)
   unfolding allCarried
-  carried-step h = let e : n - i ≡ suc (n - (i + 1)) = omega arith in ap (λ (k : ℕ). allCarried k i ks) e ∙ simp add-one
+  carried-step h = let e : n - i ≡ suc (n - (i + 1)) = omega arith in ap (λ (k : ℕ). allCarried k i ps ks) e ∙ simp add-one
 
-  pub carried-not : i < n → carried (blendingAt ks i) (colouringAt ks i) ≡ false → allCarried (n - i) i ks ≡ false
+  pub carried-not : i < n → carriedAt ps ks i ≡ false → allCarried (n - i) i ps ks ≡ false
   carried-not h a = carried-step h ∙ simp a
 
-  pub carried-next : i < n → carried (blendingAt ks i) (colouringAt ks i) ≡ true → allCarried (n - i) i ks ≡ allCarried (n - (i + 1)) (i + 1) ks
+  pub carried-next : i < n → carriedAt ps ks i ≡ true → allCarried (n - i) i ps ks ≡ allCarried (n - (i + 1)) (i + 1) ps ks
   carried-next h a = carried-step h ∙ simp a
 
-  pub carried-end : n ≤ i → allCarried (n - i) i ks ≡ true
+  pub carried-end : n ≤ i → allCarried (n - i) i ps ks ≡ true
   unfolding allCarried
-  carried-end h = let e : n - i ≡ 0 = omega arith in ap (λ (k : ℕ). allCarried k i ks) e
+  carried-end h = let e : n - i ≡ 0 = omega arith in ap (λ (k : ℕ). allCarried k i ps ks) e
 
-pub carried-start : (n : ℕ) (ks : List ℕ) → allCarried (n - 0) 0 ks ≡ allCarried n 0 ks
-carried-start n ks = let e : n - 0 ≡ n = omega arith in ap (λ (k : ℕ). allCarried k 0 ks) e
+pub carried-start : (n : ℕ) (ps : List Float) (ks : List ℕ) → allCarried (n - 0) 0 ps ks ≡ allCarried n 0 ps ks
+carried-start n ps ks = let e : n - 0 ≡ n = omega arith in ap (λ (k : ℕ). allCarried k 0 ps ks) e
 
 -- ---- the check
 pub record Shape (n p c k : ℕ) : Type 0 where
@@ -70,7 +71,7 @@ module _ (ps cs : List Float) (ks : List ℕ) where
   fits = gimpShaped (segments ps) (length ps) (length cs) (length ks)
 
   abbrev kinds : Bool
-  kinds = allCarried (segments ps) 0 ks
+  kinds = allCarried (segments ps) 0 ps ks
 
   pub check-shape : fits ≡ false → Refused misshapen ≡ gimpCheck ps cs ks
   unfolding gimpCheck
@@ -111,9 +112,13 @@ module _ (k : ℕ) (f : Float) {z : Float} where
   unfolding bent
   bent-decreasing a b e = e ∙ simp (ne-eqb k increasingCode a, eq-eqb k decreasingCode b)
 
-pub bent-not : (k : ℕ) (f : Float) → (k ≡ increasingCode → ⊥) → (k ≡ decreasingCode → ⊥) → f ≡ bent k f
+  pub bent-wave : (k ≡ increasingCode → ⊥) → (k ≡ decreasingCode → ⊥) → k ≡ sinusoidalCode → z ≡ waveOf f → z ≡ bent k f
+  unfolding bent
+  bent-wave a b d e = e ∙ simp (ne-eqb k increasingCode a, ne-eqb k decreasingCode b, eq-eqb k sinusoidalCode d)
+
+pub bent-not : (k : ℕ) (f : Float) → (k ≡ increasingCode → ⊥) → (k ≡ decreasingCode → ⊥) → (k ≡ sinusoidalCode → ⊥) → f ≡ bent k f
 unfolding bent
-bent-not k f a b = simp (ne-eqb k increasingCode a, ne-eqb k decreasingCode b)
+bent-not k f a b d = simp (ne-eqb k increasingCode a, ne-eqb k decreasingCode b, ne-eqb k sinusoidalCode d)
 
 module _ (g : Segment) (pivot place : Float) where
   pub step-right : g .blending ≡ stepCode → le pivot place ≡ true → g .rcolor ≡ blended g pivot place

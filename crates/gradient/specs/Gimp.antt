@@ -1,4 +1,4 @@
--- GIMP segments: their check, and their colour at t. The evaluation of item 6 of document 01's 'Ramps carried', and the last point of 'What a GIMP file may hold'.
+-- GIMP segments: their check, and their colour at t. The evaluation of item 6 of document 01's 'Ramps carried', and the last point of 'What a GIMP file may hold'; document 02 (i).
 -- Segment i has positions 3i, 3i + 1, 3i + 2 (left, middle, right), channels 8i to 8i + 7 (left r g b a, right r g b a) and codes 2i, 2i + 1 (blending, colouring).
 -- Past the end of a list a number is not-a-number and a code is 0, so that any lists at all have a colour.
 use Prim.Native.Nat.{ℕ, zero, suc, _+_, _*_, _/_}
@@ -11,6 +11,7 @@ use Rattle.refusals.specs.Refusals.{misshapen, notFinite}
 use Rattle.refusals.specs.Limits.{mostSegments}
 use Rattle.float.specs.F32.{_⊕_, _⊖_, _⊗_, _⊘_, f0, f1, half, epsilon}
 use Rattle.sqrt.specs.Root.{rootOf}
+use Rattle.sine.specs.Wave.{waveOf}
 use Rattle.blend.specs.Blend.{linear, black}
 use Rattle.blend.specs.Finite.{allFinite}
 use Rattle.blend.specs.declared.Rgba.{Rgba}
@@ -50,9 +51,12 @@ gimpSegment ps cs ks i = record {
   colouring = colouringAt ks i;
 }
 
--- ---- the kinds carried: blending linear, spherical increasing, spherical decreasing, step; colouring RGB
+-- ---- the kinds carried: blending linear, sinusoidal, spherical increasing, spherical decreasing, step; colouring RGB
 abbrev pub linearCode : ℕ
 linearCode = 0
+
+abbrev pub sinusoidalCode : ℕ
+sinusoidalCode = 2
 
 abbrev pub increasingCode : ℕ
 increasingCode = 3
@@ -66,14 +70,29 @@ stepCode = 5
 abbrev pub rgbCode : ℕ
 rgbCode = 0
 
-unfoldable pub carried : ℕ → ℕ → Bool
-carried blending colouring = eqb colouring rgbCode && (eqb blending linearCode || eqb blending increasingCode || eqb blending decreasingCode || eqb blending stepCode)
+-- the middle is not outside the ends. Values are compared, so that -0 is 0
+abbrev pub inOrder : Float → Float → Float → Bool
+inOrder left middle right = le left middle && le middle right
+
+-- A sinusoidal segment is carried where its middle is not outside its ends: document 02 (i). Of the others nothing is asked but the codes.
+unfoldable pub carried : ℕ → ℕ → Float → Float → Float → Bool
+carried blending colouring left middle right =
+    eqb colouring rgbCode
+    && cond (eqb blending sinusoidalCode) (inOrder left middle right)
+    (eqb blending linearCode || eqb blending increasingCode || eqb blending decreasingCode || eqb blending stepCode)
+
+abbrev pub carriedOf : Segment → Bool
+carriedOf g = carried (g .blending) (g .colouring) (g .left) (g .middle) (g .right)
 
 -- ---- the check
+-- segment i
+abbrev pub carriedAt : List Float → List ℕ → ℕ → Bool
+carriedAt ps ks i = carried (blendingAt ks i) (colouringAt ks i) (leftAt ps i) (middleAt ps i) (rightAt ps i)
+
 -- the next `left` segments, from segment i on
-unfoldable pub allCarried : ℕ → ℕ → List ℕ → Bool
-allCarried zero i ks = true
-allCarried (suc left) i ks = carried (blendingAt ks i) (colouringAt ks i) && allCarried left (suc i) ks
+unfoldable pub allCarried : ℕ → ℕ → List Float → List ℕ → Bool
+allCarried zero i ps ks = true
+allCarried (suc left) i ps ks = carriedAt ps ks i && allCarried left (suc i) ps ks
 
 -- n segments, one to the most, and lengths that agree with it: positions, channels, codes
 unfoldable pub gimpShaped : ℕ → ℕ → ℕ → ℕ → Bool
@@ -82,7 +101,7 @@ gimpShaped n p c k = leb 1 n && leb n mostSegments && eqb p (3 * n) && eqb c (8 
 -- all of 1, then 2. Falling positions are not asked after
 unfoldable pub gimpCheck : List Float → List Float → List ℕ → Checked
 gimpCheck ps cs ks =
-    cond (gimpShaped (segments ps) (length ps) (length cs) (length ks) && allCarried (segments ps) 0 ks)
+    cond (gimpShaped (segments ps) (length ps) (length cs) (length ks) && allCarried (segments ps) 0 ps ks)
     (cond (allFinite ps && allFinite cs) Fine (Refused notFinite))
     (Refused misshapen)
 
@@ -119,9 +138,11 @@ increasing f = rootOf (f1 ⊖ (f ⊖ f1) ⊗ (f ⊖ f1))
 unfoldable pub decreasing : Float → Float
 decreasing f = f1 ⊖ rootOf (f1 ⊖ f ⊗ f)
 
--- a blending that is not carried is taken as linear
+-- sinusoidal is the table's wave, which clamps the factor first; a blending that is not carried is taken as linear
 unfoldable pub bent : ℕ → Float → Float
-bent blending f = cond (eqb blending increasingCode) (increasing f) (cond (eqb blending decreasingCode) (decreasing f) f)
+bent blending f =
+    cond (eqb blending increasingCode) (increasing f)
+    (cond (eqb blending decreasingCode) (decreasing f) (cond (eqb blending sinusoidalCode) (waveOf f) f))
 
 -- ---- the colour
 -- the one rule of blending: a segment's colour at a place, where `pivot` is the place of its middle. A step gives one of the two colours itself, and a colouring

@@ -1,4 +1,5 @@
 // How a GIMP segment's left colour turns into its right one.
+use crate::gimp::SINUSOIDAL;
 use crate::gimp::SPHERICAL_DECREASING;
 use crate::gimp::SPHERICAL_INCREASING;
 use crate::gimp::STEP;
@@ -57,6 +58,9 @@ fn bend(blending: u8, f: f32) -> f32
     }
     if blending == SPHERICAL_DECREASING {
         return spherical_decreasing(f);
+    }
+    if blending == SINUSOIDAL {
+        return sine::wave(f);
     }
     f
 }

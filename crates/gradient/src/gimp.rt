@@ -8,16 +8,18 @@ use refusals::MOST_SEGMENTS;
 use refusals::NOT_FINITE;
 use stops::Checked;
 ghost use mathlib.Core.Path.{_≡_};
-ghost use Prim.Native.Nat.{_*_, _≤_};
+ghost use Prim.Native.Nat.{_*_, _≤_, _<_};
 ghost use lib.ListN.{length, getD};
 ghost use Rattle.refusals.specs.Limits.{mostSegments};
 ghost use Rattle.stops.specs.Answers.{Checks};
-ghost use Rattle.gradient.specs.Gimp.{segments, carried, allCarried, gimpShaped, gimpCheck, segmentFound, gimpSegment, offDomain, gimpColour};
+ghost use Rattle.gradient.specs.Gimp.{segments, inOrder, carried, carriedAt, allCarried, gimpShaped, gimpCheck, segmentFound, gimpSegment, offDomain, gimpColour};
 pub use crate::blending::blend;
 pub use crate::blending::place_along;
 
 // The codes carried: of blending, and of colouring.
 pub const LINEAR: u8 = 0;
+
+pub const SINUSOIDAL: u8 = 2;
 
 pub const SPHERICAL_INCREASING: u8 = 3;
 
@@ -39,11 +41,25 @@ pub struct Segment {
     pub colouring: u8,
 }
 
-pub fn is_carried(blending: u8, colouring: u8) -> bool
-    ensures { λ r. ⌜ r ≡ carried blending colouring ⌝ }
+// Whether the middle is not outside the ends.
+fn is_in_order(left: f32, middle: f32, right: f32) -> bool
+    ensures { λ r. ⌜ r ≡ inOrder left middle right ⌝ }
+{
+    if left <= middle {
+        return middle <= right;
+    }
+    false
+}
+
+// Whether a segment with these codes and positions is of a kind carried. Of a sinusoidal one the positions are asked too.
+pub fn is_carried(blending: u8, colouring: u8, left: f32, middle: f32, right: f32) -> bool
+    ensures { λ r. ⌜ r ≡ carried blending colouring left middle right ⌝ }
 {
     if colouring != RGB {
         return false;
+    }
+    if blending == SINUSOIDAL {
+        return is_in_order(left, middle, right);
     }
     if blending == LINEAR {
         return true;
@@ -57,13 +73,29 @@ pub fn is_carried(blending: u8, colouring: u8) -> bool
     blending == STEP
 }
 
-fn are_carried(codes: &[u8], n: usize) -> bool
-    requires { ⌜ (n ≤ mostSegments) × (length (now codes) ≡ 2 * n) ⌝ }
-    ensures { λ r. ⌜ r ≡ allCarried n 0 (now (codes .entry)) ⌝ }
+// The same of segment i of the lists.
+fn is_carried_at(positions: &[f32], codes: &[u8], i: usize, n: usize) -> bool
+    requires { ⌜ (i < n) × (n ≤ mostSegments) × (length (now positions) ≡ 3 * n) × (length (now codes) ≡ 2 * n) ⌝ }
+    ensures { λ r. ⌜ r ≡ carriedAt (now (positions .entry)) (now (codes .entry)) i ⌝ }
+{
+    let p = 3 * i;
+    let k = 2 * i;
+    is_carried(
+        codes[k],
+        codes[k + 1],
+        positions[p],
+        positions[p + 1],
+        positions[p + 2],
+    )
+}
+
+fn are_carried(positions: &[f32], codes: &[u8], n: usize) -> bool
+    requires { ⌜ (n ≤ mostSegments) × (length (now positions) ≡ 3 * n) × (length (now codes) ≡ 2 * n) ⌝ }
+    ensures { λ r. ⌜ r ≡ allCarried n 0 (now (positions .entry)) (now (codes .entry)) ⌝ }
 {
     let mut i = 0;
     while i < n {
-        if !is_carried(codes[2 * i], codes[2 * i + 1]) {
+        if !is_carried_at(positions, codes, i, n) {
             return false;
         }
         i += 1;
@@ -98,7 +130,7 @@ pub fn check(positions: &[f32], channels: &[f32], codes: &[u8]) -> Checked
     if !is_shaped(n, positions.len(), channels.len(), codes.len()) {
         return Checked::Refused(MISSHAPEN);
     }
-    if !are_carried(codes, n) {
+    if !are_carried(positions, codes, n) {
         return Checked::Refused(MISSHAPEN);
     }
     if !utils::all_finite(positions) {

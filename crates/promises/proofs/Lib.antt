@@ -5,6 +5,7 @@ pub mod Float
 pub mod Slices
 pub mod WholeRoot
 pub mod Sqrt
+pub mod Sine
 pub mod Decimal
 pub mod Text
 pub mod Rows

@@ -9,15 +9,12 @@ use lib.Dec.{eqb}
 use lib.Ieee.{Float, nan}
 use Rattle.refusals.specs.Refusals.{badSegment, notCarried}
 use Rattle.blend.specs.declared.Rgba.{Rgba}
-use Rattle.gradient.specs.Gimp.{carried}
+use Rattle.gradient.specs.Gimp.{carriedOf}
 use Rattle.gradient.specs.declared.gimp.Segment.{Segment}
 use Rattle.rows.specs.Rows.{Numbers, all, none}
 use Rattle.segment.specs.declared.SegmentRead.{SegmentRead}
 use Rattle.segment.specs.declared.SegmentRead.the-variants.{Valid, Fault}
 use Rattle.segment.specs.Line.{codeOf, validCodes, endColour, judge, build, fromNumbers, segmentOf}
-
-abbrev pub carriedOf : Segment → Bool
-carriedOf g = carried (g .blending) (g .colouring)
 
 no-segment : {X : Type 0} {g : Segment} {o : SegmentRead} {a : ℕ} → o ≡ Valid g → o ≡ Fault a → X
 no-segment e f = absurd (let z : _≡_ {A = ℕ} 0 1 = cc in omega arith)

@@ -18,7 +18,7 @@ use Rattle.float.specs.Number.{wholeOf}
 use Rattle.blend.specs.declared.Rgba.{Rgba}
 use Rattle.gradient.specs.declared.gimp.Segment.{Segment}
 use Rattle.segment.specs.declared.SegmentRead.the-variants.{Valid, Fault}
-use Rattle.gradient.specs.Gimp.{carried}
+use Rattle.gradient.specs.Gimp.{carriedOf}
 use Rattle.segment.specs.Line.{cut, codeOf, validCodes, endColour, judge, build}
 
 -- a key of a `match` on an i64 is its bits
@@ -53,10 +53,10 @@ module _ (fg bg : Rgba) (d : List Float) (b k l r : ℕ)
     unfolding build
     by = rw (← eb, ← ek, ← el, ← er, h, ← ep, ← eq)
 
-    pub build-valid : carried (segmentBy p q .blending) (segmentBy p q .colouring) ≡ true → Valid (segmentBy p q) ≡ build fg bg d
+    pub build-valid : carriedOf (segmentBy p q) ≡ true → Valid (segmentBy p q) ≡ build fg bg d
     unfolding judge
     build-valid c = sym (ap (λ (t : Bool). cond t (Valid (segmentBy p q)) (Fault notCarried)) c) ∙ by
 
-    pub build-not : carried (segmentBy p q .blending) (segmentBy p q .colouring) ≡ false → Fault notCarried ≡ build fg bg d
+    pub build-not : carriedOf (segmentBy p q) ≡ false → Fault notCarried ≡ build fg bg d
     unfolding judge
     build-not c = sym (ap (λ (t : Bool). cond t (Valid (segmentBy p q)) (Fault notCarried)) c) ∙ by

@@ -1,4 +1,4 @@
--- A segment line of a GIMP file: 12, then 16. Document 01, 'What a GIMP file may hold'.
+-- A segment line of a GIMP file: 12, then 16. Document 01, 'What a GIMP file may hold'; document 02 (i).
 use Prim.Native.Nat.{ℕ, min}
 use mathlib.Core.Path.{_≡_}
 use mathlib.Core.Bool.{Bool, not, cond, _&&_}
@@ -11,7 +11,7 @@ use Rattle.refusals.specs.Refusals.{badSegment, notCarried}
 use Rattle.float.specs.F32.{f0}
 use Rattle.float.specs.Number.{wholeOf}
 use Rattle.blend.specs.declared.Rgba.{Rgba}
-use Rattle.gradient.specs.Gimp.{carried}
+use Rattle.gradient.specs.Gimp.{carriedOf}
 use Rattle.gradient.specs.declared.gimp.Segment.{Segment}
 use Rattle.segment.specs.declared.SegmentRead.{SegmentRead}
 use Rattle.segment.specs.declared.SegmentRead.the-variants.{Valid, Fault}
@@ -43,9 +43,9 @@ endColour code own fg bg =
 
 -- ---- the segment
 
--- of a kind that is carried: not curved, not sinusoidal, not HSV; or 16
+-- of a kind that is carried: not curved, not HSV, and if sinusoidal with a middle that is not outside its ends; or 16
 unfoldable pub judge : Segment → SegmentRead
-judge g = cond (carried (g .blending) (g .colouring)) (Valid g) (Fault notCarried)
+judge g = cond (carriedOf g) (Valid g) (Fault notCarried)
 
 -- of 15 numbers: left, middle and right position; four left channels; four right; blending; colouring; left and right colour code
 unfoldable pub build : Rgba → Rgba → List Float → SegmentRead

@@ -113,7 +113,7 @@ fn built(d: [f32; 15], fg: Rgba, bg: Rgba) -> SegmentRead
         blending,
         colouring,
     };
-    if gimp::is_carried(blending, colouring) {
+    if gimp::is_carried(blending, colouring, g.left, g.middle, g.right) {
         return SegmentRead::Valid(g);
     }
     SegmentRead::Fault(NOT_CARRIED)

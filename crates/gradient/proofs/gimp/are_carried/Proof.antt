@@ -11,37 +11,22 @@ use Rattle.gradient.proofs.gimp.are_carried.Statement.{statement}
 use Rattle.gradient.proofs.gimp.are_carried.Tie as tie
 
 abbrev Inv-loop : tie.InvT-loop
-Inv-loop codes n i₀ i = (i ≤ n) × (allCarried (n - i) i codes ≡ allCarried n 0 codes)
+Inv-loop positions codes n i₀ i = (i ≤ n) × (allCarried (n - i) i positions codes ≡ allCarried n 0 positions codes)
 
 abbrev μ-loop : tie.MeasureT-loop
-μ-loop codes n i₀ i = n - i
+μ-loop positions codes n i₀ i = n - i
 
 loop-holds : tie.Need-loop-holds Inv-loop μ-loop
-loop-holds c = (omega arith, carried-start (c .before .args .n) (now (c .before .args .codes)))
+loop-holds c = (omega arith, carried-start (c .before .before .args .n) (now (c .before .before .args .positions)) (now (c .before .before .args .codes)))
 
-mul-is-carried : tie.Need-mul-is-carried Inv-loop μ-loop
-mul-is-carried c = omega arith
-
-shared-slice-read-is-carried : tie.Need-shared-slice-read-is-carried Inv-loop μ-loop
-shared-slice-read-is-carried c = omega arith
-
-mul-is-carried-2 : tie.Need-mul-is-carried-2 Inv-loop μ-loop
-mul-is-carried-2 c = omega arith
-
-add-is-carried : tie.Need-add-is-carried Inv-loop μ-loop
-add-is-carried c = omega arith
-
-shared-slice-read-is-carried-2 : tie.Need-shared-slice-read-is-carried-2 Inv-loop μ-loop
-shared-slice-read-is-carried-2 c = omega arith
-
-is-carried-requires : tie.Need-is-carried-requires Inv-loop μ-loop
-is-carried-requires c κs = search needs
+is-carried-at-requires : tie.Need-is-carried-at-requires Inv-loop μ-loop
+is-carried-at-requires c κs = search needs
 
 returns : tie.Need-returns Inv-loop μ-loop
 returns c =
-    let l = c .before .before .before .before .before in
-    let a = l .before .before .args in
-    sym (carried-not (a .n) (l .loop .i) (now (a .codes)) (c .before .before .before .before .loop-test .taken) (failed (c .if1 .taken) (c .before .is-carried .ensures))) ∙ l .loop .inv .1
+    let l = c .before .before .before in
+    let a = l .before .before .before .args in
+    sym (carried-not (a .n) (l .loop .i) (now (a .positions)) (now (a .codes)) (c .before .before .loop-test .taken) (failed (c .if1 .taken) (c .before .is-carried-at .ensures))) ∙ l .loop .inv .1
 
 add-i : tie.Need-add-i Inv-loop μ-loop
 add-i c = omega arith
@@ -51,13 +36,13 @@ loop-less c = omega arith
 
 loop-again : tie.Need-loop-again Inv-loop μ-loop
 loop-again c =
-    let l = c .before .before .before .before .before in
-    let a = l .before .before .args in
-    let h = c .before .before .before .before .loop-test .taken in
-    (omega arith, sym (carried-next (a .n) (l .loop .i) (now (a .codes)) h (passed (c .if1 .left) (c .before .is-carried .ensures))) ∙ l .loop .inv .1)
+    let l = c .before .before .before in
+    let a = l .before .before .before .args in
+    let h = c .before .before .loop-test .taken in
+    (omega arith, sym (carried-next (a .n) (l .loop .i) (now (a .positions)) (now (a .codes)) h (passed (c .if1 .left) (c .before .is-carried-at .ensures))) ∙ l .loop .inv .1)
 
 returns-2 : tie.Need-returns-2 Inv-loop μ-loop
-returns-2 c = let l = c .before in let a = l .before .before .args in sym (carried-end (a .n) (l .loop .i) (now (a .codes)) (c .loop-test .left)) ∙ l .loop .inv .1
+returns-2 c = let l = c .before in let a = l .before .before .before .args in sym (carried-end (a .n) (l .loop .i) (now (a .positions)) (now (a .codes)) (c .loop-test .left)) ∙ l .loop .inv .1
 
 pub are-carried-spec : {M : Type 1} → statement M
 are-carried-spec =
@@ -66,12 +51,7 @@ are-carried-spec =
     Inv-loop
     μ-loop
     loop-holds
-    mul-is-carried
-    shared-slice-read-is-carried
-    mul-is-carried-2
-    add-is-carried
-    shared-slice-read-is-carried-2
-    is-carried-requires
+    is-carried-at-requires
     returns
     add-i
     loop-less

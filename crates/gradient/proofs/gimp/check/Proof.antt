@@ -22,7 +22,7 @@ are-carried-requires : tie.Need-are-carried-requires
 are-carried-requires c κs =
     let a = c .before .before .before .before .before .args in
     let s = shape (length (now (a .positions)) / 3) (length (now (a .positions))) (length (now (a .channels))) (length (now (a .codes))) (passed (c .if1 .left) (c .before .is-shaped .ensures)) in
-    (s .most, s .codes)
+    (s .most, s .positions, s .codes)
 
 returns-2 : tie.Need-returns-2
 returns-2 c =
