@@ -8,7 +8,8 @@
 #define RAMP \
     uint32_t kind, const float *positions, size_t positions_length, const float *channels, size_t channels_length, \
         const uint8_t *codes, size_t codes_length
-#define RECORD float *rows, size_t rows_length, uint8_t *counts, size_t counts_length
+#define RECORD \
+    float *rows, size_t rows_length, uint8_t *counts, size_t counts_length, uint32_t *marks, size_t marks_length
 #define STOPS float *places, size_t places_length, float *colours, size_t colours_length
 #define LENT kind, positions, positions_length, channels, channels_length, codes, codes_length
 
@@ -38,8 +39,8 @@ static size_t faulty_desk(const uint8_t *input, size_t input_length, uint8_t *ou
 #elif FAULT == 3
 static ColorgradListed faulty_flatten(RAMP, float threshold, RECORD, STOPS)
 {
-    ColorgradListed made = colorgrad_flatten(LENT, threshold, rows, rows_length, counts, counts_length, places,
-                                             places_length, colours, colours_length);
+    ColorgradListed made = colorgrad_flatten(LENT, threshold, rows, rows_length, counts, counts_length, marks,
+                                             marks_length, places, places_length, colours, colours_length);
     if (made.refusal == 0 && counts[35] < 128)
         rows[35 * 128 + counts[35]] = 7.5f;
     return made;
@@ -54,7 +55,7 @@ static float *kept(const float *rows, size_t rows_length, const uint8_t *counts,
     memcpy(was + rows_length, counts, counts_length);
     return was;
 }
-static void put_back(float *was, RECORD)
+static void put_back(float *was, float *rows, size_t rows_length, uint8_t *counts, size_t counts_length)
 {
     memcpy(rows, was, rows_length * sizeof(float));
     memcpy(counts, was + rows_length, counts_length);
@@ -63,7 +64,8 @@ static void put_back(float *was, RECORD)
 static ColorgradSampled faulty_refresh(RAMP, size_t stop, ColorgradRgba colour, float threshold, RECORD)
 {
     float *was = kept(rows, rows_length, counts, counts_length);
-    ColorgradSampled made = colorgrad_refresh(LENT, stop, colour, threshold, rows, rows_length, counts, counts_length);
+    ColorgradSampled made =
+        colorgrad_refresh(LENT, stop, colour, threshold, rows, rows_length, counts, counts_length, marks, marks_length);
     put_back(was, rows, rows_length, counts, counts_length);
     return made;
 }
@@ -71,7 +73,7 @@ static ColorgradListed faulty_refresh_list(RAMP, size_t stop, ColorgradRgba colo
 {
     float *was = kept(rows, rows_length, counts, counts_length);
     ColorgradListed made = colorgrad_refresh_list(LENT, stop, colour, threshold, rows, rows_length, counts, counts_length,
-                                                  places, places_length, colours, colours_length);
+                                                  marks, marks_length, places, places_length, colours, colours_length);
     put_back(was, rows, rows_length, counts, counts_length);
     return made;
 }

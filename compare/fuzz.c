@@ -281,7 +281,7 @@ static void drop(Ramp ramp)
 }
 
 typedef struct {
-    Lent rows, counts, places, colours;
+    Lent rows, counts, marks, places, colours;
 } Desk;
 
 static Desk desk_of(size_t rows, size_t counts, size_t places, size_t colours)
@@ -289,6 +289,7 @@ static Desk desk_of(size_t rows, size_t counts, size_t places, size_t colours)
     Desk desk;
     desk.rows = lend(rows * sizeof(float));
     desk.counts = lend(counts);
+    desk.marks = lend(COLORGRAD_MARKS * sizeof(uint32_t));
     desk.places = lend(places * sizeof(float));
     desk.colours = lend(colours * sizeof(float));
     return desk;
@@ -299,7 +300,9 @@ static Desk roomy(void)
     return desk_of(COLORGRAD_ROWS, COLORGRAD_CELLS, COLORGRAD_MOST_POINTS, 4 * COLORGRAD_MOST_POINTS);
 }
 
-#define LENT_RECORD(d) items((d).rows), (d).rows.bytes / sizeof(float), items((d).counts), (d).counts.bytes
+#define LENT_RECORD(d) \
+    items((d).rows), (d).rows.bytes / sizeof(float), items((d).counts), (d).counts.bytes, items((d).marks), \
+        (d).marks.bytes / sizeof(uint32_t)
 #define LENT_STOPS(d) \
     items((d).places), (d).places.bytes / sizeof(float), items((d).colours), (d).colours.bytes / sizeof(float)
 
@@ -307,6 +310,7 @@ static void clear_desk(Desk desk)
 {
     give_back(desk.rows);
     give_back(desk.counts);
+    give_back(desk.marks);
     give_back(desk.places);
     give_back(desk.colours);
 }
@@ -315,7 +319,8 @@ static bool same_record(Desk a, Desk b)
 {
     return a.rows.bytes == b.rows.bytes && a.counts.bytes == b.counts.bytes &&
            memcmp(items(a.rows), items(b.rows), a.rows.bytes) == 0 &&
-           memcmp(items(a.counts), items(b.counts), a.counts.bytes) == 0;
+           memcmp(items(a.counts), items(b.counts), a.counts.bytes) == 0 &&
+           memcmp(items(a.marks), items(b.marks), a.marks.bytes) == 0;
 }
 
 /* Counts of 1 to 128, and +0 after them in each row. */
@@ -333,6 +338,21 @@ static void check_record(Desk desk)
     }
 }
 
+/* The bits of the threshold in force and of both ends. */
+static void marks_of(uint32_t *marks, Ramp ramp, float threshold)
+{
+    ColorgradDomain domain = colorgrad_domain(LENT_RAMP(ramp));
+    float own[COLORGRAD_MARKS] = {colorgrad_threshold(threshold), domain.min, domain.max};
+    memcpy(marks, own, sizeof own);
+}
+
+static void check_marks(Desk desk, Ramp ramp, float threshold)
+{
+    uint32_t own[COLORGRAD_MARKS];
+    marks_of(own, ramp, threshold);
+    expect(memcmp(items(desk.marks), own, sizeof own) == 0, "the words of a sampling");
+}
+
 static bool is_finite(float x)
 {
     return x - x == 0.0f;
@@ -343,12 +363,13 @@ static void check_list(ColorgradListed made, Desk desk, Ramp ramp)
 {
     const float *places = items(desk.places), *colours = items(desk.colours);
     size_t n = made.stops;
-    if (made.refusal >= 7) {
-        expect(made.refusal <= 9 && n == 0 && made.evaluations == 0, "a refusal of a list");
+    if (made.refusal >= COLORGRAD_NO_ROOM && made.refusal <= COLORGRAD_LIST_FALLING) {
+        expect(n == 0 && made.evaluations == 0, "a refusal of a list");
         expect(is_all(desk.places, 0, 0) && is_all(desk.colours, 0, 0), "it sets zero");
         return;
     }
     if (made.refusal != 0) {
+        expect(made.refusal <= 6 || made.refusal == COLORGRAD_OTHER_THRESHOLD, "a refusal before the list");
         expect(n == 0 && made.evaluations == 0, "a refusal counts nothing");
         expect(is_all(desk.places, 0, RUBBISH) && is_all(desk.colours, 0, RUBBISH), "it changes no output");
         return;
@@ -380,12 +401,15 @@ static void fuzz_flatten(Bytes in)
     check_list(made, desk, ramp);
     if (made.refusal >= 1 && made.refusal <= 6) {
         expect(made.refusal <= 5 && sampled.refusal == made.refusal, "sampling is refused alike");
-        expect(is_all(desk.rows, 0, RUBBISH) && is_all(desk.counts, 0, RUBBISH), "the record stays");
-        expect(is_all(twice.rows, 0, RUBBISH) && is_all(twice.counts, 0, RUBBISH), "the record stays");
+        expect(is_all(desk.rows, 0, RUBBISH) && is_all(desk.counts, 0, RUBBISH) && is_all(desk.marks, 0, RUBBISH),
+               "the record stays");
+        expect(is_all(twice.rows, 0, RUBBISH) && is_all(twice.counts, 0, RUBBISH) && is_all(twice.marks, 0, RUBBISH),
+               "the record stays");
     } else {
         ColorgradListed thinned = colorgrad_thin(LENT_RAMP(ramp), ramp.threshold, LENT_RECORD(twice), LENT_STOPS(twice));
         expect(made.refusal != 9, "no list of our own sampling falls");
         check_record(desk);
+        check_marks(desk, ramp, ramp.threshold);
         expect(sampled.refusal == 0 && sampled.evaluations <= 13716 && same_record(desk, twice), "sampled alike");
         expect(thinned.refusal == made.refusal && thinned.stops == made.stops, "thinned alike");
         expect(made.refusal != 0 || sampled.evaluations + thinned.evaluations == made.evaluations, "evaluations add");
@@ -442,15 +466,24 @@ static void fuzz_refresh(Bytes in)
     ColorgradListed made;
     if (was_sampled)
         colorgrad_sample(LENT_RAMP(ramp), ramp.threshold, LENT_RECORD(before));
-    else
+    else {
         memset(items(before.counts), how, before.counts.bytes);
+        marks_of(items(before.marks), ramp, ramp.threshold);
+    }
+    /* one word in hand is another's */
+    if (how & 64)
+        ((uint32_t *)items(before.marks))[how >> 1 & 1] ^= 1u << (how >> 2 & 7);
     memcpy(items(desk.rows), items(before.rows), before.rows.bytes);
     memcpy(items(desk.counts), items(before.counts), before.counts.bytes);
+    memcpy(items(desk.marks), items(before.marks), before.marks.bytes);
     memcpy(items(again.rows), items(before.rows), before.rows.bytes);
     memcpy(items(again.counts), items(before.counts), before.counts.bytes);
+    memcpy(items(again.marks), items(before.marks), before.marks.bytes);
     refreshed = colorgrad_refresh(LENT_RAMP(ramp), stop, colour, ramp.threshold, LENT_RECORD(again));
     made = colorgrad_refresh_list(LENT_RAMP(ramp), stop, colour, ramp.threshold, LENT_RECORD(desk), LENT_STOPS(desk));
-    expect(refreshed.refusal <= 6 && refreshed.evaluations <= 13716, "a refresh in range");
+    expect((refreshed.refusal <= 6 || refreshed.refusal == COLORGRAD_OTHER_THRESHOLD) && refreshed.evaluations <= 13716,
+           "a refresh in range");
+    expect(!(how & 64) || refreshed.refusal != 0, "words of another's are refused");
     expect(same_record(desk, again), "both refresh alike");
     if (refreshed.refusal != 0) {
         expect(made.refusal == refreshed.refusal, "both are refused alike");

@@ -45,6 +45,7 @@ extern "C" {
 #define COLORGRAD_CELLS 36u            /* counts of a record */
 #define COLORGRAD_ROW 128u             /* numbers of each of its rows */
 #define COLORGRAD_ROWS 4608u           /* numbers of all its rows */
+#define COLORGRAD_MARKS 3u             /* words of a record */
 #define COLORGRAD_MOST_POINTS 4609u    /* stops of any list: with this room, 7 is never given */
 #define COLORGRAD_MOST_EVALUATIONS 32146u /* of colorgrad_flatten */
 #define COLORGRAD_MOST_TEXT 65536u     /* bytes of a GIMP text */
@@ -57,7 +58,7 @@ extern "C" {
 #define COLORGRAD_LEAST_THRESHOLD 0.001f
 #define COLORGRAD_GREATEST_THRESHOLD 0.035f
 
-/* ---- refusals; 0 is none. The first that holds is given: 1; then stop by stop 2, 3; then 4, 5, 6. */
+/* ---- refusals; 0 is none. The first that holds is given: 1; then stop by stop 2, 3; then 4, 5, 20, 6. */
 #define COLORGRAD_FINE 0u
 #define COLORGRAD_MISSHAPEN 1u
 #define COLORGRAD_NOT_FINITE 2u
@@ -77,6 +78,7 @@ extern "C" {
 #define COLORGRAD_NOT_CARRIED 16u
 #define COLORGRAD_NOT_BUILT 17u
 #define COLORGRAD_TORN 18u
+#define COLORGRAD_OTHER_THRESHOLD 20u
 
 /* What a refusal means, in one line of plain words; never null. */
 static inline const char *colorgrad_message(uint32_t refusal)
@@ -87,7 +89,7 @@ static inline const char *colorgrad_message(uint32_t refusal)
     case COLORGRAD_NOT_FINITE: return "a position or a channel is not a finite number";
     case COLORGRAD_FALLING: return "a stop lies before the one ahead of it";
     case COLORGRAD_FAR_DOMAIN: return "the domain reaches beyond 1e38";
-    case COLORGRAD_BAD_RECORD: return "the record is not 4,608 numbers and 36 counts of 1 to 128";
+    case COLORGRAD_BAD_RECORD: return "the record is not 4,608 numbers, 36 counts of 1 to 128 and 3 words";
     case COLORGRAD_BAD_EDIT: return "the edit names no stop, no finite colour, or a ramp that cannot be refreshed";
     case COLORGRAD_NO_ROOM: return "the output has no room for all of it";
     case COLORGRAD_LIST_NOT_FINITE: return "a stop of the list would not be finite";
@@ -101,6 +103,7 @@ static inline const char *colorgrad_message(uint32_t refusal)
     case COLORGRAD_NOT_CARRIED: return "a segment is curved or coloured by hue, or sinusoidal with its middle outside its ends";
     case COLORGRAD_NOT_BUILT: return "no sharp ramp can be built of so many colours on this domain";
     case COLORGRAD_TORN: return "the segments of the GIMP text do not run from 0 to 1, each joined to the next";
+    case COLORGRAD_OTHER_THRESHOLD: return "the record was sampled with another threshold or on another domain";
     default: return "no such refusal";
     }
 }
@@ -174,9 +177,11 @@ size_t colorgrad_name(const uint8_t *text, size_t text_length, uint8_t *out, siz
 
 /* ---- records and lists
  *
- * A record is COLORGRAD_ROWS numbers and COLORGRAD_CELLS counts, which sampling fills: how finely each of 36 cells of the
- * domain has to be cut. A list is made of it by thinning: stops that stand for the ramp when mixed linearly. Evaluations
- * are how often the definition asks for a colour. */
+ * A record is COLORGRAD_ROWS numbers, COLORGRAD_CELLS counts and COLORGRAD_MARKS words, which sampling fills: how finely
+ * each of 36 cells of the domain has to be cut; and what it was sampled with, as the bits of the threshold that
+ * colorgrad_threshold gives, of min and of max. A list is made of it by thinning: stops that stand for the ramp when mixed
+ * linearly. To thin or refresh with another threshold in force, or a ramp on another domain, is refused with 20.
+ * Evaluations are how often the definition asks for a colour. */
 
 /* The refusal, or 0 and the evaluations. */
 typedef struct {
@@ -195,38 +200,41 @@ typedef struct {
 ColorgradSampled colorgrad_sample(uint32_t kind, const float *positions, size_t positions_length,
                                   const float *channels, size_t channels_length, const uint8_t *codes,
                                   size_t codes_length, float threshold, float *rows, size_t rows_length,
-                                  uint8_t *counts, size_t counts_length);
+                                  uint8_t *counts, size_t counts_length, uint32_t *marks, size_t marks_length);
 
 /* Makes the list of a record: places and, four channels each, colours; what lies past the last stop stays. Refused with
- * 1 to 5: both outputs stay as they were; with 7, 8 or 9: both are set to zero. */
+ * 1 to 5 or 20: both outputs stay as they were; with 7, 8 or 9: both are set to zero. */
 ColorgradListed colorgrad_thin(uint32_t kind, const float *positions, size_t positions_length, const float *channels,
                                size_t channels_length, const uint8_t *codes, size_t codes_length, float threshold,
                                const float *rows, size_t rows_length, const uint8_t *counts, size_t counts_length,
-                               float *places, size_t places_length, float *colours, size_t colours_length);
+                               const uint32_t *marks, size_t marks_length, float *places, size_t places_length,
+                               float *colours, size_t colours_length);
 
 /* Fills a record and makes its list. Refused with 1 to 5: nothing is changed; with 7, 8 or 9: the record is filled, both
  * outputs are set to zero. */
 ColorgradListed colorgrad_flatten(uint32_t kind, const float *positions, size_t positions_length,
                                   const float *channels, size_t channels_length, const uint8_t *codes,
                                   size_t codes_length, float threshold, float *rows, size_t rows_length,
-                                  uint8_t *counts, size_t counts_length, float *places, size_t places_length,
-                                  float *colours, size_t colours_length);
+                                  uint8_t *counts, size_t counts_length, uint32_t *marks, size_t marks_length,
+                                  float *places, size_t places_length, float *colours, size_t colours_length);
 
 /* The ramp as it was (linear or smoothstep), its record, and an edit: the colour that stop gets, counted from 0. Only the
- * cells that the edit touches are filled anew, with the threshold of the record; the record then equals one of the changed
- * ramp made afresh. The ramp itself is not written. Refused with 1 to 6: the record stays as it was. */
+ * cells that the edit touches are filled anew; the record then equals one of the changed ramp made afresh, and its words
+ * stay. The ramp itself is not written. Refused with 1 to 6 or 20: the record stays as it was. */
 ColorgradSampled colorgrad_refresh(uint32_t kind, const float *positions, size_t positions_length,
                                    const float *channels, size_t channels_length, const uint8_t *codes,
                                    size_t codes_length, size_t stop, ColorgradRgba colour, float threshold,
-                                   float *rows, size_t rows_length, uint8_t *counts, size_t counts_length);
+                                   float *rows, size_t rows_length, uint8_t *counts, size_t counts_length,
+                                   uint32_t *marks, size_t marks_length);
 
-/* Refreshes a record and makes the list of the changed ramp; its evaluations are those of both. Refused with 1 to 6:
- * nothing is changed; with 7, 8 or 9: the record is refreshed, both outputs are set to zero. */
+/* Refreshes a record and makes the list of the changed ramp; its evaluations are those of both. Refused with 1 to 6 or
+ * 20: nothing is changed; with 7, 8 or 9: the record is refreshed, both outputs are set to zero. */
 ColorgradListed colorgrad_refresh_list(uint32_t kind, const float *positions, size_t positions_length,
                                        const float *channels, size_t channels_length, const uint8_t *codes,
                                        size_t codes_length, size_t stop, ColorgradRgba colour, float threshold,
                                        float *rows, size_t rows_length, uint8_t *counts, size_t counts_length,
-                                       float *places, size_t places_length, float *colours, size_t colours_length);
+                                       uint32_t *marks, size_t marks_length, float *places, size_t places_length,
+                                       float *colours, size_t colours_length);
 
 /* ---- the tool, and the leaves below it */
 

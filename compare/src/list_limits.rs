@@ -50,6 +50,7 @@ fn records(ramp: &Ramp) -> Vec<Record> {
     let all = |count: u8, point: &dyn Fn(usize) -> f32| Record {
         rows: (0..CELLS * ROW).map(point).collect(),
         counts: vec![count; CELLS],
+        marks: oracle::marks((min, max), 0.007),
     };
     let part = |i: usize| i as f32 / (CELLS * ROW) as f32;
     let mut records = vec![

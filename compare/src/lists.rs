@@ -2,7 +2,7 @@
 
 use crate::list_limits;
 use crate::options::Options;
-use crate::oracle::{List, Record, CELLS, ROW};
+use crate::oracle::{List, Record, CELLS, MARKS, ROW};
 use crate::ramps::{random_or_spoilt, Kind, Ramp, KINDS};
 use crate::random::Random;
 use crate::report::{all_same, Tally};
@@ -29,7 +29,7 @@ fn one_kind(options: &Options, kind: Kind) -> [Tally; 2] {
         let room = random_room(&mut random);
         flattened(&mut flat, case, &ramp, threshold, room);
         if random.one_in(4) {
-            let mut record = random_record(&mut random, &ramp);
+            let mut record = random_record(&mut random, &ramp, threshold);
             if case % 8 == 0 {
                 record.counts[case as usize / 8 % CELLS] = if case % 16 == 0 { 0 } else { 129 };
             }
@@ -109,7 +109,7 @@ pub fn flattened(tally: &mut Tally, case: u64, ramp: &Ramp, threshold: f32, room
     tally.inputs(1);
     let mut positions = vec![RUBBISH; room.0];
     let mut channels = vec![RUBBISH; room.1];
-    let mut record = Record { rows: vec![RUBBISH; CELLS * ROW], counts: vec![99; CELLS] };
+    let mut record = Record { rows: vec![RUBBISH; CELLS * ROW], counts: vec![99; CELLS], marks: vec![9; MARKS] };
     let before = record.clone();
     let got = ours::flatten(ramp, threshold, &mut record, &mut positions, &mut channels);
     let refusal = early(ramp);
@@ -128,7 +128,7 @@ pub fn flattened(tally: &mut Tally, case: u64, ramp: &Ramp, threshold: f32, room
     list.evaluations += tries;
     tally.answered((emitted(&list, room).0 == 0) as u64);
     check_linearize(tally, case, &g, threshold, &list);
-    let sampled = all_same(&record.rows, &want.rows) && record.counts == want.counts;
+    let sampled = is_record(&record, &want);
     if !sampled || !agrees(got, &list, room, (&positions, &channels)) {
         tally.differs(case, || {
             let (stops, evaluations) = (list.stops.len(), list.evaluations);
@@ -155,12 +155,16 @@ fn same_stops(a: &[(f32, [f32; 4])], b: &[(f32, [f32; 4])]) -> bool {
     a.len() == b.len() && a.iter().zip(b).all(|(x, y)| all_same(&[x.0], &[y.0]) && all_same(&x.1, &y.1))
 }
 
-/// A record with valid counts, of points near the ramp, of rubbish, or both.
-pub fn random_record(random: &mut Random, ramp: &Ramp) -> Record {
+pub fn is_record(record: &Record, want: &Record) -> bool {
+    all_same(&record.rows, &want.rows) && (&record.counts, &record.marks) == (&want.counts, &want.marks)
+}
+
+/// A record with valid counts and the words of the ramp and the threshold, of points near the ramp, of rubbish, or both.
+pub fn random_record(random: &mut Random, ramp: &Ramp, threshold: f32) -> Record {
     let domain = if ramp.positions.is_empty() { (0.0, 1.0) } else { ramp.domain() };
     let wild = random.below(4);
     let long = random.one_in(4);
-    let mut record = Record { rows: Vec::new(), counts: Vec::new() };
+    let mut record = Record { rows: Vec::new(), counts: Vec::new(), marks: oracle::marks(domain, threshold) };
     for cell in 0..CELLS {
         let (left, right) = (oracle::edge(domain, cell), oracle::edge(domain, cell + 1));
         for i in 0..ROW {

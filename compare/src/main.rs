@@ -11,6 +11,7 @@ mod limits;
 mod list_limits;
 mod lists;
 mod many;
+mod marks;
 mod options;
 mod oracle;
 mod ordinary;
@@ -35,7 +36,7 @@ use std::path::Path;
 use std::process::ExitCode;
 
 const USAGE: &str = "compare COMMAND [N] [--seed S] [--case I]
-  roots tokens colours sine sharp texts counts torn lists refresh many   one comparison, of N inputs
+  roots tokens colours sine sharp texts counts torn lists refresh marks many   one comparison, of N inputs
   all [PERCENT]      every comparison, at its full size or at that part of it
   differences        the smallest inputs of docs/DIFFERENCES.md, with the Rust's answers and ours
   files FOLDER       the .ggr files in it, as compare/fetch gets them
@@ -46,7 +47,7 @@ const USAGE: &str = "compare COMMAND [N] [--seed S] [--case I]
 type Comparison = (&'static str, fn(&Options) -> Vec<Tally>, u64);
 
 /// Each comparison with its full size.
-const COMPARISONS: [Comparison; 11] = [
+const COMPARISONS: [Comparison; 12] = [
     ("roots", roots::run, 1 << 32),
     ("tokens", tokens::run, 100_000_000),
     ("colours", colours::run, 2_000_000),
@@ -57,6 +58,7 @@ const COMPARISONS: [Comparison; 11] = [
     ("torn", torn::run, 100_000),
     ("lists", lists::run, 20_000),
     ("refresh", refresh::run, 20_000),
+    ("marks", marks::run, 20_000),
     ("many", many::run, 4_000),
 ];
 

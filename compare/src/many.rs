@@ -31,7 +31,7 @@ pub fn run(options: &Options) -> Vec<Tally> {
         let [colours, lists, refreshes] = &mut of_sort;
         colours::compare(colours, case, &ramp, &points, false);
         flattened(lists, case, &ramp, threshold, ROOM);
-        let record = random_record(&mut random, &ramp);
+        let record = random_record(&mut random, &ramp, threshold);
         thinned(lists, case, &ramp, threshold, ROOM, &record);
         let edit = random_edit(&mut random, &ramp);
         kept(refreshes, case, &ramp, &edit, threshold, record);
@@ -86,6 +86,7 @@ fn calls(ramp: &Ramp) -> Vec<(&'static str, u32)> {
         // a record that may be thinned, also where the ramp was not sampled
         ("thin", {
             record.counts.iter_mut().for_each(|n| *n = (*n).max(1));
+            record.marks = crate::oracle::marks(ramp.domain(), 0.007);
             number(ours::thin(ramp, 0.007, &record, &mut places, &mut colours).err())
         }),
         ("refresh", number(ours::refresh(ramp, &edit, 0.007, &mut record).err())),

@@ -154,17 +154,19 @@ pub fn sharp_stops(channels: &[f32], domain: (f32, f32), softness: f32) -> Vec<(
 
 pub const CELLS: usize = 36;
 pub const ROW: usize = 128;
+pub const MARKS: usize = 3;
 
-/// A sample record: rows and counts.
+/// A sample record: rows, counts and words.
 #[derive(Clone, PartialEq, Debug)]
 pub struct Record {
     pub rows: Vec<f32>,
     pub counts: Vec<u8>,
+    pub marks: Vec<u32>,
 }
 
 impl Record {
     pub fn empty() -> Record {
-        Record { rows: vec![0.0; CELLS * ROW], counts: vec![0; CELLS] }
+        Record { rows: vec![0.0; CELLS * ROW], counts: vec![0; CELLS], marks: vec![0; MARKS] }
     }
 }
 
@@ -195,6 +197,7 @@ pub fn record(g: &Boxed, domain: (f32, f32), threshold: f32) -> (Record, usize) 
         made.counts[cell] = row.len() as u8;
         evaluations += count;
     }
+    made.marks = marks(domain, threshold);
     (made, evaluations)
 }
 
@@ -213,6 +216,11 @@ pub fn thinned(g: &Boxed, max: f32, threshold: f32, record: &Record) -> List {
     let kept = door::kept(&counted, &points, clamped(threshold));
     let stops: Vec<_> = kept.iter().map(|t| (*t, counted(*t).to_array())).collect();
     List { stops, evaluations: count.get() }
+}
+
+/// The words of a record, which the Rust does not have: the bits of the threshold in force, of min and of max.
+pub fn marks((min, max): (f32, f32), threshold: f32) -> Vec<u32> {
+    [clamped(threshold), min, max].map(f32::to_bits).to_vec()
 }
 
 /// The threshold as `linearize` takes it.

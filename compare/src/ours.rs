@@ -111,6 +111,8 @@ extern "C" {
         rows_length: usize,
         counts: *mut u8,
         counts_length: usize,
+        marks: *mut u32,
+        marks_length: usize,
     ) -> SampleMade;
     fn colorgrad_thin(
         kind: u32,
@@ -125,6 +127,8 @@ extern "C" {
         rows_length: usize,
         counts: *const u8,
         counts_length: usize,
+        marks: *const u32,
+        marks_length: usize,
         places: *mut f32,
         places_length: usize,
         colours: *mut f32,
@@ -143,6 +147,8 @@ extern "C" {
         rows_length: usize,
         counts: *mut u8,
         counts_length: usize,
+        marks: *mut u32,
+        marks_length: usize,
         places: *mut f32,
         places_length: usize,
         colours: *mut f32,
@@ -163,6 +169,8 @@ extern "C" {
         rows_length: usize,
         counts: *mut u8,
         counts_length: usize,
+        marks: *mut u32,
+        marks_length: usize,
     ) -> SampleMade;
     fn colorgrad_refresh_list(
         kind: u32,
@@ -179,6 +187,8 @@ extern "C" {
         rows_length: usize,
         counts: *mut u8,
         counts_length: usize,
+        marks: *mut u32,
+        marks_length: usize,
         places: *mut f32,
         places_length: usize,
         colours: *mut f32,
@@ -313,6 +323,8 @@ pub fn sample(ramp: &Ramp, threshold: f32, record: &mut Record) -> Result<usize,
             record.rows.len(),
             record.counts.as_mut_ptr(),
             record.counts.len(),
+            record.marks.as_mut_ptr(),
+            record.marks.len(),
         )
     };
     answer(made.refusal, made.evaluations)
@@ -341,6 +353,8 @@ pub fn thin(ramp: &Ramp, threshold: f32, record: &Record, places: &mut [f32], co
             record.rows.len(),
             record.counts.as_ptr(),
             record.counts.len(),
+            record.marks.as_ptr(),
+            record.marks.len(),
             places.as_mut_ptr(),
             places.len(),
             colours.as_mut_ptr(),
@@ -365,6 +379,8 @@ pub fn flatten(ramp: &Ramp, threshold: f32, record: &mut Record, places: &mut [f
             record.rows.len(),
             record.counts.as_mut_ptr(),
             record.counts.len(),
+            record.marks.as_mut_ptr(),
+            record.marks.len(),
             places.as_mut_ptr(),
             places.len(),
             colours.as_mut_ptr(),
@@ -398,6 +414,8 @@ pub fn refresh(ramp: &Ramp, edit: &Edit, threshold: f32, record: &mut Record) ->
             record.rows.len(),
             record.counts.as_mut_ptr(),
             record.counts.len(),
+            record.marks.as_mut_ptr(),
+            record.marks.len(),
         )
     };
     answer(made.refusal, made.evaluations)
@@ -428,6 +446,8 @@ pub fn refresh_list(
             record.rows.len(),
             record.counts.as_mut_ptr(),
             record.counts.len(),
+            record.marks.as_mut_ptr(),
+            record.marks.len(),
             places.as_mut_ptr(),
             places.len(),
             colours.as_mut_ptr(),

@@ -1,13 +1,13 @@
 //! Refreshed records: redone cells are the Rust's rows for the changed ramp, clear cells keep even rubbish,
 //! and the list made of a refreshed record is `linearize`'s of the changed ramp.
 
-use crate::lists::{agrees, early, emitted, random_record, random_threshold, MOST_POINTS, RUBBISH};
+use crate::lists::{agrees, early, emitted, is_record, random_record, random_threshold, MOST_POINTS, RUBBISH};
 use crate::options::Options;
-use crate::oracle::{self, Record, CELLS, ROW};
+use crate::oracle::{self, Record, CELLS, MARKS, ROW};
 use crate::ours::{self, Edit};
 use crate::ramps::{random_or_spoilt, Kind, Ramp, KINDS};
 use crate::random::Random;
-use crate::report::{all_same, Tally};
+use crate::report::Tally;
 
 pub fn run(options: &Options) -> Vec<Tally> {
     let mut rubbish = Tally::new("refresh: clear rows kept", options.seed);
@@ -20,9 +20,12 @@ pub fn run(options: &Options) -> Vec<Tally> {
         let ramp = random_or_spoilt(&mut random, kind);
         let edit = random_edit(&mut random, &ramp);
         let threshold = random_threshold(&mut random);
-        let mut record = random_record(&mut random, &ramp);
+        let mut record = random_record(&mut random, &ramp, threshold);
         if random.one_in(24) {
             record.counts[random.below(CELLS)] = random.pick(&[0, 129, 255]);
+        }
+        if random.one_in(24) {
+            record.marks[random.below(MARKS)] ^= 1 << random.below(32);
         }
         kept(&mut rubbish, case, &ramp, &edit, threshold, record);
         refreshed(&mut fresh, case, &ramp, &edit, threshold);
@@ -50,13 +53,17 @@ pub fn random_edit(random: &mut Random, ramp: &Ramp) -> Edit {
     Edit { stop, colour }
 }
 
-pub fn refusal(ramp: &Ramp, edit: &Edit, counts: &[u8]) -> u32 {
+/// Document 01's order, with 20 after 5.
+pub fn refusal(ramp: &Ramp, edit: &Edit, counts: &[u8], own_words: bool) -> u32 {
     let number = early(ramp);
     if number != 0 {
         return number;
     }
     if counts.iter().any(|n| *n == 0 || *n as usize > ROW) {
         return 5;
+    }
+    if !own_words {
+        return 20;
     }
     let kind = matches!(ramp.kind, Kind::Linear | Kind::Smoothstep);
     if !kind || edit.stop >= ramp.positions.len() || edit.colour.iter().any(|c| !c.is_finite()) {
@@ -114,7 +121,8 @@ pub fn kept(tally: &mut Tally, case: u64, ramp: &Ramp, edit: &Edit, threshold: f
     tally.inputs(1);
     let mut got = record.clone();
     let answer = ours::refresh(ramp, edit, threshold, &mut got);
-    let number = refusal(ramp, edit, &record.counts);
+    let own_words = early(ramp) != 0 || record.marks == oracle::marks(ramp.domain(), threshold);
+    let number = refusal(ramp, edit, &record.counts, own_words);
     tally.answered((number == 0) as u64);
     let (mut want, mut evaluations) = (record, 0);
     if number == 0 {
@@ -132,14 +140,14 @@ pub fn kept(tally: &mut Tally, case: u64, ramp: &Ramp, edit: &Edit, threshold: f
     };
     // every byte of a clear row stays, a not-a-number's too
     let bits = |rows: &[f32]| rows.iter().map(|x| x.to_bits()).collect::<Vec<u32>>();
-    if !right || bits(&got.rows) != bits(&want.rows) || got.counts != want.counts {
+    if !right || bits(&got.rows) != bits(&want.rows) || (&got.counts, &got.marks) != (&want.counts, &want.marks) {
         tally.differs(case, || format!("{answer:?}, not {number} and {evaluations}, stop {} of {ramp:?}", edit.stop));
     }
 }
 
 /// Sampled, refreshed and thinned, against the changed ramp flattened by the Rust; and the two last steps in one call.
 pub fn refreshed(tally: &mut Tally, case: u64, ramp: &Ramp, edit: &Edit, threshold: f32) {
-    if refusal(ramp, edit, &[]) != 0 {
+    if refusal(ramp, edit, &[], true) != 0 {
         return;
     }
     tally.inputs(1);
@@ -155,16 +163,12 @@ pub fn refreshed(tally: &mut Tally, case: u64, ramp: &Ramp, edit: &Edit, thresho
     let room = (MOST_POINTS, 4 * MOST_POINTS);
     let mut out = (vec![RUBBISH; room.0], vec![RUBBISH; room.1]);
     let got = ours::thin(&after, threshold, &record, &mut out.0, &mut out.1);
-    let two_steps = sampled.is_ok() && is(&record, &want) && agrees(got, &list, room, (&out.0, &out.1));
+    let two_steps = sampled.is_ok() && is_record(&record, &want) && agrees(got, &list, room, (&out.0, &out.1));
     let mut out = (vec![RUBBISH; room.0], vec![RUBBISH; room.1]);
     let both = ours::refresh_list(ramp, edit, threshold, &mut again, &mut out.0, &mut out.1);
     list.evaluations += done.unwrap_or_default();
-    let one_call = is(&again, &want) && agrees(both, &list, room, (&out.0, &out.1));
+    let one_call = is_record(&again, &want) && agrees(both, &list, room, (&out.0, &out.1));
     if !two_steps || !one_call || done.is_err() {
         tally.differs(case, || format!("{done:?}, {got:?}, {both:?}, stop {} of {ramp:?}", edit.stop));
     }
-}
-
-fn is(record: &Record, want: &Record) -> bool {
-    all_same(&record.rows, &want.rows) && record.counts == want.counts
 }

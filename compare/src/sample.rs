@@ -4,7 +4,7 @@
 use crate::limits;
 use crate::lists::{early, emitted, random_record, random_threshold, MOST_POINTS};
 use crate::options::Options;
-use crate::oracle::{self, List, Record, CELLS, ROW};
+use crate::oracle::{self, List, Record, CELLS, MARKS, ROW};
 use crate::ours::Edit;
 use crate::ramps::{random_or_spoilt, random_points, Kind, Ramp, KINDS, MOST_SEGMENTS};
 use crate::random::Random;
@@ -30,7 +30,7 @@ const BUILT: u64 = 100;
 /// Refusals that the first cases must have, so that all that a call can give are stored: of the first two
 /// lists of each kind, and of the other sorts from their start. The ramps at the limits have those of a ramp.
 const OF_LISTS: [[u32; 2]; 6] = [[1, 4], [2, 8], [3, 5], [4, 7], [7, 8], [5, 1]];
-const OF_THINNED: [u32; 8] = [5, 8, 9, 9, 4, 1, 2, 3];
+const OF_THINNED: [u32; 10] = [5, 8, 9, 9, 4, 1, 2, 3, 20, 20];
 const OF_REFRESHED: [u32; 18] = [1, 2, 3, 4, 5, 6, 6, 8, 0, 0, 0, 0, 0, 0, 0, 0, 0, 0];
 const OF_TEXTS: [u32; 9] = [2, 10, 11, 12, 13, 14, 15, 16, 18];
 const OF_BUILT: [u32; 3] = [17, 1, 2];
@@ -132,7 +132,7 @@ impl Words {
         self.record_done(refusal, 3);
     }
 
-    /// The points that a record's counts name, each after its place, then the counts.
+    /// The points that a record's counts name, each after its place, then the counts and the words.
     fn record(&mut self, record: &Record) {
         let points = |cell: usize| (0..(record.counts[cell] as usize).min(ROW)).map(move |i| cell * ROW + i);
         let places: Vec<usize> = (0..CELLS).flat_map(points).collect();
@@ -142,6 +142,7 @@ impl Words {
             self.float(record.rows[at]);
         }
         self.bytes(&record.counts);
+        record.marks.iter().for_each(|word| self.word(*word));
     }
 
     /// One record more, of so many answers.
@@ -269,11 +270,14 @@ fn lists(options: &Options, words: &mut Words) {
 }
 
 /// A record of few points: each row has one or two, some of them rubbish.
-fn few_points(random: &mut Random, ramp: &Ramp) -> Record {
-    let mut record = random_record(random, ramp);
+fn few_points(random: &mut Random, ramp: &Ramp, threshold: f32) -> Record {
+    let mut record = random_record(random, ramp, threshold);
     record.counts.iter_mut().for_each(|count| *count = 1 + *count % 2);
     if random.one_in(6) {
         record.counts[random.below(CELLS)] = random.pick(&[0, 129, 255]);
+    }
+    if random.one_in(6) {
+        record.marks[random.below(MARKS)] ^= 1 << random.below(32);
     }
     record
 }
@@ -285,9 +289,13 @@ fn thinned(options: &Options, words: &mut Words) {
         let (ramp, threshold, record, refusal, list) = loop {
             let kind = random.pick(&KINDS);
             let (ramp, threshold) = (short(&mut random, kind), random_threshold(&mut random));
-            let record = few_points(&mut random, &ramp);
+            let record = few_points(&mut random, &ramp, threshold);
             let wrong = record.counts.iter().any(|n| *n == 0 || *n as usize > ROW);
-            let refusal = if early(&ramp) == 0 && wrong { 5 } else { early(&ramp) };
+            let refusal = match early(&ramp) {
+                0 if wrong => 5,
+                0 if record.marks != oracle::marks(ramp.domain(), threshold) => 20,
+                number => number,
+            };
             let list = if refusal == 0 {
                 oracle::thinned(&oracle::gradient(&ramp), ramp.domain().1, threshold, &record)
             } else {
@@ -319,7 +327,7 @@ fn refreshed(options: &Options, words: &mut Words) {
             // a word holds it
             let edit = Edit { stop: edit.stop.min(MOST_POINTS), ..edit };
             let counts: &[u8] = if room == Room::ShortRecord { &[0] } else { &[] };
-            let refusal = refresh::refusal(&ramp, &edit, counts);
+            let refusal = refresh::refusal(&ramp, &edit, counts, true);
             let list = if refusal == 0 { refreshed_list(&ramp, &edit, threshold) } else { list_of(&ramp, threshold) };
             let told = if refusal == 0 { emitted(&list, room.outputs()).0 } else { refusal };
             if list.stops.len() <= LONG_LIST && is_wanted(&OF_REFRESHED, case, told) {

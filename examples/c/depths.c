@@ -1,4 +1,4 @@
-/* A sea-depth ramp through the C face: its colours, its list, an edit and a refresh, and a refusal with its message.
+/* A sea-depth ramp through the C face: its colours, its list, an edit and a refresh, and refusals with their messages.
  * Each answer is checked; the exit status is 0 where all are as they must be. */
 #include "colorgrad.h"
 #include <stdio.h>
@@ -15,6 +15,7 @@ static const float channels[4 * STOPS] = {
 typedef struct {
     float rows[COLORGRAD_ROWS];
     uint8_t counts[COLORGRAD_CELLS];
+    uint32_t marks[COLORGRAD_MARKS];
     float places[COLORGRAD_MOST_POINTS];
     float colours[4 * COLORGRAD_MOST_POINTS];
 } Sheet;
@@ -59,8 +60,8 @@ static void colours(void)
 static ColorgradListed flatten(const float *of, Sheet *into)
 {
     return colorgrad_flatten(COLORGRAD_LINEAR, positions, STOPS, of, 4 * STOPS, NULL, 0, COLORGRAD_THRESHOLD,
-                             into->rows, COLORGRAD_ROWS, into->counts, COLORGRAD_CELLS, into->places,
-                             COLORGRAD_MOST_POINTS, into->colours, 4 * COLORGRAD_MOST_POINTS);
+                             into->rows, COLORGRAD_ROWS, into->counts, COLORGRAD_CELLS, into->marks, COLORGRAD_MARKS,
+                             into->places, COLORGRAD_MOST_POINTS, into->colours, 4 * COLORGRAD_MOST_POINTS);
 }
 
 /* Whether the two sheets have the same record, and the same list of so many stops. */
@@ -68,8 +69,18 @@ static bool is_same(size_t stops)
 {
     return memcmp(sheet.rows, fresh.rows, sizeof sheet.rows) == 0 &&
            memcmp(sheet.counts, fresh.counts, sizeof sheet.counts) == 0 &&
+           memcmp(sheet.marks, fresh.marks, sizeof sheet.marks) == 0 &&
            memcmp(sheet.places, fresh.places, stops * sizeof *sheet.places) == 0 &&
            memcmp(sheet.colours, fresh.colours, 4 * stops * sizeof *sheet.colours) == 0;
+}
+
+/* Stop 2 gets another colour: the record and its list follow. */
+static ColorgradListed refresh(ColorgradRgba colour, float threshold)
+{
+    return colorgrad_refresh_list(COLORGRAD_LINEAR, positions, STOPS, channels, 4 * STOPS, NULL, 0, 2, colour, threshold,
+                                  sheet.rows, COLORGRAD_ROWS, sheet.counts, COLORGRAD_CELLS, sheet.marks,
+                                  COLORGRAD_MARKS, sheet.places, COLORGRAD_MOST_POINTS, sheet.colours,
+                                  4 * COLORGRAD_MOST_POINTS);
 }
 
 static void lists(void)
@@ -82,9 +93,14 @@ static void lists(void)
         print_stop(sheet.places[i], sheet.colours + 4 * i);
     expect(made.refusal == COLORGRAD_FINE && made.stops == STOPS, "the list has the ramp's own stops");
 
-    redone = colorgrad_refresh_list(COLORGRAD_LINEAR, positions, STOPS, channels, 4 * STOPS, NULL, 0, 2, brighter,
-                                    COLORGRAD_THRESHOLD, sheet.rows, COLORGRAD_ROWS, sheet.counts, COLORGRAD_CELLS,
-                                    sheet.places, COLORGRAD_MOST_POINTS, sheet.colours, 4 * COLORGRAD_MOST_POINTS);
+    redone = refresh(brighter, 0.01f);
+    printf("refreshed with another threshold: refused %u, %s\n", (unsigned)redone.refusal,
+           colorgrad_message(redone.refusal));
+    expect(redone.refusal == COLORGRAD_OTHER_THRESHOLD, "another threshold than the record's");
+    flatten(channels, &fresh);
+    expect(is_same(made.stops), "20 changes nothing");
+
+    redone = refresh(brighter, COLORGRAD_THRESHOLD);
     printf("stop 2 changed, refreshed: %zu stops, %zu evaluations\n", redone.stops, redone.evaluations);
     for (size_t i = 0; i < redone.stops; i++)
         print_stop(sheet.places[i], sheet.colours + 4 * i);
@@ -105,7 +121,8 @@ static void refusals(void)
     uint32_t refusal = colorgrad_check(COLORGRAD_LINEAR, falling, STOPS, channels, 4 * STOPS, NULL, 0);
     ColorgradListed short_of_room =
         colorgrad_flatten(COLORGRAD_LINEAR, positions, STOPS, channels, 4 * STOPS, NULL, 0, COLORGRAD_THRESHOLD,
-                          sheet.rows, COLORGRAD_ROWS, sheet.counts, COLORGRAD_CELLS, few, 1, few + 1, 3);
+                          sheet.rows, COLORGRAD_ROWS, sheet.counts, COLORGRAD_CELLS, sheet.marks, COLORGRAD_MARKS, few,
+                          1, few + 1, 3);
     printf("stops out of order: refused %u, %s\n", (unsigned)refusal, colorgrad_message(refusal));
     expect(refusal == COLORGRAD_FALLING, "stops out of order");
     expect(short_of_room.refusal == COLORGRAD_NO_ROOM && short_of_room.stops == 0, "no room for a list");
@@ -114,9 +131,9 @@ static void refusals(void)
     expect(colorgrad_paint(COLORGRAD_LINEAR, NULL, 0, NULL, 0, NULL, 0, NULL, 0, NULL, 0) == COLORGRAD_MISSHAPEN,
            "nothing but null pointers");
     expect(colorgrad_flatten(COLORGRAD_BASIS, positions, STOPS, channels, 3, NULL, 0, 0.0f, NULL, 0, NULL, 0, NULL, 0,
-                             NULL, 0).refusal == COLORGRAD_MISSHAPEN, "lengths that disagree");
-    expect(colorgrad_sample(COLORGRAD_LINEAR, positions, STOPS, channels, 4 * STOPS, NULL, 0, 0.0f, NULL, 0, NULL, 0)
-               .refusal == COLORGRAD_BAD_RECORD, "no record");
+                             NULL, 0, NULL, 0).refusal == COLORGRAD_MISSHAPEN, "lengths that disagree");
+    expect(colorgrad_sample(COLORGRAD_LINEAR, positions, STOPS, channels, 4 * STOPS, NULL, 0, 0.0f, NULL, 0, NULL, 0,
+                            NULL, 0).refusal == COLORGRAD_BAD_RECORD, "no record");
     expect(colorgrad_name(NULL, 0, name, sizeof name) == 0 && !colorgrad_token(NULL, 0).is_number, "empty texts");
 }
 

@@ -49,8 +49,10 @@ pub(crate) struct TokenRead {
 
 type Floats = *const f32;
 type Bytes = *const u8;
+type Words = *const u32;
 type FloatsOut = *mut f32;
 type BytesOut = *mut u8;
+type WordsOut = *mut u32;
 
 // Each slice is a pointer and its length.
 extern "C" {
@@ -132,6 +134,8 @@ extern "C" {
         _: usize,
         counts: BytesOut,
         _: usize,
+        marks: WordsOut,
+        _: usize,
     ) -> SampleMade;
     pub(crate) fn colorgrad_thin(
         kind: u32,
@@ -145,6 +149,8 @@ extern "C" {
         rows: Floats,
         _: usize,
         counts: Bytes,
+        _: usize,
+        marks: Words,
         _: usize,
         places: FloatsOut,
         _: usize,
@@ -163,6 +169,8 @@ extern "C" {
         rows: FloatsOut,
         _: usize,
         counts: BytesOut,
+        _: usize,
+        marks: WordsOut,
         _: usize,
         places: FloatsOut,
         _: usize,
@@ -184,6 +192,8 @@ extern "C" {
         _: usize,
         counts: BytesOut,
         _: usize,
+        marks: WordsOut,
+        _: usize,
     ) -> SampleMade;
     pub(crate) fn colorgrad_refresh_list(
         kind: u32,
@@ -199,6 +209,8 @@ extern "C" {
         rows: FloatsOut,
         _: usize,
         counts: BytesOut,
+        _: usize,
+        marks: WordsOut,
         _: usize,
         places: FloatsOut,
         _: usize,

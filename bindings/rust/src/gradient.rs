@@ -75,7 +75,7 @@ pub trait Gradient {
 
     /// The same, with the record that it was made of, which a later refresh needs.
     fn flatten(&self, threshold: f32) -> Result<(Record, List), Refusal> {
-        let mut record = Record::empty(threshold);
+        let mut record = Record::empty();
         let list = List::made(|out| self.lent().flatten(threshold, record.lent_mut(), out))?;
         record.evaluations = list.evaluations();
         Ok((record, list))
@@ -83,13 +83,13 @@ pub trait Gradient {
 
     /// The sample record alone. Refused with 4 where the domain reaches beyond 1e38.
     fn sample(&self, threshold: f32) -> Result<Record, Refusal> {
-        let mut record = Record::empty(threshold);
+        let mut record = Record::empty();
         record.evaluations = self.lent().sample(threshold, record.lent_mut())?;
         Ok(record)
     }
 
-    /// The list of a record, at the record's threshold. Refused with 4, 8, or 9 where the record is of another ramp and
-    /// falls.
+    /// The list of a record, at the record's threshold. Refused with 4, 8; 20 where the record is of a ramp on another
+    /// domain; 9 where it is of another ramp and falls.
     fn thin(&self, record: &Record) -> Result<List, Refusal> {
         List::made(|out| self.lent().thin(record.threshold(), record.lent(), out))
     }
@@ -115,8 +115,8 @@ pub trait Gradient {
 /// ```
 pub trait Refresh: Gradient {
     /// Gives a stop, counted from 0, another colour, and redoes those cells of the ramp's record that the edit touches: the
-    /// evaluations. Refused with 6 where there is no such stop or the colour is not finite, or with 4: then neither the ramp
-    /// nor the record is changed.
+    /// evaluations. The threshold is the record's own. Refused with 20 where the record is of a ramp on another domain, with
+    /// 6 where there is no such stop or the colour is not finite, or with 4: then neither the ramp nor the record is changed.
     fn refresh(&mut self, stop: usize, color: Color, record: &mut Record) -> Result<usize, Refusal>;
 
     /// The same, and the list of the changed ramp; its evaluations are those of both. After 8 or 9 the ramp and the record

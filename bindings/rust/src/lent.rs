@@ -28,6 +28,8 @@ pub const MOST_SEGMENTS: usize = 256;
 pub const CELLS: usize = 36;
 /// How many numbers the rows of a record have, 128 for each cell.
 pub const ROWS: usize = 4608;
+/// How many words of a record say what it was sampled with.
+pub const MARKS: usize = 3;
 /// The most stops that a list can have: with this room, [`Refusal::NoRoom`] is never given.
 pub const MOST_POINTS: usize = ROWS + 1;
 /// The most bytes that the tool prints.
@@ -67,13 +69,17 @@ pub struct Ramp<'a> {
     pub codes: &'a [u8],
 }
 
-/// A record to read: [`ROWS`] numbers and [`CELLS`] counts.
+/// A record to read: [`ROWS`] numbers, [`CELLS`] counts and [`MARKS`] words.
+///
+/// To thin or refresh it with another threshold in force than its own is refused with [`Refusal::OtherThreshold`].
 #[derive(Clone, Copy, PartialEq, Debug)]
 pub struct Record<'a> {
     /// 128 numbers for each cell, of which its count says how many are used.
     pub rows: &'a [f32],
     /// One for each cell, 1 to 128.
     pub counts: &'a [u8],
+    /// The bits of the threshold in force, of min and of max.
+    pub marks: &'a [u32],
 }
 
 /// A record to fill or to refresh.
@@ -83,6 +89,8 @@ pub struct RecordMut<'a> {
     pub rows: &'a mut [f32],
     /// One for each cell, 1 to 128.
     pub counts: &'a mut [u8],
+    /// The bits of the threshold in force, of min and of max: a sampling writes them, a refresh leaves them.
+    pub marks: &'a mut [u32],
 }
 
 /// Where the stops of a list go. Its room is the whole stops that both slices hold; what lies past the last one stays.
@@ -115,7 +123,7 @@ pub struct Listed {
 fn answer<T>(number: u32, value: T) -> Result<T, Refusal> {
     match number {
         0 => Ok(value),
-        _ => Err(Refusal::from_number(number).expect("every refusal has a number of 1 to 17")),
+        _ => Err(Refusal::from_number(number).expect("every refusal has a number")),
     }
 }
 
@@ -169,7 +177,7 @@ impl Ramp<'_> {
 
     /// Fills a record, whatever was in it: the evaluations. Refusals 1 to 5 leave it as it was.
     pub fn sample(&self, threshold: f32, record: RecordMut<'_>) -> Result<usize, Refusal> {
-        let RecordMut { rows, counts } = record;
+        let RecordMut { rows, counts, marks } = record;
         let made = with_ramp!(
             colorgrad_sample,
             self,
@@ -177,12 +185,14 @@ impl Ramp<'_> {
             rows.as_mut_ptr(),
             rows.len(),
             counts.as_mut_ptr(),
-            counts.len()
+            counts.len(),
+            marks.as_mut_ptr(),
+            marks.len()
         );
         answer(made.refusal, made.evaluations)
     }
 
-    /// Makes the list of a record. Refusals 1 to 5 leave `out` as it was, 7, 8, 9 set it to zero.
+    /// Makes the list of a record. Refusals 1 to 5 and 20 leave `out` as it was, 7, 8, 9 set it to zero.
     pub fn thin(&self, threshold: f32, record: Record<'_>, out: StopsMut<'_>) -> Result<Listed, Refusal> {
         listed(with_ramp!(
             colorgrad_thin,
@@ -192,6 +202,8 @@ impl Ramp<'_> {
             record.rows.len(),
             record.counts.as_ptr(),
             record.counts.len(),
+            record.marks.as_ptr(),
+            record.marks.len(),
             out.positions.as_mut_ptr(),
             out.positions.len(),
             out.channels.as_mut_ptr(),
@@ -210,6 +222,8 @@ impl Ramp<'_> {
             record.rows.len(),
             record.counts.as_mut_ptr(),
             record.counts.len(),
+            record.marks.as_mut_ptr(),
+            record.marks.len(),
             out.positions.as_mut_ptr(),
             out.positions.len(),
             out.channels.as_mut_ptr(),
@@ -218,9 +232,9 @@ impl Ramp<'_> {
     }
 
     /// Refreshes the record of this ramp, linear or smoothstep, for an edit: it then equals the record of the changed ramp.
-    /// The evaluations; refusals 1 to 6 leave it as it was.
+    /// The evaluations; refusals 1 to 6 and 20 leave it as it was.
     pub fn refresh(&self, edit: Edit, threshold: f32, record: RecordMut<'_>) -> Result<usize, Refusal> {
-        let RecordMut { rows, counts } = record;
+        let RecordMut { rows, counts, marks } = record;
         let made = with_ramp!(
             colorgrad_refresh,
             self,
@@ -230,12 +244,14 @@ impl Ramp<'_> {
             rows.as_mut_ptr(),
             rows.len(),
             counts.as_mut_ptr(),
-            counts.len()
+            counts.len(),
+            marks.as_mut_ptr(),
+            marks.len()
         );
         answer(made.refusal, made.evaluations)
     }
 
-    /// Refreshes a record and makes the list of the changed ramp. Refusals 1 to 6 change nothing; after 7, 8, 9 the record
+    /// Refreshes a record and makes the list of the changed ramp. Refusals 1 to 6 and 20 change nothing; after 7, 8, 9 the record
     /// is refreshed and `out` is zero.
     pub fn refresh_list(
         &self,
@@ -254,6 +270,8 @@ impl Ramp<'_> {
             record.rows.len(),
             record.counts.as_mut_ptr(),
             record.counts.len(),
+            record.marks.as_mut_ptr(),
+            record.marks.len(),
             out.positions.as_mut_ptr(),
             out.positions.len(),
             out.channels.as_mut_ptr(),

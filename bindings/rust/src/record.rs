@@ -1,35 +1,36 @@
 //! Sample records, and the lists made of them.
 
 use crate::color::unflat;
-use crate::lent::{self, CELLS, MOST_POINTS, ROWS};
+use crate::lent::{self, CELLS, MARKS, MOST_POINTS, ROWS};
 use crate::{Color, LinearGradient, Refusal};
 
 /// How finely each of 36 cells of a ramp's domain has to be cut, at one threshold.
 ///
 /// [`Gradient::sample`](crate::Gradient::sample) makes one, [`Refresh::refresh`](crate::Refresh::refresh) keeps it true
-/// after an edit, and [`Gradient::thin`](crate::Gradient::thin) makes a list of it. Two records are equal where their rows,
-/// counts and thresholds are, however they came about.
+/// after an edit, and [`Gradient::thin`](crate::Gradient::thin) makes a list of it: both with the threshold that the record
+/// was sampled with, which it remembers. Two records are equal where their rows, counts and words are, however they came
+/// about.
 #[derive(Clone, Debug)]
 pub struct Record {
     rows: Vec<f32>,
     counts: Vec<u8>,
-    threshold: f32,
+    marks: Vec<u32>,
     pub(crate) evaluations: usize,
 }
 
 impl Record {
-    /// A record that was kept elsewhere. Refused with 5 where it is not 4,608 numbers and 36 counts of 1 to 128.
-    pub fn from_parts(rows: Vec<f32>, counts: Vec<u8>, threshold: f32) -> Result<Record, Refusal> {
-        let is_shaped = rows.len() == ROWS && counts.len() == CELLS;
+    /// A record that was kept elsewhere. Refused with 5 where it is not 4,608 numbers, 36 counts of 1 to 128 and 3 words.
+    pub fn from_parts(rows: Vec<f32>, counts: Vec<u8>, marks: Vec<u32>) -> Result<Record, Refusal> {
+        let is_shaped = rows.len() == ROWS && counts.len() == CELLS && marks.len() == MARKS;
         if !is_shaped || !counts.iter().all(|count| (1..=128).contains(count)) {
             return Err(Refusal::BadRecord);
         }
-        Ok(Record { rows, counts, threshold, evaluations: 0 })
+        Ok(Record { rows, counts, marks, evaluations: 0 })
     }
 
     /// A record to be filled.
-    pub(crate) fn empty(threshold: f32) -> Record {
-        Record { rows: vec![0.0; ROWS], counts: vec![1; CELLS], threshold, evaluations: 0 }
+    pub(crate) fn empty() -> Record {
+        Record { rows: vec![0.0; ROWS], counts: vec![1; CELLS], marks: vec![0; MARKS], evaluations: 0 }
     }
 
     /// 128 numbers for each cell, of which its count says how many are used.
@@ -42,9 +43,14 @@ impl Record {
         &self.counts
     }
 
-    /// The threshold that it was asked for with.
+    /// The bits of the threshold in force, of min and of max that it was sampled with.
+    pub fn marks(&self) -> &[u32] {
+        &self.marks
+    }
+
+    /// The threshold in force when it was sampled.
     pub fn threshold(&self) -> f32 {
-        self.threshold
+        f32::from_bits(self.marks[0])
     }
 
     /// How many colours the call that last filled it asked for.
@@ -53,17 +59,17 @@ impl Record {
     }
 
     pub(crate) fn lent(&self) -> lent::Record<'_> {
-        lent::Record { rows: &self.rows, counts: &self.counts }
+        lent::Record { rows: &self.rows, counts: &self.counts, marks: &self.marks }
     }
 
     pub(crate) fn lent_mut(&mut self) -> lent::RecordMut<'_> {
-        lent::RecordMut { rows: &mut self.rows, counts: &mut self.counts }
+        lent::RecordMut { rows: &mut self.rows, counts: &mut self.counts, marks: &mut self.marks }
     }
 }
 
 impl PartialEq for Record {
     fn eq(&self, other: &Record) -> bool {
-        (&self.rows, &self.counts, self.threshold) == (&other.rows, &other.counts, other.threshold)
+        (&self.rows, &self.counts, &self.marks) == (&other.rows, &other.counts, &other.marks)
     }
 }
 

@@ -25,7 +25,7 @@ pub enum Refusal {
     Falling = 3,
     /// 4: an end of the domain is beyond plus or minus 1e38.
     FarDomain = 4,
-    /// 5: a record that is not 4,608 numbers and 36 counts of 1 to 128.
+    /// 5: a record that is not 4,608 numbers, 36 counts of 1 to 128 and 3 words.
     BadRecord = 5,
     /// 6: an edit of no stop, with no finite colour, or of a ramp that cannot be refreshed.
     BadEdit = 6,
@@ -53,10 +53,12 @@ pub enum Refusal {
     NotBuilt = 17,
     /// 18: segments of a GIMP text that do not run from 0 to 1, each in order and joined to the next.
     Torn = 18,
+    /// 20: a record that was sampled with another threshold in force, or on another domain.
+    OtherThreshold = 20,
 }
 
 /// Every refusal, in the order of the numbers.
-const ALL: [Refusal; 18] = [
+const ALL: [Refusal; 19] = [
     Refusal::Misshapen,
     Refusal::NotFinite,
     Refusal::Falling,
@@ -75,10 +77,11 @@ const ALL: [Refusal; 18] = [
     Refusal::NotCarried,
     Refusal::NotBuilt,
     Refusal::Torn,
+    Refusal::OtherThreshold,
 ];
 
 impl Refusal {
-    /// Its number, 1 to 18.
+    /// Its number, 1 to 18 or 20.
     pub fn number(self) -> u32 {
         self as u32
     }
@@ -94,7 +97,7 @@ impl Refusal {
             Refusal::NotFinite => "a position or a channel is not a finite number",
             Refusal::Falling => "a stop lies before the one ahead of it",
             Refusal::FarDomain => "the domain reaches beyond 1e38",
-            Refusal::BadRecord => "the record is not 4,608 numbers and 36 counts of 1 to 128",
+            Refusal::BadRecord => "the record is not 4,608 numbers, 36 counts of 1 to 128 and 3 words",
             Refusal::BadEdit => "the edit names no stop, no finite colour, or a ramp that cannot be refreshed",
             Refusal::NoRoom => "the output has no room for all of it",
             Refusal::ListNotFinite => "a stop of the list would not be finite",
@@ -110,6 +113,7 @@ impl Refusal {
             }
             Refusal::NotBuilt => "no sharp ramp can be built of so many colours on this domain",
             Refusal::Torn => "the segments of the GIMP text do not run from 0 to 1, each joined to the next",
+            Refusal::OtherThreshold => "the record was sampled with another threshold or on another domain",
         }
     }
 }

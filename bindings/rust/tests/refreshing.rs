@@ -31,14 +31,14 @@ impl Numbers {
 
 /// The same edit by the one call on lent slices.
 fn check_lent(ramp: &impl Gradient, record: &Record, edit: Edit) -> impl Fn(&Record, &List) {
-    let (mut rows, mut counts) = (record.rows().to_vec(), record.counts().to_vec());
+    let (mut rows, mut counts, mut marks) = (record.rows().to_vec(), record.counts().to_vec(), record.marks().to_vec());
     let (mut positions, mut channels) = (vec![7.0; MOST_POINTS], vec![7.0; 4 * MOST_POINTS]);
-    let lent = RecordMut { rows: &mut rows, counts: &mut counts };
+    let lent = RecordMut { rows: &mut rows, counts: &mut counts, marks: &mut marks };
     let out = StopsMut { positions: &mut positions, channels: &mut channels };
     let made = ramp.lent().refresh_list(edit, record.threshold(), lent, out).expect("a list");
     move |record, list| {
         assert_eq!(made, Listed { stops: list.len(), evaluations: list.evaluations() });
-        assert_eq!((&rows[..], &counts[..]), (record.rows(), record.counts()));
+        assert_eq!((&rows[..], &counts[..], &marks[..]), (record.rows(), record.counts(), record.marks()));
         assert_eq!(&positions[..made.stops], list.positions());
         assert!(positions[made.stops..].iter().chain(&channels[4 * made.stops..]).all(|x| *x == 7.0));
     }

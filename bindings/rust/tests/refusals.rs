@@ -1,6 +1,6 @@
 //! Each refusal, what it leaves in lent memory, and that its number and message are the header's.
 
-use guineaplume::lent::{self, Kind, Record, RecordMut, SegmentsMut, StopsMut, CELLS, MOST_POINTS, ROWS};
+use guineaplume::lent::{self, Kind, Record, RecordMut, SegmentsMut, StopsMut, CELLS, MARKS, MOST_POINTS, ROWS};
 use guineaplume::{Color, GimpGradient, Gradient, LinearGradient, ParseGgrError, Refresh, Refusal, SharpGradient};
 
 const BLACK: Color = Color::new(0.0, 0.0, 0.0, 1.0);
@@ -21,6 +21,7 @@ fn gray() -> lent::Ramp<'static> {
 struct Desk {
     rows: Vec<f32>,
     counts: Vec<u8>,
+    marks: Vec<u32>,
     positions: Vec<f32>,
     channels: Vec<f32>,
 }
@@ -30,6 +31,7 @@ impl Desk {
         Desk {
             rows: vec![RUBBISH; ROWS],
             counts: vec![9; CELLS],
+            marks: vec![0.007f32.to_bits(), 0.0f32.to_bits(), 1.0f32.to_bits()],
             positions: vec![RUBBISH; positions],
             channels: vec![RUBBISH; channels],
         }
@@ -42,7 +44,7 @@ impl Desk {
     fn flatten(&mut self, ramp: lent::Ramp<'_>) -> Result<lent::Listed, Refusal> {
         ramp.flatten(
             0.007,
-            RecordMut { rows: &mut self.rows, counts: &mut self.counts },
+            RecordMut { rows: &mut self.rows, counts: &mut self.counts, marks: &mut self.marks },
             StopsMut { positions: &mut self.positions, channels: &mut self.channels },
         )
     }
@@ -50,13 +52,13 @@ impl Desk {
     fn thin(&mut self, ramp: lent::Ramp<'_>) -> Result<lent::Listed, Refusal> {
         ramp.thin(
             0.007,
-            Record { rows: &self.rows, counts: &self.counts },
+            Record { rows: &self.rows, counts: &self.counts, marks: &self.marks },
             StopsMut { positions: &mut self.positions, channels: &mut self.channels },
         )
     }
 
     fn refresh(&mut self, ramp: lent::Ramp<'_>, stop: usize, color: Color) -> Result<usize, Refusal> {
-        let record = RecordMut { rows: &mut self.rows, counts: &mut self.counts };
+        let record = RecordMut { rows: &mut self.rows, counts: &mut self.counts, marks: &mut self.marks };
         ramp.refresh(lent::Edit { stop, color }, 0.007, record)
     }
 
@@ -113,8 +115,39 @@ fn bad_record() {
     desk.counts.pop();
     assert_eq!(desk.flatten(gray()), Err(Refusal::BadRecord));
     assert!(desk.outputs_are(RUBBISH));
-    assert_eq!(guineaplume::Record::from_parts(vec![0.0; ROWS], vec![0; CELLS], 0.007), Err(Refusal::BadRecord));
-    assert!(guineaplume::Record::from_parts(vec![0.0; ROWS], vec![128; CELLS], 0.007).is_ok());
+    let mut desk = Desk::roomy();
+    desk.marks.pop();
+    assert_eq!(desk.flatten(gray()), Err(Refusal::BadRecord));
+    assert_eq!(desk.thin(gray()), Err(Refusal::BadRecord));
+    let of = |count, marks| guineaplume::Record::from_parts(vec![0.0; ROWS], vec![count; CELLS], vec![0; marks]);
+    assert_eq!(of(0, MARKS), Err(Refusal::BadRecord));
+    assert_eq!(of(128, MARKS + 1), Err(Refusal::BadRecord));
+    assert!(of(128, MARKS).is_ok());
+}
+
+/// 20 after 5 and before 6, for each word by itself.
+#[test]
+fn other_threshold() {
+    for word in 0..MARKS {
+        let mut desk = Desk::roomy();
+        desk.marks[word] ^= 1;
+        let marks = desk.marks.clone();
+        assert_eq!(desk.thin(gray()), Err(Refusal::OtherThreshold));
+        assert_eq!(desk.refresh(gray(), 2, WHITE), Err(Refusal::OtherThreshold));
+        assert!(desk.record_is_rubbish() && desk.outputs_are(RUBBISH) && desk.marks == marks, "20 changes nothing");
+        desk.counts[0] = 0;
+        assert_eq!(desk.thin(gray()), Err(Refusal::BadRecord));
+        assert_eq!(desk.refresh(gray(), 2, WHITE), Err(Refusal::BadRecord));
+    }
+    // thresholds that are one in force
+    let owned = LinearGradient::new(&[0.0, 1.0], &[BLACK, WHITE]).expect("a ramp");
+    assert_eq!(owned.sample(5.0), owned.sample(0.035));
+    assert_eq!(owned.sample(f32::NAN), owned.sample(0.007));
+    // ends that differ in the sign of zero alone
+    let minus = LinearGradient::new(&[-0.0, 1.0], &[BLACK, WHITE]).expect("a ramp");
+    let record = owned.sample(0.007).expect("its record");
+    assert_eq!(minus.thin(&record), Err(Refusal::OtherThreshold));
+    assert_eq!(record.threshold(), 0.007);
 }
 
 #[test]
@@ -217,7 +250,7 @@ fn empty_slices() {
     assert_eq!(nothing.paint(&[], &mut []), refused);
     assert_eq!(nothing.at(0.5).map(|_| ()), refused);
     assert_eq!(nothing.domain().map(|_| ()), refused);
-    let mut desk = Desk { rows: vec![], counts: vec![], positions: vec![], channels: vec![] };
+    let mut desk = Desk { rows: vec![], counts: vec![], marks: vec![], positions: vec![], channels: vec![] };
     assert_eq!(desk.flatten(nothing).map(|_| ()), refused);
     assert_eq!(desk.thin(nothing).map(|_| ()), refused);
     assert_eq!(desk.refresh(nothing, 0, BLACK).map(|_| ()), refused);
@@ -232,7 +265,7 @@ fn empty_slices() {
 #[test]
 fn numbers_and_messages_are_those_of_the_header() {
     let header = include_str!("../../../include/colorgrad.h");
-    for number in 1..=18 {
+    for number in (1..=18).chain([20]) {
         let refusal = Refusal::from_number(number).expect("a number of a refusal");
         assert_eq!(refusal.number(), number);
         let name = header
@@ -243,5 +276,5 @@ fn numbers_and_messages_are_those_of_the_header() {
             .find(|name| header.contains(&format!("case COLORGRAD_{name}: return \"{refusal}\"")));
         assert!(name.is_some(), "{number}: {refusal}");
     }
-    assert_eq!((Refusal::from_number(0), Refusal::from_number(19)), (None, None));
+    assert_eq!((Refusal::from_number(0), Refusal::from_number(21)), (None, None));
 }

@@ -26,8 +26,9 @@ pub extern "C" fn colorgrad_refresh(
     threshold: f32,
     rows: &mut [f32],
     counts: &mut [u8],
+    marks: &mut [u32],
 ) -> SampleMade
-    ensures { λ r. ⌜ CodedRefreshes kind (codedRamp positions channels codes) stop colour threshold (lentHeld rows counts) r ⌝ }
+    ensures { λ r. ⌜ CodedRefreshes kind (codedRamp positions channels codes) stop colour threshold (lentHeld rows counts marks) r ⌝ }
 {
     let Coded::Of(known) = kinds::kind_of(kind) else {
         return refreshed_shown(Refreshed::Refused(MISSHAPEN));
@@ -42,6 +43,7 @@ pub extern "C" fn colorgrad_refresh(
         threshold,
         rows,
         counts,
+        marks,
     ))
 }
 
@@ -56,10 +58,11 @@ pub extern "C" fn colorgrad_refresh_list(
     threshold: f32,
     rows: &mut [f32],
     counts: &mut [u8],
+    marks: &mut [u32],
     places: &mut [f32],
     colours: &mut [f32],
 ) -> ListMade
-    ensures { λ r. ⌜ CodedRefreshLists kind (codedRamp positions channels codes) stop colour threshold (lentHeld rows counts) (lentOutput places colours) r ⌝ }
+    ensures { λ r. ⌜ CodedRefreshLists kind (codedRamp positions channels codes) stop colour threshold (lentHeld rows counts marks) (lentOutput places colours) r ⌝ }
 {
     let Coded::Of(known) = kinds::kind_of(kind) else {
         return listed_shown(Listed::Refused(MISSHAPEN));
@@ -74,6 +77,7 @@ pub extern "C" fn colorgrad_refresh_list(
         threshold,
         rows,
         counts,
+        marks,
         places,
         colours,
     ))

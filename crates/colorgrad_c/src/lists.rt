@@ -22,13 +22,23 @@ pub extern "C" fn colorgrad_sample(
     threshold: f32,
     rows: &mut [f32],
     counts: &mut [u8],
+    marks: &mut [u32],
 ) -> SampleMade
-    ensures { λ r. ⌜ CodedSamples kind (codedRamp positions channels codes) threshold (lentHeld rows counts) r ⌝ }
+    ensures { λ r. ⌜ CodedSamples kind (codedRamp positions channels codes) threshold (lentHeld rows counts marks) r ⌝ }
 {
     let Coded::Of(known) = kinds::kind_of(kind) else {
         return sampled_shown(Sampled::Refused(MISSHAPEN));
     };
-    sampled_shown(linearize::sample(known, positions, channels, codes, threshold, rows, counts))
+    sampled_shown(linearize::sample(
+        known,
+        positions,
+        channels,
+        codes,
+        threshold,
+        rows,
+        counts,
+        marks,
+    ))
 }
 
 #[no_mangle]
@@ -40,10 +50,11 @@ pub extern "C" fn colorgrad_thin(
     threshold: f32,
     rows: &[f32],
     counts: &[u8],
+    marks: &[u32],
     places: &mut [f32],
     colours: &mut [f32],
 ) -> ListMade
-    ensures { λ r. ⌜ CodedThins kind (codedRamp positions channels codes) threshold (lentHeld rows counts .entry) (lentOutput places colours) r ⌝ }
+    ensures { λ r. ⌜ CodedThins kind (codedRamp positions channels codes) threshold (lentHeld rows counts marks .entry) (lentOutput places colours) r ⌝ }
 {
     let Coded::Of(known) = kinds::kind_of(kind) else {
         return listed_shown(Listed::Refused(MISSHAPEN));
@@ -56,6 +67,7 @@ pub extern "C" fn colorgrad_thin(
         threshold,
         rows,
         counts,
+        marks,
         places,
         colours,
     ))
@@ -70,10 +82,11 @@ pub extern "C" fn colorgrad_flatten(
     threshold: f32,
     rows: &mut [f32],
     counts: &mut [u8],
+    marks: &mut [u32],
     places: &mut [f32],
     colours: &mut [f32],
 ) -> ListMade
-    ensures { λ r. ⌜ CodedFlattens kind (codedRamp positions channels codes) threshold (lentHeld rows counts) (lentOutput places colours) r ⌝ }
+    ensures { λ r. ⌜ CodedFlattens kind (codedRamp positions channels codes) threshold (lentHeld rows counts marks) (lentOutput places colours) r ⌝ }
 {
     let Coded::Of(known) = kinds::kind_of(kind) else {
         return listed_shown(Listed::Refused(MISSHAPEN));
@@ -86,6 +99,7 @@ pub extern "C" fn colorgrad_flatten(
         threshold,
         rows,
         counts,
+        marks,
         places,
         colours,
     ))

@@ -87,7 +87,7 @@ module _ (ramp : Ramp) (e : Edit) (there : 4 * e .stop + 4 ≤ length (ramp .cha
 
   sampling-same : (was : Held) → heldCheck (edited ramp e) was ≡ heldCheck ramp was
   unfolding sampleCheck
-  sampling-same was = ap (λ (x : Checked). andThen x (shapeCheck (minOf ramp) (maxOf ramp) (length (was .rows)) (length (was .counts)))) check-same
+  sampling-same was = ap (λ (x : Checked). andThen x (shapeCheck (minOf ramp) (maxOf ramp) (length (was .rows)) (length (was .counts)) (length (was .marks)))) check-same
 
 -- ---- the edit
 module _ (ramp : Ramp) (e : Edit) (asked : Float) (was : Held) (same : heldCheck (edited ramp e) was ≡ heldCheck ramp was) (allowed : editCheck ramp e ≡ checked.Fine) where
@@ -101,7 +101,7 @@ module _ (ramp : Ramp) (e : Edit) (asked : Float) (was : Held) (same : heldCheck
       let g = colourOf (edited ramp e) in
       let far = farOf asked in
       let ts = pointsIn (edited ramp e) (fresh (edited ramp e) asked) in
-      let ok = edit-allowed ramp e (ramp-fine ramp _ _ fine) allowed in
+      let ok = edit-allowed ramp e (ramp-fine ramp _ _ _ fine) allowed in
       rw (same ∙ fine, fine, refresh-passes ramp e asked was fine allowed, fresh-renewed ramp e ok asked)
       (same-answers (refusalOf g far room ts) (length (keptOf g far ts)) (freshEvaluations ramp asked + (newEvaluations ramp e asked + listEvaluations g far ts)) (flattenEvaluations (edited ramp e) asked) (keptOf g far ts) (coloursOf g (keptOf g far ts)))
 

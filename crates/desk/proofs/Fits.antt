@@ -117,7 +117,7 @@ sampled-most (checked.Refused k) n f h = refused-most k
 module _ (ramp : Ramp) (e : Edit) (asked : Float) where
   relisted-most : (was : Held) (spent : ℕ) → spent ≤ 13716 → length (relistText ramp e asked was spent) ≤ mostPrinted
   unfolding relistText
-  relisted-most was spent h = made-most (edited ramp e) asked (refreshCheck ramp e was) _ _ (λ f. omega (arith, relist-most ramp e asked was f))
+  relisted-most was spent h = made-most (edited ramp e) asked (refreshCheck ramp e asked was) _ _ (λ f. omega (arith, relist-most ramp e asked was f))
 
   edit-most : (was : Held) → length (editText ramp e asked was) ≤ mostPrinted
   unfolding editText sampleAnswer

@@ -159,19 +159,19 @@ module _ {ramp : Ramp} (e : Edit) {asked : Float} {held : Change Held} {r : Samp
       abbrev spent : ℕ
       spent = newEvaluations ramp e asked + listEvaluations (colourOf (edited ramp e)) (farOf asked) (newPoints ramp e asked (held .exit))
 
-      answers : Answers (edited ramp e) asked (refreshCheck ramp e (held .exit)) (newPoints ramp e asked (held .exit)) (n + spent) (out .entry) made
+      answers : Answers (edited ramp e) asked (refreshCheck ramp e asked (held .exit)) (newPoints ramp e asked (held .exit)) (n + spent) (out .entry) made
       answers =
           b ∙ ap (withSampling n) (u .told .answer)
-          ∙ with-answer (refreshCheck ramp e (held .exit)) (refusalOf (colourOf (edited ramp e)) (farOf asked) (roomOf (out .entry .positions) (out .entry .channels)) (newPoints ramp e asked (held .exit)))
+          ∙ with-answer (refreshCheck ramp e asked (held .exit)) (refusalOf (colourOf (edited ramp e)) (farOf asked) (roomOf (out .entry .positions) (out .entry .channels)) (newPoints ramp e asked (held .exit)))
           (length (keptIn (edited ramp e) asked (newPoints ramp e asked (held .exit)))) spent n
 
       pub relist-fits : stopsOfListed made ≤ room
-      relist-fits = made-fits (edited ramp e) asked (refreshCheck ramp e (held .exit)) (newPoints ramp e asked (held .exit)) (n + spent) out made v answers
+      relist-fits = made-fits (edited ramp e) asked (refreshCheck ramp e asked (held .exit)) (newPoints ramp e asked (held .exit)) (n + spent) out made v answers
 
       pub relist-same : listedText made (out .exit .positions) (out .exit .channels) ≡ editText ramp e asked (held .entry)
       unfolding editText relistText refreshOutput
       relist-same =
-          made-text (edited ramp e) asked (refreshCheck ramp e (held .exit)) (newPoints ramp e asked (held .exit)) (n + spent) out made v answers (u .output)
+          made-text (edited ramp e) asked (refreshCheck ramp e asked (held .exit)) (newPoints ramp e asked (held .exit)) (n + spent) out made v answers (u .output)
           ∙ rw (sym (w .answer) ∙ i) (ap (λ (h : Held). relistText ramp e asked h n) (w .left))
 
 -- ---- a ramp with or without an edit

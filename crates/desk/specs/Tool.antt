@@ -11,7 +11,7 @@ use Rattle.refusals.specs.Refusals.{misshapen}
 use Rattle.stops.specs.Lent.{Ramp, rampOf}
 use Rattle.stops.specs.declared.Checked.{Checked}
 use Rattle.gradient.specs.Ramp.{colourOf}
-use Rattle.sampling.specs.Constants.{cells, recordLength}
+use Rattle.sampling.specs.Constants.{cells, recordLength, marksLength}
 use Rattle.thinning.specs.Kept.{keptOf, refusalOf, listEvaluations}
 use Rattle.blend.specs.Channels.{coloursOf}
 use Rattle.sampling.specs.Lent.{Held, heldOf}
@@ -69,7 +69,7 @@ module _ (ramp : Ramp) (e : Edit) (asked : Float) where
 
   unfoldable pub relistText : Held → ℕ → List ℕ
   relistText was spent =
-      madeText (edited ramp e) asked (refreshCheck ramp e was) (newPoints was)
+      madeText (edited ramp e) asked (refreshCheck ramp e asked was) (newPoints was)
       (spent + (newEvaluations ramp e asked + listEvaluations (colourOf (edited ramp e)) (farOf asked) (newPoints was)))
 
   unfoldable pub editText : Held → List ℕ
@@ -79,7 +79,7 @@ module _ (ramp : Ramp) (e : Edit) (asked : Float) where
 
 -- a record of zeros is lent
 abbrev pub blank : Held
-blank = heldOf (replicate recordLength f0) (replicate cells 0)
+blank = heldOf (replicate recordLength f0) (replicate cells 0) (replicate marksLength 0)
 
 abbrev pub rampText : Ramp → Float → Edited → List ℕ
 rampText ramp asked edit.Not = freshText ramp asked blank

@@ -43,6 +43,7 @@ fn fresh(
 {
     let mut rows = [0.0f32; Sampler::CELLS * Sampler::ROW];
     let mut counts = [0u8; Sampler::CELLS];
+    let mut marks = [0u32; Sampler::MARKS];
     let made = linearize::flatten(
         kind,
         positions,
@@ -51,6 +52,7 @@ fn fresh(
         threshold,
         &mut rows,
         &mut counts,
+        &mut marks,
         places,
         colours,
     );
@@ -72,6 +74,7 @@ fn edited_list(
 {
     let mut rows = [0.0f32; Sampler::CELLS * Sampler::ROW];
     let mut counts = [0u8; Sampler::CELLS];
+    let mut marks = [0u32; Sampler::MARKS];
     match linearize::sample(
         kind,
         positions,
@@ -80,6 +83,7 @@ fn edited_list(
         threshold,
         &mut rows,
         &mut counts,
+        &mut marks,
     ) {
         Sampled::Refused(number) => Reply::Refused(number),
         Sampled::Done(n) => {
@@ -92,6 +96,7 @@ fn edited_list(
                 threshold,
                 &mut rows,
                 &mut counts,
+                &mut marks,
                 places,
                 colours,
             );

@@ -11,8 +11,9 @@ use Rattle.sampling.specs.Lent.{Held}
 use Rattle.linearize.specs.Lent.{Output, outputOf}
 use Rattle.sampling.specs.Midpoints.{Far}
 use Rattle.linearize.specs.Places.{listOf}
-use Rattle.linearize.specs.Desk.{listedOf, listAnswer, answerBy, withSampling, thinCheck, pointsIn, room, thinOutput}
+use Rattle.linearize.specs.Desk.{listedOf, listAnswer, answerBy, withSampling, pointsIn, room, thinOutput}
 use Rattle.sampling.specs.Sampling.{farOf}
+use Rattle.records.specs.Fitness.{thinCheck}
 use Rattle.linearize.specs.Inner.{ListMade}
 use Rattle.linearize.specs.Promises.{Tells, Thins}
 use Rattle.linearize.specs.declared.Listed.{Listed}
@@ -41,11 +42,11 @@ pub both : (out out′ : Output) → out .positions ≡ out′ .positions → ou
 both out out′ p q = ap (λ (l : List Float). outputOf l (out .channels)) p ∙ ap (outputOf _) q
 
 module _ (ramp : Ramp) (asked : Float) (was : Held) where
-  pub thin-refused : (out : Output) (k : ℕ) → thinCheck ramp was ≡ checked.Refused k → Thins ramp asked was (change out out) (listed.Refused k)
+  pub thin-refused : (out : Output) (k : ℕ) → thinCheck ramp asked was ≡ checked.Refused k → Thins ramp asked was (change out out) (listed.Refused k)
   unfolding thinOutput
   thin-refused out k e = record { told = tells _ _ _ _ _ (rw e); output = rw e }
 
-  pub thin-done : (far : Far) (hi : Float) (out : Change Output) (r : Listed) → thinCheck ramp was ≡ checked.Fine
+  pub thin-done : (far : Far) (hi : Float) (out : Change Output) (r : Listed) → thinCheck ramp asked was ≡ checked.Fine
       → far ≡ farOf asked → hi ≡ maxOf ramp → Lists ramp far hi was out r → Thins ramp asked was out r
   unfolding thinOutput listAnswer
   thin-done far hi out r e p q w =

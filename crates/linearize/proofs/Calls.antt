@@ -17,7 +17,8 @@ use Rattle.linearize.specs.Places.{listOf}
 use Rattle.sampling.specs.Midpoints.{Gradient, Far}
 use Rattle.thinning.specs.Kept.{keptOf, stopRefusal, firstRefusal, refusalFrom, refusalOf, listEvaluations}
 use Rattle.sampling.specs.Sampling.{farOf, heldCheck, fresh, freshEvaluations}
-use Rattle.linearize.specs.Desk.{evaluationsOfListed, stopsOfListed, valueBy, thinCheck, pointsIn, room, flattenEvaluations}
+use Rattle.linearize.specs.Desk.{evaluationsOfListed, stopsOfListed, valueBy, pointsIn, room, flattenEvaluations}
+use Rattle.records.specs.Fitness.{thinCheck}
 use Rattle.linearize.specs.Promises.{Thins, Flattens}
 use Rattle.linearize.specs.declared.Listed.{Listed}
 use Rattle.sampling.proofs.Bounds.{sampling-bound}
@@ -63,9 +64,9 @@ module _ (ramp : Ramp) (asked : Float) (was : Held) where
           omega (
             arith,
             w .told .evaluations,
-            value-most (thinCheck ramp was) (refusalOf (colourOf ramp) (farOf asked) (room out) (pointsIn ramp was))
+            value-most (thinCheck ramp asked was) (refusalOf (colourOf ramp) (farOf asked) (room out) (pointsIn ramp was))
                 (listEvaluations (colourOf ramp) (farOf asked) (pointsIn ramp was)) 18430
-                (λ e. let ok = ready ramp was e in
+                (λ e. let ok = ready ramp asked was e in
                 list-bound (colourOf ramp) (farOf asked) (pointsIn ramp was) (omega (arith, list-some (was .rows) (was .counts) (maxOf ramp) ok)) (list-most (was .rows) (was .counts) (maxOf ramp) ok)),
           )
 
@@ -75,7 +76,7 @@ module _ (ramp : Ramp) (asked : Float) (was : Held) where
           omega (
             arith,
             w .told .stops,
-            value-room (thinCheck ramp was) (refusalOf (colourOf ramp) (farOf asked) (room out) ts)
+            value-room (thinCheck ramp asked was) (refusalOf (colourOf ramp) (farOf asked) (room out) ts)
                 (length (keptOf (colourOf ramp) (farOf asked) ts)) (room out) (kept-room (colourOf ramp) (farOf asked) (room out) ts),
           )
 

@@ -1,110 +1,30 @@
--- Laws of the refusals 1 to 5. Assumes nothing.
-use mathlib.Core.Path.{_≡_, refl, sym, ap, _∙_}
-use mathlib.Core.Bool.{Bool, true, false, cond, _&&_}
-use mathlib.Core.List.{List, [], _∷_}
-use Prim.Native.Nat.{ℕ, zero, suc, _+_, _≤_, _<_}
-use native.Mathlib.Numerals.{add-one}
+-- A record that passes the check of a thinning may be thinned. Assumes nothing.
+use mathlib.Core.Path.{_≡_, sym}
+use Prim.Native.Nat.{ℕ}
 use native.Mathlib.Omega.{arith}
-use borrow.Author.Tests.{le-leb, lt-leb, leb-true}
-use lib.Dec.{leb}
-use lib.ListN.{length, drop, getD, drop-of-length-le}
-use lib.Seq.{drop-cons}
+use mathlib.Core.List.{List}
+use lib.ListN.{length}
 use lib.Ieee.{Float}
-use Rattle.refusals.specs.Refusals.{badRecord}
-use Rattle.float.proofs.Flags.{both-l, both-r}
-use Rattle.stops.specs.declared.Checked.{Checked}
 use Rattle.stops.specs.declared.Checked.the-variants as checked
 use Rattle.stops.specs.Lent.{Ramp}
 use Rattle.sampling.specs.Lent.{Held}
-use Rattle.sampling.specs.Sampling.{heldCheck}
-use Rattle.sampling.proofs.Checks.{passes-both, record-lengths}
-use Rattle.linearize.specs.Desk.{countsGood, countsCheck, thinCheck}
+use Rattle.sampling.proofs.Checks.{record-lengths}
+use Rattle.records.specs.Fitness.{countsCheck, thinCheck}
+use Rattle.records.proofs.Counting.{each-good, all-good, counts-pass}
+use Rattle.records.proofs.Passing.{sample-fine, counts-fine}
 use Rattle.linearize.specs.Inner.{Ready}
 
--- ---- the counts
-
-module _ (l : List ℕ) (i : ℕ) (h : i < length l) where
-  cons : countsGood (drop i l) ≡ (leb 1 (getD l i 0) && (leb (getD l i 0) 128 && countsGood (drop (i + 1) l)))
-  unfolding countsGood
-  cons = ap countsGood (drop-cons l i 0 h) ∙ rw add-one
-
-  pub too-small : getD l i 0 < 1 → countsGood (drop i l) ≡ false
-  too-small k = cons ∙ simp (lt-leb 1 (getD l i 0) k)
-
-  pub too-large : 1 ≤ getD l i 0 → 128 < getD l i 0 → countsGood (drop i l) ≡ false
-  too-large j k = cons ∙ simp (le-leb 1 (getD l i 0) j, lt-leb (getD l i 0) 128 k)
-
-  pub fitting : 1 ≤ getD l i 0 → getD l i 0 ≤ 128 → countsGood (drop (i + 1) l) ≡ countsGood (drop i l)
-  fitting j k = sym (cons ∙ simp (le-leb 1 (getD l i 0) j, le-leb (getD l i 0) 128 k))
-
-pub all-seen : (l : List ℕ) (i : ℕ) → length l ≤ i → countsGood (drop i l) ≡ true
-unfolding countsGood
-all-seen l i h = ap countsGood (drop-of-length-le l h)
-
-module _ (l : List ℕ) where
-  pub counts-fail : countsGood l ≡ false → checked.Refused badRecord ≡ countsCheck l
-  unfolding countsCheck
-  counts-fail h = simp h
-
-  pub counts-pass : countsGood l ≡ true → checked.Fine ≡ countsCheck l
-  unfolding countsCheck
-  counts-pass h = simp h
-
-  good-by : (b : Bool) → cond b checked.Fine (checked.Refused badRecord) ≡ checked.Fine → b ≡ true
-  good-by true h = refl
-  good-by false h = let z : _≡_ {A = ℕ} 0 1 = cc in absurd (omega arith)
-
-  counts-good : countsCheck l ≡ checked.Fine → countsGood l ≡ true
-  unfolding countsCheck
-  counts-good h = good-by (countsGood l) h
-
-each-good : (l : List ℕ) → countsGood l ≡ true → (i : ℕ) → i < length l → (1 ≤ getD l i 0) × (getD l i 0 ≤ 128)
-unfolding countsGood
-each-good [] e i h = absurd (omega arith)
-each-good (n ∷ l) e zero h =
-    let r = both-r (leb 1 n) (leb n 128 && countsGood l) e in
-    (leb-true 1 n (both-l (leb 1 n) (leb n 128 && countsGood l) e), leb-true n 128 (both-l (leb n 128) (countsGood l) r))
-each-good (n ∷ l) e (suc i) h =
-    each-good l (both-r (leb n 128) (countsGood l) (both-r (leb 1 n) (leb n 128 && countsGood l) e)) i (omega arith)
-
--- ---- the check before thinning
-
-module _ (ramp : Ramp) (was : Held) where
-  pub sample-refuses : (k : ℕ) → heldCheck ramp was ≡ checked.Refused k → checked.Refused k ≡ thinCheck ramp was
-  unfolding thinCheck
-  sample-refuses k e = simp e
-
-  pub sample-passes : (r : Checked) → heldCheck ramp was ≡ checked.Fine → r ≡ countsCheck (was .counts) → r ≡ thinCheck ramp was
-  unfolding thinCheck
-  sample-passes r e h = h ∙ rw e
-
-  module _ (h : thinCheck ramp was ≡ checked.Fine) where
-    pub sample-fine : heldCheck ramp was ≡ checked.Fine
-    unfolding thinCheck
-    sample-fine = passes-both (heldCheck ramp was) (countsCheck (was .counts)) h .0
-
-    counts-fine : countsGood (was .counts) ≡ true
-    unfolding thinCheck
-    counts-fine = counts-good (was .counts) (passes-both (heldCheck ramp was) (countsCheck (was .counts)) h .1)
-
-    -- such a record may be thinned
-    pub ready : Ready (was .rows) (was .counts)
-    ready =
-        let l = record-lengths ramp (length (was .rows)) (length (was .counts)) sample-fine in
-        record {
-          long = l .0;
-          many = l .1;
-          some = λ i k. each-good (was .counts) counts-fine i (omega (arith, l)) .0;
-          most = λ i k. each-good (was .counts) counts-fine i (omega (arith, l)) .1;
-        }
+pub ready : (ramp : Ramp) (asked : Float) (was : Held) → thinCheck ramp asked was ≡ checked.Fine → Ready (was .rows) (was .counts)
+ready ramp asked was h =
+    let l = record-lengths ramp (length (was .rows)) (length (was .counts)) (length (was .marks)) (sample-fine ramp asked was h) in
+    let good = counts-fine ramp asked was h in
+    record {
+      long = l .long;
+      many = l .many;
+      some = λ i k. each-good (was .counts) good i (omega (arith, l .many)) .0;
+      most = λ i k. each-good (was .counts) good i (omega (arith, l .many)) .1;
+    }
 
 -- and what the test of the counts asks of a record, one that may be thinned has
-all-good : (l : List ℕ) → ((i : ℕ) → i < length l → (1 ≤ getD l i 0) × (getD l i 0 ≤ 128)) → countsGood l ≡ true
-unfolding countsGood
-all-good [] each = refl
-all-good (n ∷ l) each =
-    let a = each 0 (omega arith) in
-    rw (le-leb 1 n (a .0), le-leb n 128 (a .1)) (all-good l (λ i h. each (suc i) (omega arith)))
-
 pub ready-counts : (rows : List Float) (counts : List ℕ) → Ready rows counts → countsCheck counts ≡ checked.Fine
 ready-counts rows counts r = sym (counts-pass counts (all-good counts (λ i h. (r .some i (omega (arith, r .many)), r .most i (omega (arith, r .many))))))

@@ -145,13 +145,13 @@ module _ (ramp : Ramp) (asked : Float) (ks : List Bool) (was is : Held) (fine : 
   pub resampled-ready : is ≡ resampled ramp asked ks was → Ready (is .rows) (is .counts)
   unfolding resampled anewRows anewCounts
   resampled-ready e =
-      let l = record-lengths ramp (length (was .rows)) (length (was .counts)) fine in
+      let l = record-lengths ramp (length (was .rows)) (length (was .counts)) (length (was .marks)) fine in
       let g = colourOf ramp in
       let far = farOf asked in
       let lo = minOf ramp in
       let hi = maxOf ramp in
       rw e (record {
-        long = length-joined (anewRow g far (keptBy ks) lo hi (was .rows)) 128 36 (anew-length g far (keptBy ks) lo hi (was .rows) (was .counts) (l .0) (l .1)) 36 (omega arith);
+        long = length-joined (anewRow g far (keptBy ks) lo hi (was .rows)) 128 36 (anew-length g far (keptBy ks) lo hi (was .rows) (was .counts) (l .long) (l .many)) 36 (omega arith);
         many = length-joined (λ i. anewCount g far (keptBy ks) lo hi (was .counts) i ∷ []) 1 36 (λ j h. refl) 36 (omega arith);
         some = λ i h. rw (single (anewCount g far (keptBy ks) lo hi (was .counts)) 36 i h) (count-within i h .0);
         most = λ i h. rw (single (anewCount g far (keptBy ks) lo hi (was .counts)) 36 i h) (count-within i h .1);
@@ -161,9 +161,10 @@ module _ (ramp : Ramp) (asked : Float) (ks : List Bool) (was is : Held) (fine : 
 pub again-bound : (ramp : Ramp) (asked : Float) (ks : List Bool) (n : ℕ) → n ≡ resampledEvaluations ramp asked ks → n ≤ 13716
 again-bound ramp asked ks n e = omega (arith, resampling-bound ramp asked ks)
 
-pub made-bound : (ramp : Ramp) (far : Far) (hi : Float) (is : Held) (out : Change Output) {made : Listed} → Ready (is .rows) (is .counts) → Lists ramp far hi is out made → evaluationsOfListed made ≤ 32146
-made-bound ramp far hi is out ok w =
-    omega (arith, ap evaluationsOfListed (w .answer), answer-bound (colourOf ramp) far (listOf (is .rows) (is .counts) hi) (omega (arith, list-some (is .rows) (is .counts) hi ok)) (list-most (is .rows) (is .counts) hi ok) (room (out .entry)))
+pub made-bound : (ramp : Ramp) (far : Far) (hi : Float) (rows : List Float) (counts : List ℕ) (out : Change Output) {made : Listed} → Ready rows counts
+    → ListMade (colourOf ramp) far (room (out .entry)) (listOf rows counts hi) (out .entry .positions) (out .exit .positions) (out .entry .channels) (out .exit .channels) made → evaluationsOfListed made ≤ 32146
+made-bound ramp far hi rows counts out ok w =
+    omega (arith, ap evaluationsOfListed (w .answer), answer-bound (colourOf ramp) far (listOf rows counts hi) (omega (arith, list-some rows counts hi ok)) (list-most rows counts hi ok) (room (out .entry)))
 
 -- ---- the answers
 module _ (ramp : Ramp) (asked : Float) (ks : List Bool) where

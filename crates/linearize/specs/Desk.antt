@@ -1,20 +1,16 @@
 -- When a list is refused, and what each call answers and leaves in lent memory. Document 01's number and values for each case of an answer.
-use mathlib.Core.Bool.{Bool, true, cond, _&&_}
-use mathlib.Core.List.{List, [], _∷_}
+use mathlib.Core.List.{List}
 use Prim.Native.Nat.{ℕ, zero, suc, _+_}
-use lib.Dec.{leb}
 use lib.ListN.{length}
 use lib.Ieee.{Float}
-use Rattle.refusals.specs.Refusals.{badRecord}
 use Rattle.stops.specs.declared.Checked.{Checked}
-use Rattle.stops.specs.declared.Checked.the-variants as checked
 use Rattle.stops.specs.Answers.{onFine}
 use Rattle.stops.specs.Lent.{Ramp}
 use Rattle.gradient.specs.Ramp.{maxOf, colourOf}
-use Rattle.sampling.specs.Constants.{rowLength}
 use Rattle.sampling.specs.Lent.{Held}
 use Rattle.sampling.specs.Midpoints.{Gradient, Far}
-use Rattle.sampling.specs.Sampling.{andThen, heldCheck, farOf, fresh, freshEvaluations}
+use Rattle.sampling.specs.Sampling.{heldCheck, farOf, fresh, freshEvaluations}
+use Rattle.records.specs.Fitness.{thinCheck}
 use Rattle.linearize.specs.Lent.{Output, outputOf}
 use Rattle.linearize.specs.Places.{listOf}
 use Rattle.thinning.specs.Counts.{sumOf}
@@ -34,14 +30,6 @@ stopsOfListed (listed.Refused n) = 0
 abbrev pub evaluationsOfListed : Listed → ℕ
 evaluationsOfListed (listed.Done s e) = e
 evaluationsOfListed (listed.Refused n) = 0
-
--- every count is 1 to 128
-unfoldable pub countsGood : List ℕ → Bool
-countsGood [] = true
-countsGood (n ∷ ns) = leb 1 n && (leb n rowLength && countsGood ns)
-
-unfoldable pub countsCheck : List ℕ → Checked
-countsCheck counts = cond (countsGood counts) checked.Fine (checked.Refused badRecord)
 
 -- the answer of a list, of the first refusal among its stops
 abbrev pub listedOf : ℕ → ℕ → ℕ → Listed
@@ -75,10 +63,6 @@ unlessRefused (suc r) value = 0
 abbrev pub valueBy : Checked → ℕ → ℕ → ℕ
 valueBy check refusal value = onFine check (unlessRefused refusal value) (λ n. 0)
 
--- refusals 1, then stop by stop 2, 3; then 4, 5; then 5 of a count
-unfoldable pub thinCheck : Ramp → Held → Checked
-thinCheck ramp was = andThen (heldCheck ramp was) (countsCheck (was .counts))
-
 -- ---- the calls: a ramp, a threshold as it was asked for, and what was lent
 
 -- a ramp's points in a record, and the room of the outputs
@@ -102,7 +86,7 @@ module _ (ramp : Ramp) (asked : Float) where
   module _ (was : Held) where
     -- thinning a record, and flattening: the list of its points, to the outputs
     unfoldable pub thinOutput : Output → Output
-    thinOutput out = onFine (thinCheck ramp was) (written (pointsIn ramp was) out) (λ n. out)
+    thinOutput out = onFine (thinCheck ramp asked was) (written (pointsIn ramp was) out) (λ n. out)
 
     unfoldable pub flattenOutput : Output → Output
     flattenOutput out = onFine (heldCheck ramp was) (written (pointsIn ramp (fresh ramp asked)) out) (λ n. out)

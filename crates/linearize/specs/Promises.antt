@@ -9,9 +9,10 @@ use Rattle.stops.specs.Lent.{Ramp, Change}
 use Rattle.gradient.specs.Ramp.{colourOf}
 use Rattle.sampling.specs.Lent.{Held}
 use Rattle.sampling.specs.Sampling.{farOf, heldCheck, fresh, sampleHeld}
+use Rattle.records.specs.Fitness.{thinCheck}
 use Rattle.linearize.specs.Lent.{Output}
 use Rattle.thinning.specs.Kept.{keptOf, refusalOf, listEvaluations}
-use Rattle.linearize.specs.Desk.{numberOfListed, stopsOfListed, evaluationsOfListed, answerBy, numberBy, valueBy, thinCheck, pointsIn, room, thinOutput, flattenEvaluations, flattenOutput}
+use Rattle.linearize.specs.Desk.{numberOfListed, stopsOfListed, evaluationsOfListed, answerBy, numberBy, valueBy, pointsIn, room, thinOutput, flattenEvaluations, flattenOutput}
 use Rattle.linearize.specs.declared.Listed.{Listed}
 
 -- a list's answer, and document 01's number and values of it
@@ -27,7 +28,7 @@ TellsOf ramp asked check out ts spent r =
 
 -- `thin`: the answer and both outputs
 pub record Thins (ramp : Ramp) (asked : Float) (was : Held) (out : Change Output) (r : Listed) : Type 0 where
-  pub told : TellsOf ramp asked (thinCheck ramp was) (out .entry) (pointsIn ramp was) (listEvaluations (colourOf ramp) (farOf asked) (pointsIn ramp was)) r
+  pub told : TellsOf ramp asked (thinCheck ramp asked was) (out .entry) (pointsIn ramp was) (listEvaluations (colourOf ramp) (farOf asked) (pointsIn ramp was)) r
   pub output : out .exit ≡ thinOutput ramp asked was (out .entry)
 
 -- `flatten`: the answer, the record and both outputs

@@ -1,7 +1,7 @@
 // Flattening a ramp: sampling it into a lent record, and thinning the record to stops.
 use crate::kept::kept_good;
 use crate::kept::refused_by;
-use refusals::BAD_RECORD;
+use records::check_thin;
 pub use sampling::Sampled;
 pub use sampling::Sampler;
 use sampling::check_sample;
@@ -13,9 +13,8 @@ use stops::Kind;
 use thinning::sum;
 ghost use mathlib.Core.Path.{_≡_};
 ghost use Rattle.linearize.specs.Relist.{Relists};
-ghost use Rattle.stops.specs.Answers.{Checks};
-ghost use Rattle.linearize.specs.Desk.{countsCheck, thinCheck, afterSpending};
-ghost use Rattle.stops.specs.Lent.{lentRamp, old};
+ghost use Rattle.linearize.specs.Desk.{afterSpending};
+ghost use Rattle.stops.specs.Lent.{lentRamp};
 ghost use Rattle.sampling.specs.Lent.{lentHeld};
 ghost use Rattle.linearize.specs.Lent.{lentOutput};
 ghost use Rattle.linearize.specs.Promises.{Thins, Flattens};
@@ -35,42 +34,7 @@ pub(crate) struct RowPlace {
     pub(crate) index: usize,
 }
 
-// Refusal 5 of a count that is 0 or above 128.
-fn check_counts(counts: &[u8]) -> Checked
-    ensures { λ r. ⌜ r ≡ countsCheck (old counts) ⌝ }
-{
-    let mut i = 0;
-    while i < counts.len() {
-        let n = counts[i] as usize;
-        if n < 1 {
-            return Checked::Refused(BAD_RECORD);
-        }
-        if n > Sampler::ROW {
-            return Checked::Refused(BAD_RECORD);
-        }
-        i += 1;
-    }
-    Checked::Fine
-}
-
-// Refusals 1 to 5 of a thinning.
-pub fn check_thin(
-    kind: Kind,
-    positions: &[f32],
-    channels: &[f32],
-    codes: &[u8],
-    rows: &[f32],
-    counts: &[u8],
-) -> Checked
-    ensures { λ r. ⌜ Checks (thinCheck (lentRamp kind positions channels codes) (lentHeld rows counts .entry)) r ⌝ }
-{
-    match check_sample(kind, positions, channels, codes, rows.len(), counts.len()) {
-        Checked::Refused(n) => Checked::Refused(n),
-        Checked::Fine => check_counts(counts),
-    }
-}
-
-// Thins a record to stops in the lent outputs. Refusals 1 to 5 leave the outputs as they were, 7 to 9 set them to zero.
+// Thins a record to stops in the lent outputs. Refusals 1 to 5 and 20 leave the outputs as they were, 7 to 9 set them to zero.
 pub fn thin(
     kind: Kind,
     positions: &[f32],
@@ -79,12 +43,22 @@ pub fn thin(
     threshold: f32,
     rows: &[f32],
     counts: &[u8],
+    marks: &[u32],
     out_positions: &mut [f32],
     out_channels: &mut [f32],
 ) -> Listed
-    ensures { λ r. ⌜ Thins (lentRamp kind positions channels codes) threshold (lentHeld rows counts .entry) (lentOutput «out_positions» «out_channels») r ⌝ }
+    ensures { λ r. ⌜ Thins (lentRamp kind positions channels codes) threshold (lentHeld rows counts marks .entry) (lentOutput «out_positions» «out_channels») r ⌝ }
 {
-    match check_thin(kind, positions, channels, codes, rows, counts) {
+    match check_thin(
+        kind,
+        positions,
+        channels,
+        codes,
+        threshold,
+        rows,
+        counts,
+        marks,
+    ) {
         Checked::Refused(n) => Listed::Refused(n),
         Checked::Fine => {
             let cutoff = cutoff_of(threshold);
@@ -132,13 +106,22 @@ pub fn relist(
     keep: [bool; 36],
     rows: &mut [f32],
     counts: &mut [u8],
+    marks: &mut [u32],
     out_positions: &mut [f32],
     out_channels: &mut [f32],
 ) -> Listed
-    ensures { λ r. ⌜ Relists (lentRamp kind positions channels codes) threshold keep (lentHeld rows counts) (lentOutput «out_positions» «out_channels») r ⌝ }
+    ensures { λ r. ⌜ Relists (lentRamp kind positions channels codes) threshold keep (lentHeld rows counts marks) (lentOutput «out_positions» «out_channels») r ⌝ }
 {
     if !kept_good(keep, counts) {
-        return refused_by(check_sample(kind, positions, channels, codes, rows.len(), counts.len()));
+        return refused_by(check_sample(
+            kind,
+            positions,
+            channels,
+            codes,
+            rows.len(),
+            counts.len(),
+            marks.len(),
+        ));
     }
     match resample(
         kind,
@@ -149,6 +132,7 @@ pub fn relist(
         keep,
         rows,
         counts,
+        marks,
     ) {
         Sampled::Refused(n) => Listed::Refused(n),
         Sampled::Done(n) => {
@@ -181,10 +165,11 @@ pub fn flatten(
     threshold: f32,
     rows: &mut [f32],
     counts: &mut [u8],
+    marks: &mut [u32],
     out_positions: &mut [f32],
     out_channels: &mut [f32],
 ) -> Listed
-    ensures { λ r. ⌜ Flattens (lentRamp kind positions channels codes) threshold (lentHeld rows counts) (lentOutput «out_positions» «out_channels») r ⌝ }
+    ensures { λ r. ⌜ Flattens (lentRamp kind positions channels codes) threshold (lentHeld rows counts marks) (lentOutput «out_positions» «out_channels») r ⌝ }
 {
     relist(
         kind,
@@ -195,6 +180,7 @@ pub fn flatten(
         [false; 36],
         rows,
         counts,
+        marks,
         out_positions,
         out_channels,
     )

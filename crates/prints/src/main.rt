@@ -127,6 +127,7 @@ fn pair() {
     let channels = [0.25f32, 0.0, 0.0, 1.0, 0.75, 0.0, 0.0, 1.0];
     let mut rows = [0.0f32; Sampler::CELLS * Sampler::ROW];
     let mut counts = [0u8; Sampler::CELLS];
+    let mut marks = [0u32; Sampler::MARKS];
     let mut out_positions = [9.0f32; 2];
     let mut out_channels = [9.0f32; 8];
     out(b"two stops at 0.5\t");
@@ -138,6 +139,7 @@ fn pair() {
         Sampler::DEFAULT,
         &mut rows,
         &mut counts,
+        &mut marks,
         &mut out_positions,
         &mut out_channels,
     ) {

@@ -9,7 +9,7 @@ use Rattle.plain.specs.Ramps.{builtShown}
 use Rattle.plain.specs.Kinds.{kindOf, onKind, Shows}
 use Rattle.plain.specs.declared.kinds.Coded.{Coded}
 use Rattle.plain.specs.declared.kinds.Coded.the-variants.{Of, Unknown}
-use Rattle.promises.proofs.Parts.{rows-of, counts-of, positions-of, channels-of}
+use Rattle.promises.proofs.Parts.{rows-of, counts-of, marks-of, positions-of, channels-of}
 use Rattle.promises.proofs.Segment as stored
 use Rattle.promises.specs.Law.{Coincide, coincide, answer, _with_, both}
 use Rattle.colorgrad_c.proofs.leaves.colorgrad_root.Reads as of-root
@@ -75,37 +75,37 @@ module _ {A E : Type 0} {P : Kind → A → E → Type 0} {Q : A → E → Type 
     by-code-alone known unknown r s e f v w = v .shows .shown ∙ ap show (by-kind known unknown (kindOf code) (v .shows .answer) (w .shows .answer) e f (v .shows .promised) (w .shows .promised)) ∙ sym (w .shows .shown)
 
 -- with the record
-pub sample : (κs : Lfts 5) (a : _) → Coincide (of-sample.Learnt κs a) (λ r e. r with now (e .1 .1 .1 .1 .1 .0) with now (e .1 .1 .1 .1 .1 .1 .0))
+pub sample : (κs : Lfts 6) (a : _) → Coincide (of-sample.Learnt κs a) (λ r e. r with now (e .1 .1 .1 .1 .1 .0) with now (e .1 .1 .1 .1 .1 .1 .0) with now (e .1 .1 .1 .1 .1 .1 .1 .0))
 sample κs a =
     by-code (a .0)
-    (λ kind. coincide (λ r e w. both (w .answer) (both (rows-of (w .left)) (counts-of (w .left)))))
-    (coincide (λ r e w. both (w .0) (both (rows-of (w .1)) (counts-of (w .1)))))
+    (λ kind. coincide (λ r e w. both (w .answer) (both (rows-of (w .left)) (both (counts-of (w .left)) (marks-of (w .left))))))
+    (coincide (λ r e w. both (w .0) (both (rows-of (w .1)) (both (counts-of (w .1)) (marks-of (w .1))))))
 
-pub refresh : (κs : Lfts 5) (a : _) → Coincide (of-refresh.Learnt κs a) (λ r e. r with now (e .1 .1 .1 .1 .1 .1 .1 .0) with now (e .1 .1 .1 .1 .1 .1 .1 .1 .0))
+pub refresh : (κs : Lfts 6) (a : _) → Coincide (of-refresh.Learnt κs a) (λ r e. r with now (e .1 .1 .1 .1 .1 .1 .1 .0) with now (e .1 .1 .1 .1 .1 .1 .1 .1 .0) with now (e .1 .1 .1 .1 .1 .1 .1 .1 .1 .0))
 refresh κs a =
     by-code (a .0)
-    (λ kind. coincide (λ r e w. both (w .answer) (both (rows-of (w .left)) (counts-of (w .left)))))
-    (coincide (λ r e w. both (w .0) (both (rows-of (w .1)) (counts-of (w .1)))))
+    (λ kind. coincide (λ r e w. both (w .answer) (both (rows-of (w .left)) (both (counts-of (w .left)) (marks-of (w .left))))))
+    (coincide (λ r e w. both (w .0) (both (rows-of (w .1)) (both (counts-of (w .1)) (marks-of (w .1))))))
 
 -- with both outputs
-pub thin : (κs : Lfts 7) (a : _) → Coincide (of-thin.Learnt κs a) (λ r e. r with now (e .1 .1 .1 .1 .1 .1 .1 .0) with now (e .1 .1 .1 .1 .1 .1 .1 .1 .0))
+pub thin : (κs : Lfts 8) (a : _) → Coincide (of-thin.Learnt κs a) (λ r e. r with now (e .1 .1 .1 .1 .1 .1 .1 .1 .0) with now (e .1 .1 .1 .1 .1 .1 .1 .1 .1 .0))
 thin κs a =
     by-code (a .0)
     (λ kind. coincide (λ r e w. both (w .told .answer) (both (positions-of (w .output)) (channels-of (w .output)))))
     (coincide (λ r e w. both (w .0) (both (positions-of (w .1)) (channels-of (w .1)))))
 
 -- with the record and both outputs
-pub flatten : (κs : Lfts 7) (a : _) → Coincide (of-flatten.Learnt κs a) (λ r e. r with now (e .1 .1 .1 .1 .1 .0) with now (e .1 .1 .1 .1 .1 .1 .0) with now (e .1 .1 .1 .1 .1 .1 .1 .0) with now (e .1 .1 .1 .1 .1 .1 .1 .1 .0))
+pub flatten : (κs : Lfts 8) (a : _) → Coincide (of-flatten.Learnt κs a) (λ r e. r with now (e .1 .1 .1 .1 .1 .0) with now (e .1 .1 .1 .1 .1 .1 .0) with now (e .1 .1 .1 .1 .1 .1 .1 .0) with now (e .1 .1 .1 .1 .1 .1 .1 .1 .0) with now (e .1 .1 .1 .1 .1 .1 .1 .1 .1 .0))
 flatten κs a =
     by-code (a .0)
-    (λ kind. coincide (λ r e w. both (w .told .answer) (both (rows-of (w .left)) (both (counts-of (w .left)) (both (positions-of (w .output)) (channels-of (w .output)))))))
-    (coincide (λ r e w. both (w .0) (both (rows-of (w .1 .0)) (both (counts-of (w .1 .0)) (both (positions-of (w .1 .1)) (channels-of (w .1 .1)))))))
+    (λ kind. coincide (λ r e w. both (w .told .answer) (both (rows-of (w .left)) (both (counts-of (w .left)) (both (marks-of (w .left)) (both (positions-of (w .output)) (channels-of (w .output))))))))
+    (coincide (λ r e w. both (w .0) (both (rows-of (w .1 .0)) (both (counts-of (w .1 .0)) (both (marks-of (w .1 .0)) (both (positions-of (w .1 .1)) (channels-of (w .1 .1))))))))
 
-pub refresh-list : (κs : Lfts 7) (a : _) → Coincide (of-refresh-list.Learnt κs a) (λ r e. r with now (e .1 .1 .1 .1 .1 .1 .1 .0) with now (e .1 .1 .1 .1 .1 .1 .1 .1 .0) with now (e .1 .1 .1 .1 .1 .1 .1 .1 .1 .0) with now (e .1 .1 .1 .1 .1 .1 .1 .1 .1 .1 .0))
+pub refresh-list : (κs : Lfts 8) (a : _) → Coincide (of-refresh-list.Learnt κs a) (λ r e. r with now (e .1 .1 .1 .1 .1 .1 .1 .0) with now (e .1 .1 .1 .1 .1 .1 .1 .1 .0) with now (e .1 .1 .1 .1 .1 .1 .1 .1 .1 .0) with now (e .1 .1 .1 .1 .1 .1 .1 .1 .1 .1 .0) with now (e .1 .1 .1 .1 .1 .1 .1 .1 .1 .1 .1 .0))
 refresh-list κs a =
     by-code (a .0)
-    (λ kind. coincide (λ r e w. both (w .told .answer) (both (rows-of (w .left)) (both (counts-of (w .left)) (both (positions-of (w .output)) (channels-of (w .output)))))))
-    (coincide (λ r e w. both (w .0) (both (rows-of (w .1 .0)) (both (counts-of (w .1 .0)) (both (positions-of (w .1 .1)) (channels-of (w .1 .1)))))))
+    (λ kind. coincide (λ r e w. both (w .told .answer) (both (rows-of (w .left)) (both (counts-of (w .left)) (both (marks-of (w .left)) (both (positions-of (w .output)) (channels-of (w .output))))))))
+    (coincide (λ r e w. both (w .0) (both (rows-of (w .1 .0)) (both (counts-of (w .1 .0)) (both (marks-of (w .1 .0)) (both (positions-of (w .1 .1)) (channels-of (w .1 .1))))))))
 
 -- with the lent output
 pub paint : (κs : Lfts 5) (a : _) → Coincide (of-paint.Learnt κs a) (λ r e. r with now (e .1 .1 .1 .1 .1 .0))

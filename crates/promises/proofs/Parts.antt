@@ -9,6 +9,9 @@ rows-of e = ap (λ (x : Held). x .rows) e
 pub counts-of : {h k : Held} → h ≡ k → h .counts ≡ k .counts
 counts-of e = ap (λ (x : Held). x .counts) e
 
+pub marks-of : {h k : Held} → h ≡ k → h .marks ≡ k .marks
+marks-of e = ap (λ (x : Held). x .marks) e
+
 pub positions-of : {o u : Output} → o ≡ u → o .positions ≡ u .positions
 positions-of e = ap (λ (x : Output). x .positions) e
 

@@ -3,7 +3,7 @@ use contract.Lifetimes.{Lfts}
 use denote.Ref.{now}
 use Rattle.sqrt.proofs.Theorems.{cutoff-unique}
 use Rattle.sampling.specs.Constants.{thresholdOf}
-use Rattle.promises.proofs.Parts.{rows-of, counts-of}
+use Rattle.promises.proofs.Parts.{rows-of, counts-of, marks-of}
 use Rattle.promises.specs.Law.{Coincide, coincide, answer, _with_, both}
 use Rattle.difference.proofs.stands_out.Reads as of-stands-out
 use Rattle.sampling.proofs.Sampler.new.Reads as of-new
@@ -30,11 +30,11 @@ pub check-sample : (κs : Lfts 3) (a : _) → Coincide (of-check-sample.Learnt �
 check-sample κs a = coincide (λ r e w. w)
 
 -- the answer and the record
-pub sample : (κs : Lfts 5) (a : _) → Coincide (of-sample.Learnt κs a) (λ r e. r with now (e .1 .1 .1 .1 .1 .0) with now (e .1 .1 .1 .1 .1 .1 .0))
-sample κs a = coincide (λ r e w. both (w .answer) (both (rows-of (w .left)) (counts-of (w .left))))
+pub sample : (κs : Lfts 6) (a : _) → Coincide (of-sample.Learnt κs a) (λ r e. r with now (e .1 .1 .1 .1 .1 .0) with now (e .1 .1 .1 .1 .1 .1 .0) with now (e .1 .1 .1 .1 .1 .1 .1 .0))
+sample κs a = coincide (λ r e w. both (w .answer) (both (rows-of (w .left)) (both (counts-of (w .left)) (marks-of (w .left)))))
 
-pub resample : (κs : Lfts 5) (a : _) → Coincide (of-resample.Learnt κs a) (λ r e. r with now (e .1 .1 .1 .1 .1 .1 .0) with now (e .1 .1 .1 .1 .1 .1 .1 .0))
-resample κs a = coincide (λ r e w. both (w .answer) (both (rows-of (w .left)) (counts-of (w .left))))
+pub resample : (κs : Lfts 6) (a : _) → Coincide (of-resample.Learnt κs a) (λ r e. r with now (e .1 .1 .1 .1 .1 .1 .0) with now (e .1 .1 .1 .1 .1 .1 .1 .0) with now (e .1 .1 .1 .1 .1 .1 .1 .1 .0))
+resample κs a = coincide (λ r e w. both (w .answer) (both (rows-of (w .left)) (both (counts-of (w .left)) (marks-of (w .left)))))
 
 pub edge : (κs : Lfts 0) (a : _) → Coincide (of-edge.Learnt κs a) answer
 edge κs a = coincide (λ r e w. w)

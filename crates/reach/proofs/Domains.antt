@@ -98,10 +98,10 @@ unit : isDomain f0 f1 ≡ true
 unfolding isDomain ofBits neg le
 unit = refl
 
-module _ (ramp : Ramp) (n m : ℕ) (fine : sampleCheck ramp n m ≡ checked.Fine) where
-  both : (checkOf ramp ≡ checked.Fine) × (shapeCheck (minOf ramp) (maxOf ramp) n m ≡ checked.Fine)
+module _ (ramp : Ramp) (n m k : ℕ) (fine : sampleCheck ramp n m k ≡ checked.Fine) where
+  both : (checkOf ramp ≡ checked.Fine) × (shapeCheck (minOf ramp) (maxOf ramp) n m k ≡ checked.Fine)
   unfolding sampleCheck
-  both = passes-both (checkOf ramp) (shapeCheck (minOf ramp) (maxOf ramp) n m) fine
+  both = passes-both (checkOf ramp) (shapeCheck (minOf ramp) (maxOf ramp) n m k) fine
 
   near : (beyondOf (minOf ramp) || beyondOf (maxOf ramp)) ≡ false
   unfolding shapeCheck

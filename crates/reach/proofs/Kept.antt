@@ -17,7 +17,8 @@ use Rattle.stops.specs.declared.Checked.the-variants as checked
 use Rattle.gradient.specs.Ramp.{minIn, maxIn, minOf, maxOf}
 use Rattle.sampling.specs.Constants.{cells}
 use Rattle.sampling.specs.Cells.{edgeOf, joined}
-use Rattle.sampling.specs.Sampling.{sampleCheck}
+use Rattle.sampling.specs.Lent.{Held}
+use Rattle.sampling.specs.Sampling.{heldCheck}
 use Rattle.sampling.proofs.Joined.{length-joined}
 use Rattle.reach.specs.Stretch.{reachOf, beforeOf, afterOf, outsideOf, clearOf, cellClear}
 use Rattle.reach.specs.KeptCells.{isDomain, cellKept, keptCells}
@@ -116,6 +117,6 @@ module _ (kind : Kind) (ps : List Float) (k : ℕ) where
           ∙ sym (each-same (cellKept kind ps k) clear cells (kept-clear (rw (first, last) at domain)))
 
 -- ---- of a ramp that may be sampled, and a stop of it
-pub checked-kept : (ramp : Ramp) (k n m : ℕ) → sampleCheck ramp n m ≡ checked.Fine → k < length (ramp .positions) → (i : ℕ) → i < cells
+pub checked-kept : (ramp : Ramp) (was : Held) (k : ℕ) → heldCheck ramp was ≡ checked.Fine → k < length (ramp .positions) → (i : ℕ) → i < cells
     → getD (keptCells (ramp .kind) (ramp .positions) k) i false ≡ cellClear (outsideOf (reachOf (ramp .kind)) (ramp .positions) k) (minOf ramp) (maxOf ramp) i
-checked-kept ramp k n m fine there i l = kept-is (ramp .kind) (ramp .positions) k there (checked-domain ramp n m fine) i l
+checked-kept ramp was k fine there i l = kept-is (ramp .kind) (ramp .positions) k there (checked-domain ramp (length (was .rows)) (length (was .counts)) (length (was .marks)) fine) i l

@@ -20,8 +20,9 @@ use Rattle.gradient.specs.Ramp.{isGimp, checkOf}
 use Rattle.gradient.proofs.Valid.{valid}
 use Rattle.sampling.specs.Lent.{Held}
 use Rattle.sampling.specs.Constants.{cells}
-use Rattle.sampling.specs.Sampling.{andThen, sampleCheck, heldCheck}
-use Rattle.linearize.specs.Desk.{thinCheck}
+use Rattle.sampling.specs.Sampling.{andThen, marksOf, sampleCheck, heldCheck}
+use lib.Ieee.{Float}
+use Rattle.records.specs.Fitness.{thinCheck}
 use Rattle.sampling.specs.Anew.{keptBy}
 use Rattle.refresh.specs.RefreshDesk.{refreshable, editAllowed, editCheck, refreshCheck, clearCell}
 use Rattle.refresh.specs.Edit.{edited}
@@ -29,7 +30,7 @@ use Rattle.refresh.specs.declared.edit.Edit.{Edit}
 use Rattle.reach.specs.KeptCells.{keptCells}
 use Rattle.reach.proofs.Kept.{checked-kept}
 use Rattle.sampling.proofs.Checks.{passes-both, ramp-fine}
-use Rattle.linearize.proofs.Checks.{sample-fine}
+use Rattle.records.proofs.Passing.{sample-fine, marks-own}
 use Rattle.refresh.proofs.Edits.{edited-fine}
 
 refused : {n : ℕ} → checked.Refused n ≡ checked.Fine → ⊥
@@ -63,12 +64,12 @@ module _ (kind : Kind) (n : ℕ) (e : Edit) where
       edit-fine h = ap sixth (sym h) ∙ by-stop
 
 -- ---- the check of a refresh
-module _ (ramp : Ramp) (e : Edit) (was : Held) where
-  pub thin-refuses : (m : ℕ) → thinCheck ramp was ≡ checked.Refused m → checked.Refused m ≡ refreshCheck ramp e was
+module _ (ramp : Ramp) (e : Edit) (asked : Float) (was : Held) where
+  pub thin-refuses : (m : ℕ) → thinCheck ramp asked was ≡ checked.Refused m → checked.Refused m ≡ refreshCheck ramp e asked was
   unfolding refreshCheck
   thin-refuses m h = ap (λ (x : Checked). andThen x (editCheck ramp e)) (sym h)
 
-  pub thin-passes : (r : Checked) → thinCheck ramp was ≡ checked.Fine → r ≡ editCheck ramp e → r ≡ refreshCheck ramp e was
+  pub thin-passes : (r : Checked) → thinCheck ramp asked was ≡ checked.Fine → r ≡ editCheck ramp e → r ≡ refreshCheck ramp e asked was
   unfolding refreshCheck
   thin-passes r h k = k ∙ ap (λ (x : Checked). andThen x (editCheck ramp e)) (sym h)
 
@@ -105,9 +106,9 @@ module _ (ramp : Ramp) (e : Edit) (ok : Allowed ramp e) where
   pub edited-passes : checkOf (edited ramp e) ≡ checked.Fine
   edited-passes = edited-fine ramp e (channels-there .0) (ok .colour-fine) (ok .stops) (ok .ramp-passes)
 
-  pub edited-sampling : (n m : ℕ) → sampleCheck ramp n m ≡ checked.Fine → sampleCheck (edited ramp e) n m ≡ checked.Fine
+  pub edited-sampling : (was : Held) → heldCheck ramp was ≡ checked.Fine → heldCheck (edited ramp e) was ≡ checked.Fine
   unfolding sampleCheck
-  edited-sampling n m h = rw edited-passes (rw (ok .ramp-passes) at h)
+  edited-sampling was h = rw edited-passes (rw (ok .ramp-passes) at h)
 
 -- a ramp that passes its check, and an edit that passes 6
 pub edit-allowed : (ramp : Ramp) (e : Edit) → checkOf ramp ≡ checked.Fine → editCheck ramp e ≡ checked.Fine → Allowed ramp e
@@ -123,20 +124,24 @@ edit-allowed ramp e passes edit =
       colour-fine = both-r (ltb (e .stop) n) (finiteRgba (e .colour)) u;
     }
 
-module _ (ramp : Ramp) (e : Edit) (was : Held) (h : refreshCheck ramp e was ≡ checked.Fine) where
-  both : (thinCheck ramp was ≡ checked.Fine) × (editCheck ramp e ≡ checked.Fine)
+module _ (ramp : Ramp) (e : Edit) (asked : Float) (was : Held) (h : refreshCheck ramp e asked was ≡ checked.Fine) where
+  both : (thinCheck ramp asked was ≡ checked.Fine) × (editCheck ramp e ≡ checked.Fine)
   unfolding refreshCheck
-  both = passes-both (thinCheck ramp was) (editCheck ramp e) h
+  both = passes-both (thinCheck ramp asked was) (editCheck ramp e) h
 
-  pub thin-fine : thinCheck ramp was ≡ checked.Fine
+  pub thin-fine : thinCheck ramp asked was ≡ checked.Fine
   thin-fine = both .0
 
   pub sampled : heldCheck ramp was ≡ checked.Fine
-  sampled = sample-fine ramp was thin-fine
+  sampled = sample-fine ramp asked was thin-fine
+
+  -- the record's words are the call's own
+  pub own-words : was .marks ≡ marksOf ramp asked
+  own-words = marks-own ramp asked was thin-fine
 
   pub allowed : Allowed ramp e
-  allowed = edit-allowed ramp e (ramp-fine ramp (length (was .rows)) (length (was .counts)) sampled) (both .1)
+  allowed = edit-allowed ramp e (ramp-fine ramp (length (was .rows)) (length (was .counts)) (length (was .marks)) sampled) (both .1)
 
   -- the cells that the code keeps are those that are clear
   pub kept : (i : ℕ) → i < cells → keptBy (keptCells (ramp .kind) (ramp .positions) (e .stop)) i ≡ clearCell ramp e i
-  kept i l = checked-kept ramp (e .stop) (length (was .rows)) (length (was .counts)) sampled (allowed .there) i l
+  kept i l = checked-kept ramp was (e .stop) sampled (allowed .there) i l

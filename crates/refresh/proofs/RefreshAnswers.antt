@@ -1,5 +1,5 @@
 -- The answers of a refresh, from what the functions within promise. Assumes nothing.
-use mathlib.Core.Path.{_≡_, refl, ap₂, _∙_}
+use mathlib.Core.Path.{_≡_, refl, sym, _∙_}
 use mathlib.Core.Bool.{Bool, true, false}
 use mathlib.Core.List.{List}
 use Prim.Native.Nat.{ℕ, zero, suc, _+_, _≤_}
@@ -13,18 +13,18 @@ use Rattle.stops.specs.declared.Checked.{Checked}
 use Rattle.stops.specs.declared.Checked.the-variants as checked
 use Rattle.gradient.specs.Ramp.{minOf, maxOf, colourOf}
 use Rattle.sampling.specs.Constants.{cells, rowLength}
-use Rattle.sampling.specs.Lent.{Held, heldOf}
+use Rattle.sampling.specs.Lent.{Held}
 use Rattle.sampling.specs.Sampling.{farOf, heldCheck}
 use Rattle.sampling.specs.declared.Sampled.{Sampled}
 use Rattle.sampling.proofs.Bounds.{summed-most}
 use Rattle.linearize.specs.Places.{listOf}
 use Rattle.thinning.specs.Kept.{refusalOf, listEvaluations}
 use Rattle.linearize.specs.Lent.{Output}
-use Rattle.linearize.specs.Desk.{evaluationsOfListed, valueBy, countsCheck, thinCheck, pointsIn, room}
+use Rattle.linearize.specs.Desk.{evaluationsOfListed, valueBy, pointsIn, room}
 use Rattle.linearize.specs.Inner.{Ready}
 use Rattle.linearize.specs.declared.Listed.{Listed}
 use Rattle.linearize.specs.declared.Listed.the-variants as listed
-use Rattle.sampling.proofs.Checks.{passes-both}
+use Rattle.sampling.proofs.Words.{same-held}
 use Rattle.linearize.proofs.Checks.{ready}
 use Rattle.linearize.proofs.Answers.{tells}
 use Rattle.linearize.proofs.Bounds.{list-bound}
@@ -39,7 +39,7 @@ use Rattle.refresh.specs.RefreshDesk.{evaluationsOfRefreshed, clearCell,
 use Rattle.refresh.specs.declared.edit.Edit.{Edit}
 use Rattle.refresh.specs.declared.Refreshed.{Refreshed}
 use Rattle.refresh.specs.declared.Refreshed.the-variants as refreshed
-use Rattle.refresh.proofs.EditChecks.{thin-fine, sampled, allowed, edited-sampling, kept}
+use Rattle.refresh.proofs.EditChecks.{thin-fine, sampled, own-words, allowed, edited-sampling, kept}
 use Rattle.sampling.proofs.Renewing.{anew-tries-most}
 use Rattle.refresh.proofs.Keeping.{renewed-ready, same-rows, same-counts, same-evaluations}
 
@@ -50,68 +50,68 @@ fits true n h l = rw (le-leb 1 n h, le-leb n rowLength l)
 fits false n h l = refl
 
 -- ---- sampled anew, with the kept cells left, is renewed
-module _ (ramp : Ramp) (e : Edit) (was : Held) (fine : refreshCheck ramp e was ≡ checked.Fine) where
+module _ (ramp : Ramp) (e : Edit) (asked : Float) (was : Held) (fine : refreshCheck ramp e asked was ≡ checked.Fine) where
   -- the cells that are left, and the changed ramp in the copy
   abbrev kept-cells : List Bool
   kept-cells = keptCells (ramp .kind) (ramp .positions) (e .stop)
 
   pub edited-held : heldCheck (edited ramp e) was ≡ checked.Fine
-  edited-held = edited-sampling ramp e (allowed ramp e was fine) (length (was .rows)) (length (was .counts)) (sampled ramp e was fine)
+  edited-held = edited-sampling ramp e (allowed ramp e asked was fine) was (sampled ramp e asked was fine)
 
   -- so does the check of a list for which the kept cells are left: their counts are among those that were checked
   counts-fit : (keep : ℕ → Bool) (i n : ℕ) → i + n ≤ cells → countsFit keep (was .counts) i n ≡ true
   unfolding countsFit
   counts-fit keep i zero h = refl
   counts-fit keep i (suc n) h =
-      let r = ready ramp was (thin-fine ramp e was fine) in
+      let r = ready ramp asked was (thin-fine ramp e asked was fine) in
       rw (fits (keep i) (getD (was .counts) i 0) (r .some i (omega arith)) (r .most i (omega arith))) (counts-fit keep (i + 1) n (omega arith))
 
-  relist-fine : (asked : Float) → relistCheck (edited ramp e) asked kept-cells was ≡ checked.Fine
+  relist-fine : relistCheck (edited ramp e) asked kept-cells was ≡ checked.Fine
   unfolding relistCheck
-  relist-fine asked = rw (edited-held, counts-fit (keptBy kept-cells) 0 cells (omega arith))
+  relist-fine = rw (edited-held, counts-fit (keptBy kept-cells) 0 cells (omega arith))
 
-  module _ (asked : Float) where
-    resampled-is : resampled (edited ramp e) asked kept-cells was ≡ renewed ramp e asked was
-    unfolding resampled renewed
-    resampled-is =
-        let same = kept ramp e was fine in
-        ap₂ heldOf (same-rows _ _ _ _ _ _ same (was .rows)) (same-counts _ _ _ _ _ _ same (was .counts))
+  -- the words that are written stood there already: the changed ramp has the ends of the ramp
+  resampled-is : resampled (edited ramp e) asked kept-cells was ≡ renewed ramp e asked was
+  unfolding resampled renewed
+  resampled-is =
+      let same = kept ramp e asked was fine in
+      same-held _ _ (same-rows _ _ _ _ _ _ same (was .rows)) (same-counts _ _ _ _ _ _ same (was .counts)) (sym (own-words ramp e asked was fine))
 
-    spent-is : resampledEvaluations (edited ramp e) asked kept-cells ≡ newEvaluations ramp e asked
-    unfolding resampledEvaluations newEvaluations
-    spent-is = same-evaluations _ _ _ _ _ _ (kept ramp e was fine)
+  spent-is : resampledEvaluations (edited ramp e) asked kept-cells ≡ newEvaluations ramp e asked
+  unfolding resampledEvaluations newEvaluations
+  spent-is = same-evaluations _ _ _ _ _ _ (kept ramp e asked was fine)
 
 -- ---- the answers
 module _ (ramp : Ramp) (e : Edit) (asked : Float) where
-  pub refresh-refused : (was : Held) (n : ℕ) → refreshCheck ramp e was ≡ checked.Refused n → Refreshes ramp e asked (change was was) (refreshed.Refused n)
+  pub refresh-refused : (was : Held) (n : ℕ) → refreshCheck ramp e asked was ≡ checked.Refused n → Refreshes ramp e asked (change was was) (refreshed.Refused n)
   unfolding refreshAnswer refreshEvaluations refreshHeld
   refresh-refused was n h = record { answer = rw h; number = rw h; evaluations = rw h; left = rw h }
 
-  pub refresh-list-refused : (was : Held) (out : Output) (n : ℕ) → refreshCheck ramp e was ≡ checked.Refused n
+  pub refresh-list-refused : (was : Held) (out : Output) (n : ℕ) → refreshCheck ramp e asked was ≡ checked.Refused n
       → RefreshLists ramp e asked (change was was) (change out out) (listed.Refused n)
   unfolding refreshHeld refreshOutput
   refresh-list-refused was out n h = record { told = tells _ _ _ _ _ (rw h); left = rw h; output = rw h }
 
   -- the changed ramp in a copy, and the kept cells
-  module _ (held : Change Held) (h : refreshCheck ramp e (held .entry) ≡ checked.Fine) (copy : Ramp) (ks : List Bool) (is-edited : copy ≡ edited ramp e) (are-kept : ks ≡ keptCells (ramp .kind) (ramp .positions) (e .stop)) where
+  module _ (held : Change Held) (h : refreshCheck ramp e asked (held .entry) ≡ checked.Fine) (copy : Ramp) (ks : List Bool) (is-edited : copy ≡ edited ramp e) (are-kept : ks ≡ keptCells (ramp .kind) (ramp .positions) (e .stop)) where
     pub refresh-done : (s : Sampled) (r : Refreshed) → Resamples copy asked ks held s → r ≡ refreshedBy s → Refreshes ramp e asked held r
     unfolding resampleAnswer resampleHeld refreshAnswer refreshEvaluations refreshHeld
     refresh-done s r v by =
         let was = held .entry in
         let w : Resamples (edited ramp e) asked (keptCells (ramp .kind) (ramp .positions) (e .stop)) held s = rw (← is-edited, ← are-kept) v in
-        let fine = edited-held ramp e was h in
-        let done : r ≡ refreshed.Done (newEvaluations ramp e asked) = by ∙ rw (w .answer, fine, spent-is ramp e was h asked) in
-        record { answer = done ∙ rw h; number = rw (done, h); evaluations = rw (done, h); left = w .left ∙ rw (fine, h, resampled-is ramp e was h asked) }
+        let fine = edited-held ramp e asked was h in
+        let done : r ≡ refreshed.Done (newEvaluations ramp e asked) = by ∙ rw (w .answer, fine, spent-is ramp e asked was h) in
+        record { answer = done ∙ rw h; number = rw (done, h); evaluations = rw (done, h); left = w .left ∙ rw (fine, h, resampled-is ramp e asked was h) }
 
     pub refresh-list-done : (out : Change Output) (r : Listed) → Relists copy asked ks held out r → RefreshLists ramp e asked held out r
     unfolding relistHeld relistOutput refreshHeld refreshOutput
     refresh-list-done out r v =
         let was = held .entry in
         let w : Relists (edited ramp e) asked (keptCells (ramp .kind) (ramp .positions) (e .stop)) held out r = rw (← is-edited, ← are-kept) v in
-        let fine = relist-fine ramp e was h asked in
-        let is = resampled-is ramp e was h asked in
+        let fine = relist-fine ramp e asked was h in
+        let is = resampled-is ramp e asked was h in
         record {
-          told = tells _ _ _ _ _ (w .told .answer ∙ rw (fine, h, is, spent-is ramp e was h asked));
+          told = tells _ _ _ _ _ (w .told .answer ∙ rw (fine, h, is, spent-is ramp e asked was h));
           left = w .left ∙ rw (fine, h, is);
           output = w .output ∙ rw (fine, h, is);
         }
@@ -131,7 +131,7 @@ module _ (ramp : Ramp) (e : Edit) (asked : Float) (held : Change Held) (r : Refr
   -- 13,716 evaluations at most
   pub refresh-most : evaluationsOfRefreshed r ≤ 13716
   unfolding refreshEvaluations
-  refresh-most = omega (arith, w .evaluations, fine-most (refreshCheck ramp e (held .entry)) (newEvaluations ramp e asked) 13716 (new-most ramp e asked))
+  refresh-most = omega (arith, w .evaluations, fine-most (refreshCheck ramp e asked (held .entry)) (newEvaluations ramp e asked) 13716 (new-most ramp e asked))
 
 -- ---- 13,716 + 18,430 evaluations at most for a refresh and its list
 value-most : (check : Checked) (k n most : ℕ) → (check ≡ checked.Fine → n ≤ most) → valueBy check k n ≤ most
@@ -140,13 +140,18 @@ value-most checked.Fine (suc k) n most h = omega arith
 value-most (checked.Refused r) k n most h = omega arith
 
 module _ (ramp : Ramp) (e : Edit) (asked : Float) (was : Held) where
-  -- the record once the edit is made may be thinned
-  pub renewed-thins : refreshCheck ramp e was ≡ checked.Fine → Ready (renewed ramp e asked was .rows) (renewed ramp e asked was .counts)
+  -- the record once the edit is made has the words that it had
+  pub words-stay : renewed ramp e asked was .marks ≡ was .marks
+  unfolding renewed
+  words-stay = refl
+
+  -- it may be thinned
+  pub renewed-thins : refreshCheck ramp e asked was ≡ checked.Fine → Ready (renewed ramp e asked was .rows) (renewed ramp e asked was .counts)
   unfolding renewed
   renewed-thins h =
-      renewed-ready (colourOf (edited ramp e)) (farOf asked) (clearCell ramp e) (minOf ramp) (maxOf ramp) (was .rows) (was .counts) (ready ramp was (thin-fine ramp e was h))
+      renewed-ready (colourOf (edited ramp e)) (farOf asked) (clearCell ramp e) (minOf ramp) (maxOf ramp) (was .rows) (was .counts) (ready ramp asked was (thin-fine ramp e asked was h))
 
-  pub relist-most : refreshCheck ramp e was ≡ checked.Fine
+  pub relist-most : refreshCheck ramp e asked was ≡ checked.Fine
       → newEvaluations ramp e asked + listEvaluations (colourOf (edited ramp e)) (farOf asked) (pointsIn (edited ramp e) (renewed ramp e asked was)) ≤ 32146
   relist-most h =
       let is = renewed ramp e asked was in
@@ -161,5 +166,5 @@ refresh-list-most ramp e asked held out r w =
     omega (
       arith,
       w .told .evaluations,
-      value-most (refreshCheck ramp e (held .entry)) (refusalOf g (farOf asked) (room (out .entry)) ts) (newEvaluations ramp e asked + listEvaluations g (farOf asked) ts) 32146 (relist-most ramp e asked (held .entry)),
+      value-most (refreshCheck ramp e asked (held .entry)) (refusalOf g (farOf asked) (room (out .entry)) ts) (newEvaluations ramp e asked + listEvaluations g (farOf asked) ts) 32146 (relist-most ramp e asked (held .entry)),
     )

@@ -10,7 +10,9 @@ use Rattle.sampling.specs.Lent.{Held}
 use Rattle.sampling.specs.Sampling.{farOf}
 use Rattle.thinning.specs.Kept.{keptOf, refusalOf, listEvaluations}
 use Rattle.linearize.specs.Lent.{Output}
-use Rattle.linearize.specs.Desk.{thinCheck, pointsIn, room, thinOutput}
+use Rattle.records.specs.Fitness.{thinCheck}
+use Rattle.records.proofs.Passing.{thin-passes}
+use Rattle.linearize.specs.Desk.{pointsIn, room, thinOutput}
 use Rattle.linearize.specs.Promises.{Thins}
 use Rattle.linearize.specs.declared.Listed.{Listed}
 use Rattle.linearize.proofs.Checks.{ready, ready-counts}
@@ -20,22 +22,25 @@ use Rattle.refresh.specs.RefreshDesk.{refreshCheck, renewed, newEvaluati
 use Rattle.refresh.specs.AfterEdit.{RefreshedThenThinned}
 use Rattle.refresh.specs.declared.edit.Edit.{Edit}
 use Rattle.refresh.specs.declared.Refreshed.{Refreshed}
-use Rattle.refresh.proofs.EditChecks.{thin-fine}
-use Rattle.refresh.proofs.RefreshAnswers.{edited-held, renewed-thins}
+use Rattle.refresh.proofs.EditChecks.{thin-fine, own-words}
+use Rattle.refresh.proofs.RefreshAnswers.{edited-held, renewed-thins, words-stay}
 
--- the refreshed record may be thinned, with the changed ramp
-thins : (ramp : Ramp) (e : Edit) (asked : Float) (was : Held) → refreshCheck ramp e was ≡ checked.Fine → thinCheck (edited ramp e) (renewed ramp e asked was) ≡ checked.Fine
-unfolding thinCheck
+-- the refreshed record may be thinned, with the changed ramp: it has the lengths and the words that it had
+thins : (ramp : Ramp) (e : Edit) (asked : Float) (was : Held) → refreshCheck ramp e asked was ≡ checked.Fine → thinCheck (edited ramp e) asked (renewed ramp e asked was) ≡ checked.Fine
 thins ramp e asked was h =
-    let before = ready ramp was (thin-fine ramp e was h) in
+    let before = ready ramp asked was (thin-fine ramp e asked was h) in
     let after = renewed-thins ramp e asked was h in
-    rw (after .long ∙ sym (before .long), after .many ∙ sym (before .many), edited-held ramp e was h) (ready-counts _ _ after)
+    let words = words-stay ramp e asked was in
+    thin-passes (edited ramp e) asked (renewed ramp e asked was)
+    (rw (after .long ∙ sym (before .long), after .many ∙ sym (before .many), words) (edited-held ramp e asked was h))
+    (ready-counts _ _ after)
+    (words ∙ own-words ramp e asked was h)
 
 module _ (ramp : Ramp) (e : Edit) (asked : Float) (held : Change Held) (all : Held) (thinned : Change Output) (out : Output) (q : Refreshed) (l r : Listed)
     (first : Refreshes ramp e asked held q)
     (second : Thins (edited ramp e) asked (held .exit) thinned l)
     (both : RefreshLists ramp e asked (change (held .entry) all) (change (thinned .entry) out) r) where
-  pub by-check : (c : Checked) → refreshCheck ramp e (held .entry) ≡ c → RefreshedThenThinned (held .exit) all thinned out q l r
+  pub by-check : (c : Checked) → refreshCheck ramp e asked (held .entry) ≡ c → RefreshedThenThinned (held .exit) all thinned out q l r
   unfolding refreshAnswer refreshHeld refreshOutput thinOutput
   by-check (checked.Refused n) h =
       record {

@@ -4,14 +4,19 @@ use mathlib.Core.Path.{_≡_, refl, sym, ap, _∙_}
 use mathlib.Core.Bool.{true}
 use mathlib.Core.List.{List}
 use Prim.Native.Nat.{ℕ}
+use lib.ListN.{length}
 use lib.Ieee.{Float}
 use Rattle.stops.specs.Lent.{Ramp}
+use Rattle.stops.specs.declared.Checked.{Checked}
 use Rattle.stops.specs.declared.Checked.the-variants as checked
 use Rattle.gradient.specs.Ramp.{minOf, maxOf, colourOf}
-use Rattle.sampling.specs.Cells.{cellRow, cellCount}
+use Rattle.difference.specs.Difference.{differs}
+use Rattle.sampling.specs.Constants.{thresholdOf}
+use Rattle.sampling.specs.Cells.{cellRow, cellCount, rowsOf, countsOf}
 use Rattle.sampling.specs.Lent.{Held, heldOf}
-use Rattle.sampling.specs.Sampling.{farOf, heldCheck, fresh}
-use Rattle.linearize.specs.Desk.{thinCheck}
+use Rattle.sampling.specs.Sampling.{andThen, farOf, wordsOf, marksOf, heldCheck, fresh}
+use Rattle.records.specs.Fitness.{marksCheck, thinCheck}
+use Rattle.records.proofs.Marking.{marks-pass}
 use Rattle.sampling.proofs.Checks.{record-lengths}
 use Rattle.linearize.proofs.Checks.{ready-counts}
 use Rattle.linearize.proofs.Records.{fresh-ready}
@@ -45,14 +50,37 @@ module _ (ramp : Ramp) (e : Edit) (ok : Allowed ramp e) (asked : Float) where
         refreshed-counts (colourOf ramp) (colourOf (edited ramp e)) (farOf asked) (away ramp e) agree (minOf ramp) (maxOf ramp),
       )
 
--- a record that a sampling left passes the check of a refresh whose edit passes
-module _ (ramp : Ramp) (e : Edit) (asked : Float) (was : Held) (fine : heldCheck ramp was ≡ checked.Fine) (edit : editCheck ramp e ≡ checked.Fine) where
+-- a record that a sampling with `asked` left, and a refresh with `mine` whose edit passes: the words alone decide
+module _ (ramp : Ramp) (e : Edit) (asked mine : Float) (was : Held) (fine : heldCheck ramp was ≡ checked.Fine) (edit : editCheck ramp e ≡ checked.Fine) where
+  fresh-words : fresh ramp asked .marks ≡ marksOf ramp asked
+  unfolding fresh
+  fresh-words = refl
+
   fresh-lengths : heldCheck ramp (fresh ramp asked) ≡ checked.Fine
   fresh-lengths =
       let r = fresh-ready ramp asked (fresh ramp asked) refl in
-      let l = record-lengths ramp _ _ fine in
-      rw (r .long ∙ sym (l .0), r .many ∙ sym (l .1)) fine
+      let l = record-lengths ramp _ _ _ fine in
+      rw (r .long ∙ sym (l .long), r .many ∙ sym (l .many), ap length fresh-words ∙ sym (l .three)) fine
 
-  pub refresh-passes : refreshCheck ramp e (fresh ramp asked) ≡ checked.Fine
+  then-fine : (c : Checked) → andThen c checked.Fine ≡ c
+  then-fine checked.Fine = refl
+  then-fine (checked.Refused n) = refl
+
+  pub words-decide : refreshCheck ramp e mine (fresh ramp asked) ≡ marksCheck (marksOf ramp mine) (marksOf ramp asked)
   unfolding refreshCheck thinCheck
-  refresh-passes = rw (fresh-lengths, ready-counts _ _ (fresh-ready ramp asked (fresh ramp asked) refl), edit)
+  words-decide =
+      rw (fresh-lengths, ready-counts _ _ (fresh-ready ramp asked (fresh ramp asked) refl), edit, fresh-words) (then-fine (marksCheck (marksOf ramp mine) (marksOf ramp asked)))
+
+-- with one threshold it passes
+pub refresh-passes : (ramp : Ramp) (e : Edit) (asked : Float) (was : Held) → heldCheck ramp was ≡ checked.Fine → editCheck ramp e ≡ checked.Fine → refreshCheck ramp e asked (fresh ramp asked) ≡ checked.Fine
+refresh-passes ramp e asked was fine edit = words-decide ramp e asked asked was fine edit ∙ marks-pass (marksOf ramp asked) (marksOf ramp asked) refl
+
+-- two thresholds that are one in force sample alike, and have one word
+module _ (ramp : Ramp) (asked mine : Float) (one : thresholdOf asked ≡ thresholdOf mine) where
+  pub fresh-alike : fresh ramp asked ≡ fresh ramp mine
+  unfolding fresh
+  fresh-alike =
+      ap (λ (t : Float). heldOf (rowsOf (colourOf ramp) (differs t) (minOf ramp) (maxOf ramp)) (countsOf (colourOf ramp) (differs t) (minOf ramp) (maxOf ramp)) (wordsOf t (minOf ramp) (maxOf ramp))) one
+
+  pub marks-alike : marksOf ramp asked ≡ marksOf ramp mine
+  marks-alike = ap (λ (t : Float). wordsOf t (minOf ramp) (maxOf ramp)) one

@@ -1,11 +1,13 @@
 -- What holds after an edit, said of the calls: of any results that the contracts of sampling, refreshing, thinning and flattening allow.
--- Demand 3: after an edit the refreshed record and its list equal those made afresh, and rows clear of the change keep every byte.
+-- Demand 3: after an edit the refreshed record and its list equal those made afresh, and rows clear of the change keep every byte. That the threshold is the
+-- one the record was sampled with is nothing that a caller must see to: a refresh with another one is refused.
 use mathlib.Core.Path.{_≡_}
 use Prim.Native.Nat.{ℕ, _*_}
-use lib.ListN.{take, drop, getD}
+use lib.ListN.{length, take, drop, getD}
 use lib.Ieee.{Float}
 use Rattle.stops.specs.Lent.{Ramp, Change, change}
-use Rattle.sampling.specs.Constants.{rowLength}
+use Rattle.refusals.specs.Refusals.{otherThreshold}
+use Rattle.sampling.specs.Constants.{cells, rowLength, recordLength, marksLength, thresholdOf}
 use Rattle.sampling.specs.Lent.{Held}
 use Rattle.linearize.specs.Lent.{Output}
 use Rattle.linearize.specs.Desk.{numberOfListed, stopsOfListed, withSampling}
@@ -26,17 +28,28 @@ pub record SameList (r q : Listed) (out out′ : Output) : Type 0 where
   pub same-answer : r ≡ q
   pub same-output : out ≡ out′
 
-module _ (ramp : Ramp) (e : Edit) (asked : Float) where
-  -- the changed ramp, thinned over two records into like outputs, gives one answer (7, 8 and 9 included) and one pair of outputs
+-- a record of the right lengths, whatever it holds
+pub record Shaped (held : Held) : Type 0 where
+  pub long : length (held .rows) ≡ recordLength
+  pub many : length (held .counts) ≡ cells
+  pub three : length (held .marks) ≡ marksLength
+
+module _ (ramp : Ramp) (e : Edit) where
+  -- the changed ramp, thinned over two records into like outputs by one threshold, gives one answer (7, 8, 9 and 20 included) and one pair of outputs
   abbrev pub OneList : Held → Held → Type 0
   OneList held other =
-      (out out₁ out₂ : Output) (r q : Listed)
+      (asked : Float) (out out₁ out₂ : Output) (r q : Listed)
       → Thins (edited ramp e) asked held (change out out₁) r
       → Thins (edited ramp e) asked other (change out out₂) q
       → SameList r q out₁ out₂
 
+  -- a refresh with the threshold `mine` of a record that was sampled with `asked`: done where both are one in force; else 20, and nothing is changed
+  pub record ByThreshold (asked mine : Float) (was after : Held) (r : Refreshed) : Type 0 where
+    pub same : thresholdOf asked ≡ thresholdOf mine → r ≡ refreshed.Done (newEvaluations ramp e mine)
+    pub other : (thresholdOf asked ≡ thresholdOf mine → ⊥) → (r ≡ refreshed.Refused otherThreshold) × (after ≡ was)
+
   -- a record that was refreshed, with the refresh's answer, and one that was sampled afresh, with the sampling's
-  pub record Fresh (held : Held) (r : Refreshed) (other : Held) (s : Sampled) : Type 0 where
+  pub record Fresh (asked : Float) (held : Held) (r : Refreshed) (other : Held) (s : Sampled) : Type 0 where
     pub not-refused : r ≡ refreshed.Done (newEvaluations ramp e asked)
     pub sampled-too : s ≡ sampled.Done (freshEvaluations (edited ramp e) asked)
     pub same-record : held ≡ other

@@ -18,7 +18,8 @@ use Rattle.thinning.specs.Kept.{listEvaluations}
 use Rattle.sampling.specs.Lent.{Held, heldOf}
 use Rattle.linearize.specs.Lent.{Output}
 use Rattle.sampling.specs.Sampling.{andThen, farOf}
-use Rattle.linearize.specs.Desk.{thinCheck, pointsIn, written}
+use Rattle.records.specs.Fitness.{thinCheck}
+use Rattle.linearize.specs.Desk.{pointsIn, written}
 use Rattle.linearize.specs.Promises.{TellsOf}
 use Rattle.linearize.specs.declared.Listed.{Listed}
 use Rattle.reach.specs.Stretch.{reachOf, outsideOf, cellClear}
@@ -54,9 +55,9 @@ module _ (ramp : Ramp) (e : Edit) where
   abbrev pub editCheck : Checked
   editCheck = editAllowed (ramp .kind) (length (ramp .positions)) e
 
-  -- refusals 1, then stop by stop 2, 3; then 4, 5, 6
-  unfoldable pub refreshCheck : Held → Checked
-  refreshCheck was = andThen (thinCheck ramp was) editCheck
+  -- refusals 1, then stop by stop 2, 3; then 4, 5, 20, 6
+  unfoldable pub refreshCheck : Float → Held → Checked
+  refreshCheck asked was = andThen (thinCheck ramp asked was) editCheck
 
   -- the points outside the stretch of the edit
   abbrev pub away : Float → Bool
@@ -67,11 +68,12 @@ module _ (ramp : Ramp) (e : Edit) where
   clearCell = cellClear away (minOf ramp) (maxOf ramp)
 
   module _ (asked : Float) where
-    -- the record once the edit is made, and the evaluations
+    -- the record once the edit is made, whose words stay; and the evaluations
     unfoldable pub renewed : Held → Held
     renewed was =
         heldOf (anewRows (colourOf (edited ramp e)) (farOf asked) clearCell (minOf ramp) (maxOf ramp) (was .rows))
         (anewCounts (colourOf (edited ramp e)) (farOf asked) clearCell (minOf ramp) (maxOf ramp) (was .counts))
+        (was .marks)
 
     unfoldable pub newEvaluations : ℕ
     newEvaluations = anewEvaluations (colourOf (edited ramp e)) (farOf asked) clearCell (minOf ramp) (maxOf ramp)
@@ -79,29 +81,29 @@ module _ (ramp : Ramp) (e : Edit) where
     -- ---- the calls
     module _ (was : Held) where
       unfoldable pub refreshAnswer : Refreshed
-      refreshAnswer = onFine (refreshCheck was) (refreshed.Done newEvaluations) refreshed.Refused
+      refreshAnswer = onFine (refreshCheck asked was) (refreshed.Done newEvaluations) refreshed.Refused
 
       unfoldable pub refreshEvaluations : ℕ
-      refreshEvaluations = onFine (refreshCheck was) newEvaluations (λ n. 0)
+      refreshEvaluations = onFine (refreshCheck asked was) newEvaluations (λ n. 0)
 
       unfoldable pub refreshHeld : Held
-      refreshHeld = onFine (refreshCheck was) (renewed was) (λ n. was)
+      refreshHeld = onFine (refreshCheck asked was) (renewed was) (λ n. was)
 
       -- the list of the refreshed record's points, from the changed ramp
       unfoldable pub refreshOutput : Output → Output
-      refreshOutput out = onFine (refreshCheck was) (written (edited ramp e) asked (pointsIn (edited ramp e) (renewed was)) out) (λ n. out)
+      refreshOutput out = onFine (refreshCheck asked was) (written (edited ramp e) asked (pointsIn (edited ramp e) (renewed was)) out) (λ n. out)
 
     -- `refresh`: the answer, its number and value, and the record
     pub record Refreshes (held : Change Held) (r : Refreshed) : Type 0 where
       pub answer : r ≡ refreshAnswer (held .entry)
-      pub number : numberOfRefreshed r ≡ numberOfChecked (refreshCheck (held .entry))
+      pub number : numberOfRefreshed r ≡ numberOfChecked (refreshCheck asked (held .entry))
       pub evaluations : evaluationsOfRefreshed r ≡ refreshEvaluations (held .entry)
       pub left : held .exit ≡ refreshHeld (held .entry)
 
     -- `refresh_list`: the answer, the record and both outputs; thinning takes the changed ramp
     pub record RefreshLists (held : Change Held) (out : Change Output) (r : Listed) : Type 0 where
       pub told :
-          TellsOf (edited ramp e) asked (refreshCheck (held .entry)) (out .entry)
+          TellsOf (edited ramp e) asked (refreshCheck asked (held .entry)) (out .entry)
           (pointsIn (edited ramp e) (renewed (held .entry)))
           (newEvaluations + listEvaluations (colourOf (edited ramp e)) (farOf asked) (pointsIn (edited ramp e) (renewed (held .entry))))
           r

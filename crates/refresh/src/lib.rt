@@ -5,9 +5,9 @@ use crate::edit::change;
 use crate::edit::check_edit;
 use linearize::Listed;
 use linearize::Sampled;
-use linearize::check_thin;
 use linearize::relist;
 use reach::kept_cells;
+use records::check_thin;
 use refusals::MOST_STOPS;
 use sampling::resample;
 use stops::Checked;
@@ -27,19 +27,21 @@ pub enum Refreshed {
     Refused(u8),
 }
 
-// Refusals 1 to 6 of a refresh.
+// Refusals 1 to 5, 20 and 6 of a refresh.
 fn check_refresh(
     kind: Kind,
     positions: &[f32],
     channels: &[f32],
     codes: &[u8],
     edit: Edit,
+    asked: f32,
     rows: &[f32],
     counts: &[u8],
+    marks: &[u32],
 ) -> Checked
-    ensures { λ r. ⌜ r ≡ refreshCheck (lentRamp kind positions channels codes) edit (lentHeld rows counts .entry) ⌝ }
+    ensures { λ r. ⌜ r ≡ refreshCheck (lentRamp kind positions channels codes) edit asked (lentHeld rows counts marks .entry) ⌝ }
 {
-    match check_thin(kind, positions, channels, codes, rows, counts) {
+    match check_thin(kind, positions, channels, codes, asked, rows, counts, marks) {
         Checked::Refused(n) => Checked::Refused(n),
         Checked::Fine => check_edit(kind, positions.len(), edit),
     }
@@ -55,8 +57,8 @@ fn refreshed_by(made: Sampled) -> Refreshed
     }
 }
 
-// Refreshes the lent record after an edit of the lent ramp; the ramp itself is not written. A
-// refusal leaves the record as it was.
+// Refreshes the lent record after an edit of the lent ramp; the ramp itself is not written, and the record's words stay: they
+// are this call's own, or it is refused. A refusal leaves the record as it was.
 pub fn refresh(
     kind: Kind,
     positions: &[f32],
@@ -66,10 +68,21 @@ pub fn refresh(
     threshold: f32,
     rows: &mut [f32],
     counts: &mut [u8],
+    marks: &mut [u32],
 ) -> Refreshed
-    ensures { λ r. ⌜ Refreshes (lentRamp kind positions channels codes) edit threshold (lentHeld rows counts) r ⌝ }
+    ensures { λ r. ⌜ Refreshes (lentRamp kind positions channels codes) edit threshold (lentHeld rows counts marks) r ⌝ }
 {
-    match check_refresh(kind, positions, channels, codes, edit, rows, counts) {
+    match check_refresh(
+        kind,
+        positions,
+        channels,
+        codes,
+        edit,
+        threshold,
+        rows,
+        counts,
+        marks,
+    ) {
         Checked::Refused(n) => Refreshed::Refused(n),
         Checked::Fine => {
             let mut copy = [0.0f32; 4 * MOST_STOPS];
@@ -85,14 +98,15 @@ pub fn refresh(
                 keep,
                 rows,
                 counts,
+                marks,
             );
             refreshed_by(made)
         }
     }
 }
 
-// Refreshes the lent record, then makes the list of its points from the changed ramp. Refusals 1 to 6 leave all as
-// it was; after 7 to 9 the record is refreshed and the outputs are zero.
+// Refreshes the lent record, then makes the list of its points from the changed ramp. Refusals 1 to 6 and 20 leave
+// all as it was; after 7 to 9 the record is refreshed and the outputs are zero.
 pub fn refresh_list(
     kind: Kind,
     positions: &[f32],
@@ -102,12 +116,23 @@ pub fn refresh_list(
     threshold: f32,
     rows: &mut [f32],
     counts: &mut [u8],
+    marks: &mut [u32],
     out_positions: &mut [f32],
     out_channels: &mut [f32],
 ) -> Listed
-    ensures { λ r. ⌜ RefreshLists (lentRamp kind positions channels codes) edit threshold (lentHeld rows counts) (lentOutput «out_positions» «out_channels») r ⌝ }
+    ensures { λ r. ⌜ RefreshLists (lentRamp kind positions channels codes) edit threshold (lentHeld rows counts marks) (lentOutput «out_positions» «out_channels») r ⌝ }
 {
-    match check_refresh(kind, positions, channels, codes, edit, rows, counts) {
+    match check_refresh(
+        kind,
+        positions,
+        channels,
+        codes,
+        edit,
+        threshold,
+        rows,
+        counts,
+        marks,
+    ) {
         Checked::Refused(n) => Listed::Refused(n),
         Checked::Fine => {
             let mut copy = [0.0f32; 4 * MOST_STOPS];
@@ -122,6 +147,7 @@ pub fn refresh_list(
                 kept_cells(kind, positions, edit.stop),
                 rows,
                 counts,
+                marks,
                 out_positions,
                 out_channels,
             )

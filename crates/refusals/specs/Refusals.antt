@@ -17,7 +17,7 @@ falling = 3
 abbrev pub farDomain : ℕ
 farDomain = 4
 
--- record length is not 4,608 and 36, or, to thin or refresh, a count is 0 or above 128
+-- record length is not 4,608, 36 and 3, or, to thin or refresh, a count is 0 or above 128
 abbrev pub badRecord : ℕ
 badRecord = 5
 
@@ -72,3 +72,7 @@ notBuilt = 17
 -- a segment whose positions are not left ≤ middle ≤ right, or whose left end does not equal the right end of the one before, or a first that doesn't start at 0, or a last that doesn't end at 1 (its line)
 abbrev pub torn : ℕ
 torn = 18
+
+-- to thin or refresh: the record's words are not the bits of the threshold in force, of min and of max
+abbrev pub otherThreshold : ℕ
+otherThreshold = 20

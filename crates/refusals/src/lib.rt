@@ -55,6 +55,9 @@ pub const NOT_BUILT: u8 = 17;
 // The segments of a GIMP file do not run in order from 0 to 1, each joined to the one before.
 pub const TORN: u8 = 18;
 
+// A record of another threshold in force, or of other ends of the domain.
+pub const OTHER_THRESHOLD: u8 = 20;
+
 // Stops of a ramp.
 pub const MOST_STOPS: usize = 2048;
 

@@ -64,6 +64,7 @@ fn flatten(
     before: Tally,
 ) -> Tally {
     let mut counts = [0u8; Sampler::CELLS];
+    let mut marks = [0u32; Sampler::MARKS];
     let made = linearize::flatten(
         kind,
         positions,
@@ -72,6 +73,7 @@ fn flatten(
         threshold,
         rows,
         &mut counts,
+        &mut marks,
         places,
         colours,
     );
@@ -131,7 +133,7 @@ pub fn flattened(
     )
 }
 
-// A record of stored points and counts, zero elsewhere.
+// A record of stored points, counts and words, zero elsewhere.
 pub fn thinned(
     kind: Kind,
     positions: &[f32],
@@ -147,6 +149,7 @@ pub fn thinned(
     let n = words::word();
     words::scattered(&mut rows, n);
     words::bytes(&mut counts, Sampler::CELLS);
+    let marks = [words::word(), words::word(), words::word()];
     let made = linearize::thin(
         kind,
         positions,
@@ -155,6 +158,7 @@ pub fn thinned(
         threshold,
         &rows,
         &counts,
+        &marks,
         &mut places,
         &mut colours,
     );
@@ -172,6 +176,7 @@ fn refresh(
     before: Tally,
 ) -> Tally {
     let mut counts = [0u8; Sampler::CELLS];
+    let mut marks = [0u32; Sampler::MARKS];
     let mut places = [RUBBISH; RECORD + 1];
     let mut colours = [RUBBISH; 4 * (RECORD + 1)];
     let stop = words::word() as usize;
@@ -189,6 +194,7 @@ fn refresh(
         threshold,
         rows,
         &mut counts,
+        &mut marks,
     );
     let made = refresh::refresh_list(
         kind,
@@ -199,6 +205,7 @@ fn refresh(
         threshold,
         rows,
         &mut counts,
+        &mut marks,
         &mut places,
         &mut colours,
     );

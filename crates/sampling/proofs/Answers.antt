@@ -12,16 +12,22 @@ use Rattle.stops.specs.declared.Checked.the-variants as checked
 use Rattle.stops.specs.Answers.{numberOfChecked, onFine}
 use Rattle.stops.specs.Lent.{Ramp, Change, change}
 use Rattle.gradient.specs.Ramp.{minOf, maxOf, colourOf}
-use Rattle.sampling.specs.Lent.{Held, heldOf}
+use Rattle.sampling.specs.Lent.{Held, Body, bodyOf}
+use Rattle.sampling.specs.Constants.{thresholdOf}
 use Rattle.sampling.specs.Midpoints.{Far}
-use Rattle.sampling.specs.Sampling.{numberOfSampled, evaluationsOfSampled, farOf, heldCheck, fresh, freshEvaluations, sampleAnswer, sampleEvaluations, sampleHeld}
+use Rattle.sampling.specs.Sampling.{numberOfSampled, evaluationsOfSampled, farOf, wordsOf, marksOf, heldCheck, fresh, freshEvaluations, sampleAnswer, sampleEvaluations, sampleHeld}
 use Rattle.sampling.specs.Anew.{anewEvaluations, keptBy, resampled, resampledEvaluations, resampleAnswer, resampleHeld, resampleEvaluations}
+use Rattle.sampling.proofs.Words.{same-held}
 use Rattle.sampling.proofs.Renewing.{none-held, none-evaluations}
 use Rattle.sampling.specs.Inner.{RecordAnew}
 use Rattle.sampling.specs.Promises.{Samples, Resamples}
 use Rattle.sampling.specs.declared.Sampled.{Sampled}
 use Rattle.sampling.specs.declared.Sampled.the-variants as sampled
 use Rattle.sampling.proofs.Bounds.{sampling-bound}
+
+-- its rows and counts
+abbrev bodyIn : Held → Body
+bodyIn h = bodyOf (h .rows) (h .counts)
 
 module _ (ramp : Ramp) (asked : Float) (ks : List Bool) (was : Held) where
   pub resample-refused : (k : ℕ) → heldCheck ramp was ≡ checked.Refused k → Resamples ramp asked ks (change was was) (sampled.Refused k)
@@ -31,16 +37,18 @@ module _ (ramp : Ramp) (asked : Float) (ks : List Bool) (was : Held) where
   -- a record sampled with the values in hand is the document's
   pub resample-done : (far : Far) (lo hi : Float) (is : Held) (n : ℕ) → heldCheck ramp was ≡ checked.Fine
       → far ≡ farOf asked → lo ≡ minOf ramp → hi ≡ maxOf ramp
-      → RecordAnew (colourOf ramp) far (keptBy ks) lo hi (change was is) n
+      → RecordAnew (colourOf ramp) far (keptBy ks) lo hi (change (bodyIn was) (bodyIn is)) n
+      → is .marks ≡ wordsOf (thresholdOf asked) lo hi
       → Resamples ramp asked ks (change was is) (sampled.Done (3 * n))
   unfolding resampleAnswer resampleEvaluations resampleHeld resampled resampledEvaluations anewEvaluations
-  resample-done far lo hi is n e p q s w =
-      let d : RecordAnew (colourOf ramp) (farOf asked) (keptBy ks) (minOf ramp) (maxOf ramp) (change was is) n = rw (← p, ← q, ← s) w in
+  resample-done far lo hi is n e p q s w m =
+      let d : RecordAnew (colourOf ramp) (farOf asked) (keptBy ks) (minOf ramp) (maxOf ramp) (change (bodyIn was) (bodyIn is)) n = rw (← p, ← q, ← s) w in
+      let own : is .marks ≡ marksOf ramp asked = rw (← q, ← s) m in
       record {
         answer = rw (e, d .tried);
         number = rw e;
         evaluations = rw (e, d .tried);
-        left = ap (λ (l : List Float). heldOf l (is .counts)) (d .written) ∙ ap (heldOf _) (d .counted) ∙ rw e;
+        left = same-held is (resampled ramp asked ks was) (d .written) (d .counted) own ∙ rw e;
       }
 
 -- with no cell kept it is a sampling

@@ -6,7 +6,7 @@ use mathlib.Core.Bool.{Bool}
 use mathlib.Core.List.{List}
 use Rattle.stops.specs.Lent.{Ramp, Change}
 use Rattle.gradient.specs.Ramp.{minOf, maxOf, colourOf}
-use Rattle.sampling.specs.Lent.{Held}
+use Rattle.sampling.specs.Lent.{Body}
 use Rattle.sampling.specs.Sampling.{farOf}
 use Rattle.sampling.specs.Anew.{anewTries, anewEvaluations, keptBy, resampledEvaluations}
 use Rattle.sampling.specs.Inner.{RecordAnew}
@@ -31,7 +31,7 @@ module _ (g : Gradient) (far : Far) (lo hi : Float) where
   sampling-bound = omega (arith, tries-bound)
 
 -- likewise where cells are kept
-pub renewed-bound : (g : Gradient) (far : Far) (keep : ℕ → Bool) (lo hi : Float) (held : Change Held) (n : ℕ) → RecordAnew g far keep lo hi held n → n ≤ 4572
+pub renewed-bound : (g : Gradient) (far : Far) (keep : ℕ → Bool) (lo hi : Float) (held : Change Body) (n : ℕ) → RecordAnew g far keep lo hi held n → n ≤ 4572
 renewed-bound g far keep lo hi held n w = omega (arith, w .tried, summed-most (anewTries g far keep lo hi) 36 (anew-tries-most g far keep lo hi))
 
 pub resampling-bound : (ramp : Ramp) (asked : Float) (ks : List Bool) → resampledEvaluations ramp asked ks ≤ 13716

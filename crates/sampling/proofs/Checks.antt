@@ -24,36 +24,40 @@ pub beyond-high : (x : Float) → lt x (neg farthest) ≡ false → lt farthest 
 unfolding beyondOf
 beyond-high x h = simp h
 
-module _ (lo hi : Float) (n m : ℕ) where
-  pub low-beyond : beyondOf lo ≡ true → checked.Refused farDomain ≡ shapeCheck lo hi n m
+module _ (lo hi : Float) (n m k : ℕ) where
+  pub low-beyond : beyondOf lo ≡ true → checked.Refused farDomain ≡ shapeCheck lo hi n m k
   unfolding shapeCheck
   low-beyond h = simp h
 
   module _ (l : beyondOf lo ≡ false) where
-    pub high-beyond : beyondOf hi ≡ true → checked.Refused farDomain ≡ shapeCheck lo hi n m
+    pub high-beyond : beyondOf hi ≡ true → checked.Refused farDomain ≡ shapeCheck lo hi n m k
     unfolding shapeCheck
     high-beyond h = simp (l, h)
 
     module _ (h : beyondOf hi ≡ false) where
-      pub rows-wrong : (n ≡ 4608 → ⊥) → checked.Refused badRecord ≡ shapeCheck lo hi n m
+      pub rows-wrong : (n ≡ 4608 → ⊥) → checked.Refused badRecord ≡ shapeCheck lo hi n m k
       unfolding shapeCheck
-      rows-wrong k = simp (l, h, ne-eqb n 4608 k)
+      rows-wrong a = simp (l, h, ne-eqb n 4608 a)
 
-      pub counts-wrong : n ≡ 4608 → (m ≡ 36 → ⊥) → checked.Refused badRecord ≡ shapeCheck lo hi n m
+      pub counts-wrong : n ≡ 4608 → (m ≡ 36 → ⊥) → checked.Refused badRecord ≡ shapeCheck lo hi n m k
       unfolding shapeCheck
-      counts-wrong e k = simp (l, h, eq-eqb n 4608 e, ne-eqb m 36 k)
+      counts-wrong a b = simp (l, h, eq-eqb n 4608 a, ne-eqb m 36 b)
 
-      pub shape-fine : n ≡ 4608 → m ≡ 36 → checked.Fine ≡ shapeCheck lo hi n m
+      pub marks-wrong : n ≡ 4608 → m ≡ 36 → (k ≡ 3 → ⊥) → checked.Refused badRecord ≡ shapeCheck lo hi n m k
       unfolding shapeCheck
-      shape-fine e k = simp (l, h, eq-eqb n 4608 e, eq-eqb m 36 k)
+      marks-wrong a b c = simp (l, h, eq-eqb n 4608 a, eq-eqb m 36 b, ne-eqb k 3 c)
 
-module _ (ramp : Ramp) (n m : ℕ) where
-  pub first-refuses : (k : ℕ) → checkOf ramp ≡ checked.Refused k → checked.Refused k ≡ sampleCheck ramp n m
+      pub shape-fine : n ≡ 4608 → m ≡ 36 → k ≡ 3 → checked.Fine ≡ shapeCheck lo hi n m k
+      unfolding shapeCheck
+      shape-fine a b c = simp (l, h, eq-eqb n 4608 a, eq-eqb m 36 b, eq-eqb k 3 c)
+
+module _ (ramp : Ramp) (n m k : ℕ) where
+  pub first-refuses : (j : ℕ) → checkOf ramp ≡ checked.Refused j → checked.Refused j ≡ sampleCheck ramp n m k
   unfolding sampleCheck
-  first-refuses k e = simp e
+  first-refuses j e = simp e
 
-  pub first-passes : (r : Checked) (lo hi : Float) → checkOf ramp ≡ checked.Fine → lo ≡ minOf ramp → hi ≡ maxOf ramp → r ≡ shapeCheck lo hi n m
-      → r ≡ sampleCheck ramp n m
+  pub first-passes : (r : Checked) (lo hi : Float) → checkOf ramp ≡ checked.Fine → lo ≡ minOf ramp → hi ≡ maxOf ramp → r ≡ shapeCheck lo hi n m k
+      → r ≡ sampleCheck ramp n m k
   unfolding sampleCheck
   first-passes r lo hi e p q h = h ∙ rw (p, q, e)
 
@@ -66,18 +70,29 @@ tested true b h = let z : _≡_ {A = ℕ} 0 1 = cc in absurd (omega arith)
 tested false true h = refl
 tested false false h = let z : _≡_ {A = ℕ} 0 1 = cc in absurd (omega arith)
 
-shape-lengths : (lo hi : Float) (n m : ℕ) → shapeCheck lo hi n m ≡ checked.Fine → (n ≡ 4608) × (m ≡ 36)
+-- the lengths of a record's parts
+pub record Lengths (n m k : ℕ) : Type 0 where
+  pub long : n ≡ 4608
+  pub many : m ≡ 36
+  pub three : k ≡ 3
+
+shape-lengths : (lo hi : Float) (n m k : ℕ) → shapeCheck lo hi n m k ≡ checked.Fine → Lengths n m k
 unfolding shapeCheck
-shape-lengths lo hi n m h =
-    let b = tested (beyondOf lo || beyondOf hi) (eqb n 4608 && eqb m 36) h in
-    (eqb-true n 4608 (both-l (eqb n 4608) (eqb m 36) b), eqb-true m 36 (both-r (eqb n 4608) (eqb m 36) b))
+shape-lengths lo hi n m k h =
+    let b = tested (beyondOf lo || beyondOf hi) (eqb n 4608 && (eqb m 36 && eqb k 3)) h in
+    let c = both-r (eqb n 4608) (eqb m 36 && eqb k 3) b in
+    record {
+      long = eqb-true n 4608 (both-l (eqb n 4608) (eqb m 36 && eqb k 3) b);
+      many = eqb-true m 36 (both-l (eqb m 36) (eqb k 3) c);
+      three = eqb-true k 3 (both-r (eqb m 36) (eqb k 3) c);
+    }
 
 -- what a check that is passed tells
-module _ (ramp : Ramp) (n m : ℕ) (h : sampleCheck ramp n m ≡ checked.Fine) where
+module _ (ramp : Ramp) (n m k : ℕ) (h : sampleCheck ramp n m k ≡ checked.Fine) where
   pub ramp-fine : checkOf ramp ≡ checked.Fine
   unfolding sampleCheck
-  ramp-fine = passes-both (checkOf ramp) (shapeCheck (minOf ramp) (maxOf ramp) n m) h .0
+  ramp-fine = passes-both (checkOf ramp) (shapeCheck (minOf ramp) (maxOf ramp) n m k) h .0
 
-  pub record-lengths : (n ≡ 4608) × (m ≡ 36)
+  pub record-lengths : Lengths n m k
   unfolding sampleCheck
-  record-lengths = shape-lengths (minOf ramp) (maxOf ramp) n m (passes-both (checkOf ramp) (shapeCheck (minOf ramp) (maxOf ramp) n m) h .1)
+  record-lengths = shape-lengths (minOf ramp) (maxOf ramp) n m k (passes-both (checkOf ramp) (shapeCheck (minOf ramp) (maxOf ramp) n m k) h .1)

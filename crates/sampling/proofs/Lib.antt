@@ -2,6 +2,7 @@
 pub mod Joined
 pub mod Tabled
 pub mod Thresholds
+pub mod Words
 pub mod Halves
 pub mod Rows
 pub mod Ends

@@ -11,8 +11,8 @@ use Rattle.stops.specs.Lent.{Ramp, Change, change}
 use Rattle.gradient.specs.Ramp.{minOf, maxOf, colourOf}
 use Rattle.sampling.specs.Midpoints.{Gradient, Far}
 use Rattle.sampling.specs.Cells.{edgeOf, cellRow, cellCount, cellTries, rowsOf, countsOf, triesOf, samplingEvaluations}
-use Rattle.sampling.specs.Lent.{Held, heldOf}
-use Rattle.sampling.specs.Sampling.{farOf, fresh, freshEvaluations}
+use Rattle.sampling.specs.Lent.{Held, heldOf, Body, bodyOf}
+use Rattle.sampling.specs.Sampling.{farOf, marksOf, fresh, freshEvaluations}
 use Rattle.sampling.specs.Anew.{anewRow, anewCount, anewTries, anewRows, anewCounts, anewEvaluations, keptBy, resampled, resampledEvaluations}
 use Rattle.sampling.specs.Inner.{PointAt, Carries, CellCarried, RecordAnew}
 use Rattle.sampling.specs.declared.Carried.{Carried}
@@ -21,13 +21,13 @@ use Rattle.sampling.proofs.Rows.{CellAnew, cell-length, cell-tries-most
 use Rattle.sampling.proofs.Filling.{Filled, start, next, skip, done}
 
 -- ---- one cell
-module _ (g : Gradient) (far : Far) (lo hi : Float) (i : ℕ) (held : Change Held) (c : Carried) where
+module _ (g : Gradient) (far : Far) (lo hi : Float) (i : ℕ) (held : Change Body) (c : Carried) where
   pub cell-kept : (k : Bool) → k ≡ true → held .exit ≡ held .entry → c .tries ≤ 127 * i → CellCarried g far k lo hi i held c (record { point = c .point; known = false; tries = c .tries })
   cell-kept k e s f =
       record {
         tried = rw e (omega arith);
-        written = rw e (ap (λ (h : Held). h .rows) s);
-        counted = rw e (ap (λ (h : Held). h .counts) s);
+        written = rw e (ap (λ (h : Body). h .rows) s);
+        counted = rw e (ap (λ (h : Body). h .counts) s);
         carries = record { start = λ z. absurd (no-true z); few = omega arith };
       }
     where
@@ -108,7 +108,7 @@ module _ (g : Gradient) (far : Far) (keep : ℕ → Bool) (lo hi : Float) (rows�
     tries-not i k = rw k
 
     pub renewed-next : (rows rows′ : List Float) (counts counts′ : List ℕ) (c r : Carried) (i : ℕ) (b : Bool) → b ≡ keep i → Renewed rows counts c i → i < 36
-        → CellCarried g far b lo hi i (change (heldOf rows counts) (heldOf rows′ counts′)) c r → Renewed rows′ counts′ r (i + 1)
+        → CellCarried g far b lo hi i (change (bodyOf rows counts) (bodyOf rows′ counts′)) c r → Renewed rows′ counts′ r (i + 1)
     renewed-next rows rows′ counts counts′ c r i b e s lt w = record { filled = by b refl; carried = w .carries }
       where
         Next : Type 0
@@ -129,7 +129,7 @@ module _ (g : Gradient) (far : Far) (keep : ℕ → Bool) (lo hi : Float) (rows�
             (anew-tries-most g far keep lo hi i))
 
     pub renewed : (rows : List Float) (counts : List ℕ) (c : Carried) (i : ℕ) → Renewed rows counts c i → 36 ≤ i
-        → RecordAnew g far keep lo hi (change (heldOf rows₀ counts₀) (heldOf rows counts)) (c .tries)
+        → RecordAnew g far keep lo hi (change (bodyOf rows₀ counts₀) (bodyOf rows counts)) (c .tries)
     unfolding anewRows anewCounts
     renewed rows counts c i s h =
         let d = done _ _ _ _ _ long many anew-length rows counts (c .tries) i (s .filled) h in
@@ -148,7 +148,7 @@ module _ (ramp : Ramp) (asked : Float) where
   pub none-held : (was : Held) → resampled ramp asked (replicate 36 false) was ≡ fresh ramp asked
   unfolding resampled fresh anewRows anewCounts anewRow anewCount rowsOf countsOf
   none-held was =
-      ap (λ (k : ℕ → Bool). heldOf (anewRows (colourOf ramp) (farOf asked) k (minOf ramp) (maxOf ramp) (was .rows)) (anewCounts (colourOf ramp) (farOf asked) k (minOf ramp) (maxOf ramp) (was .counts))) none-kept
+      ap (λ (k : ℕ → Bool). heldOf (anewRows (colourOf ramp) (farOf asked) k (minOf ramp) (maxOf ramp) (was .rows)) (anewCounts (colourOf ramp) (farOf asked) k (minOf ramp) (maxOf ramp) (was .counts)) (marksOf ramp asked)) none-kept
 
   pub none-evaluations : resampledEvaluations ramp asked (replicate 36 false) ≡ freshEvaluations ramp asked
   unfolding resampledEvaluations freshEvaluations anewEvaluations anewTries samplingEvaluations triesOf

@@ -11,7 +11,7 @@ use Rattle.sampling.specs.Constants.{cells, rowLength}
 use Rattle.sampling.specs.Midpoints.{Gradient, Far}
 use Rattle.sampling.specs.Cells.{joined, summed, cellRow, cellCount, cellTries}
 use Rattle.sampling.specs.Lent.{Held, heldOf}
-use Rattle.sampling.specs.Sampling.{farOf, heldCheck}
+use Rattle.sampling.specs.Sampling.{farOf, marksOf, heldCheck}
 use Rattle.sampling.specs.declared.Sampled.{Sampled}
 use Rattle.sampling.specs.declared.Sampled.the-variants as sampled
 
@@ -46,6 +46,7 @@ module _ (ramp : Ramp) (asked : Float) (ks : List Bool) where
   resampled was =
       heldOf (anewRows (colourOf ramp) (farOf asked) (keptBy ks) (minOf ramp) (maxOf ramp) (was .rows))
       (anewCounts (colourOf ramp) (farOf asked) (keptBy ks) (minOf ramp) (maxOf ramp) (was .counts))
+      (marksOf ramp asked)
 
   unfoldable pub resampledEvaluations : ℕ
   resampledEvaluations = anewEvaluations (colourOf ramp) (farOf asked) (keptBy ks) (minOf ramp) (maxOf ramp)

@@ -17,6 +17,10 @@ rowLength = 128
 abbrev pub recordLength : ℕ
 recordLength = 4608
 
+-- the words that say what a record was sampled with
+abbrev pub marksLength : ℕ
+marksLength = 3
+
 -- 0.007, 0.001 and 0.035
 abbrev pub defaultThreshold : Float
 defaultThreshold = ofBits binary32 0x3be5_6042

@@ -14,7 +14,7 @@ use Rattle.sampling.specs.Constants.{cells, depth, rowLength}
 use Rattle.sampling.specs.Midpoints.{Gradient, Far, halves, tries}
 use Rattle.sampling.specs.Cells.{edgeOf, pointsOf, rowOf, summed, cellRow, cellCount, cellTries}
 use Rattle.sampling.specs.Anew.{anewTries, anewRows, anewCounts}
-use Rattle.sampling.specs.Lent.{Held}
+use Rattle.sampling.specs.Lent.{Body}
 use Rattle.sampling.specs.Segments.{Table, Segments}
 use Rattle.sampling.specs.declared.Point.{Point}
 use Rattle.sampling.specs.declared.Halved.{Halved}
@@ -76,14 +76,14 @@ pub record Reaches (ramp : Ramp) (table : Table) (lo hi : Float) (i : ℕ) (c : 
   pub carries : Carries (colourOf ramp) lo hi i c
 
 -- cell i keeps what it holds, or is sampled anew; r is carried on
-pub record CellCarried (g : Gradient) (far : Far) (kept : Bool) (lo hi : Float) (i : ℕ) (held : Change Held) (c r : Carried) : Type 0 where
+pub record CellCarried (g : Gradient) (far : Far) (kept : Bool) (lo hi : Float) (i : ℕ) (held : Change Body) (c r : Carried) : Type 0 where
   pub tried : r .tries ≡ c .tries + cond kept 0 (cellTries g far lo hi i)
   pub written : held .exit .rows ≡ cond kept (held .entry .rows) (sets (held .entry .rows) (i * rowLength) (cellRow g far lo hi i))
   pub counted : held .exit .counts ≡ cond kept (held .entry .counts) (set (held .entry .counts) i (cellCount g far lo hi i))
   pub carries : Carries g lo hi (i + 1) r
 
 -- the record is sampled anew but for the cells kept
-pub record RecordAnew (g : Gradient) (far : Far) (keep : ℕ → Bool) (lo hi : Float) (held : Change Held) (n : ℕ) : Type 0 where
+pub record RecordAnew (g : Gradient) (far : Far) (keep : ℕ → Bool) (lo hi : Float) (held : Change Body) (n : ℕ) : Type 0 where
   pub tried : n ≡ summed (anewTries g far keep lo hi) cells
   pub written : held .exit .rows ≡ anewRows g far keep lo hi (held .entry .rows)
   pub counted : held .exit .counts ≡ anewCounts g far keep lo hi (held .entry .counts)

@@ -14,7 +14,7 @@ ghost use Rattle.sampling.specs.Constants.{cells, recordLength};
 ghost use Rattle.sampling.specs.Cells.{endOf};
 ghost use Rattle.sampling.specs.Segments.{tabledPoint};
 ghost use Rattle.sampling.specs.Inner.{Prepared, Reaches, taskRamp, taskColours, taskEnd, taskFar, PointAt, CellCarried};
-ghost use Rattle.sampling.specs.Lent.{lentHeld};
+ghost use Rattle.sampling.specs.Lent.{lentBody};
 ghost use Rattle.stops.specs.Lent.{lentRamp, old};
 
 // The point at t, with a table of Catmull-Rom segments in hand, which is empty where the ramp has none: where the table has
@@ -105,7 +105,7 @@ pub(crate) fn resample_cell(
 ) -> Carried
     requires { ⌜ (i < cells) × ((length (now rows) ≡ recordLength) × (length (now counts) ≡ cells)) ⌝ }
     requires { ⌜ Reaches (taskRamp task positions channels codes) (now table) (task .min) (task .max) i carried ⌝ }
-    ensures { λ r. ⌜ CellCarried (taskColours task positions channels codes) (taskFar task) kept (task .min) (task .max) i (lentHeld rows counts) carried r ⌝ }
+    ensures { λ r. ⌜ CellCarried (taskColours task positions channels codes) (taskFar task) kept (task .min) (task .max) i (lentBody rows counts) carried r ⌝ }
 {
     if kept {
         let point = carried.point;

@@ -14,6 +14,7 @@ ghost use Rattle.sampling.specs.Promises.{Samples, Resamples};
 
 pub mod cells;
 mod halving;
+mod marks;
 mod resampling;
 pub mod segments;
 
@@ -28,6 +29,8 @@ impl Sampler {
     pub const DEPTH: usize = 7;
 
     pub const ROW: usize = 128;
+
+    pub const MARKS: usize = 3;
 
     pub const DEFAULT: f32 = 0.007;
 
@@ -114,8 +117,8 @@ fn beyond(x: f32) -> bool
 }
 
 // Refusal 4 of a domain, then 5 of a record's lengths.
-fn check_shape(min: f32, max: f32, rows: usize, counts: usize) -> Checked
-    ensures { λ r. ⌜ r ≡ shapeCheck min max rows counts ⌝ }
+fn check_shape(min: f32, max: f32, rows: usize, counts: usize, marks: usize) -> Checked
+    ensures { λ r. ⌜ r ≡ shapeCheck min max rows counts marks ⌝ }
 {
     if beyond(min) {
         return Checked::Refused(FAR_DOMAIN);
@@ -129,6 +132,9 @@ fn check_shape(min: f32, max: f32, rows: usize, counts: usize) -> Checked
     if counts != Sampler::CELLS {
         return Checked::Refused(BAD_RECORD);
     }
+    if marks != Sampler::MARKS {
+        return Checked::Refused(BAD_RECORD);
+    }
     Checked::Fine
 }
 
@@ -140,8 +146,9 @@ pub fn check_sample(
     codes: &[u8],
     rows: usize,
     counts: usize,
+    marks: usize,
 ) -> Checked
-    ensures { λ r. ⌜ r ≡ sampleCheck (lentRamp kind positions channels codes) rows counts ⌝ }
+    ensures { λ r. ⌜ r ≡ sampleCheck (lentRamp kind positions channels codes) rows counts marks ⌝ }
 {
     match gradient::check(kind, positions, channels, codes) {
         Checked::Refused(n) => Checked::Refused(n),
@@ -150,11 +157,13 @@ pub fn check_sample(
             gradient::max_of(kind, positions),
             rows,
             counts,
+            marks,
         ),
     }
 }
 
-// Samples a ramp into the lent record, but for the cells kept, which keep what they hold. A refusal leaves the record as it was.
+// Samples a ramp into the lent record, but for the cells kept, which keep what they hold; the record's words are those of this call.
+// A refusal leaves the record as it was.
 pub fn resample(
     kind: Kind,
     positions: &[f32],
@@ -164,10 +173,19 @@ pub fn resample(
     keep: [bool; 36],
     rows: &mut [f32],
     counts: &mut [u8],
+    marks: &mut [u32],
 ) -> Sampled
-    ensures { λ r. ⌜ Resamples (lentRamp kind positions channels codes) threshold keep (lentHeld rows counts) r ⌝ }
+    ensures { λ r. ⌜ Resamples (lentRamp kind positions channels codes) threshold keep (lentHeld rows counts marks) r ⌝ }
 {
-    match check_sample(kind, positions, channels, codes, rows.len(), counts.len()) {
+    match check_sample(
+        kind,
+        positions,
+        channels,
+        codes,
+        rows.len(),
+        counts.len(),
+        marks.len(),
+    ) {
         Checked::Refused(n) => Sampled::Refused(n),
         Checked::Fine => {
             let cutoff = cutoff_of(threshold);
@@ -188,6 +206,7 @@ pub fn resample(
                 rows,
                 counts,
             );
+            marks::put(threshold, min, max, marks);
             let evaluations = 3 * n;
             Sampled::Done(evaluations)
         }
@@ -203,8 +222,9 @@ pub fn sample(
     threshold: f32,
     rows: &mut [f32],
     counts: &mut [u8],
+    marks: &mut [u32],
 ) -> Sampled
-    ensures { λ r. ⌜ Samples (lentRamp kind positions channels codes) threshold (lentHeld rows counts) r ⌝ }
+    ensures { λ r. ⌜ Samples (lentRamp kind positions channels codes) threshold (lentHeld rows counts marks) r ⌝ }
 {
     resample(
         kind,
@@ -215,5 +235,6 @@ pub fn sample(
         [false; 36],
         rows,
         counts,
+        marks,
     )
 }

@@ -13,7 +13,7 @@ ghost use Rattle.gradient.specs.Ramp.{checkOf};
 ghost use Rattle.sampling.specs.Constants.{cells, recordLength};
 ghost use Rattle.sampling.specs.Inner.{Prepared, taskRamp, taskColours, taskFar, RecordAnew};
 ghost use Rattle.sampling.specs.Anew.{keptBy};
-ghost use Rattle.sampling.specs.Lent.{lentHeld};
+ghost use Rattle.sampling.specs.Lent.{lentBody};
 ghost use Rattle.stops.specs.declared.Checked.the-variants.{Fine};
 
 // What the first cell is handed: no point is known yet.
@@ -46,7 +46,7 @@ fn resample_each(
 ) -> usize
     requires { ⌜ (length (now rows) ≡ recordLength) × (length (now counts) ≡ cells) ⌝ }
     requires { ⌜ Prepared (taskRamp task positions channels codes) (now table) ⌝ }
-    ensures { λ r. ⌜ RecordAnew (taskColours task positions channels codes) (taskFar task) (keptBy keep) (task .min) (task .max) (lentHeld rows counts) r ⌝ }
+    ensures { λ r. ⌜ RecordAnew (taskColours task positions channels codes) (taskFar task) (keptBy keep) (task .min) (task .max) (lentBody rows counts) r ⌝ }
 {
     let mut s = nothing_known(task.min);
     let mut i = 0;
@@ -80,7 +80,7 @@ pub(crate) fn resample_cells(
 ) -> usize
     requires { ⌜ (length (now rows) ≡ recordLength) × (length (now counts) ≡ cells) ⌝ }
     requires { ⌜ checkOf (taskRamp task positions channels codes) ≡ Fine ⌝ }
-    ensures { λ r. ⌜ RecordAnew (taskColours task positions channels codes) (taskFar task) (keptBy keep) (task .min) (task .max) (lentHeld rows counts) r ⌝ }
+    ensures { λ r. ⌜ RecordAnew (taskColours task positions channels codes) (taskFar task) (keptBy keep) (task .min) (task .max) (lentBody rows counts) r ⌝ }
 {
     let kind = task.kind;
     if !segments::is_catmull_rom(kind) {

@@ -19,10 +19,13 @@ same-length-3 c = search needs
 same-length-4 : tie.Need-same-length-4
 same-length-4 c = search needs
 
+same-length-5 : tie.Need-same-length-5
+same-length-5 c = search needs
+
 returns : tie.Need-returns
-returns c = flatten-of _ _ _ _ _ (c .before .before .before .before .before .before .before .before .relist .ensures)
+returns c = flatten-of _ _ _ _ _ (c .before .before .before .before .before .before .before .before .before .before .relist .ensures)
 
 pub flatten-spec : {M : Type 1} → statement M
 flatten-spec =
     tie.close
-    (tie.spec relist-requires same-length same-length-2 same-length-3 same-length-4 returns)
+    (tie.spec relist-requires same-length same-length-2 same-length-3 same-length-4 same-length-5 returns)

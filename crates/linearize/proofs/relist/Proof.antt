@@ -43,11 +43,11 @@ max-of-requires c κs = search needs
 thin-record-requires : tie.Need-thin-record-requires
 thin-record-requires c κs =
     let at-done = c .before .before .before .before .before .before .before in
-    let sampled = at-done .before .before .before .before .before .before in
-    let tested = sampled .before .before .before in
+    let sampled = at-done .before .before .before .before .before .before .before .before in
+    let tested = sampled .before .before .before .before in
     let w = again-is _ _ _ _ _ _ (at-done .n2 .given .1) (sampled .resample .ensures) in
     let good = sym (tested .before .kept-good .ensures) ∙ not-false _ (tested .if1 .left) in
-    (resampled-ready _ _ _ _ _ (w .fine) good (w .left), ramp-fine _ _ _ (w .fine))
+    (resampled-ready _ _ _ _ _ (w .fine) good (w .left), ramp-fine _ _ _ _ (w .fine))
 
 after-requires : tie.Need-after-requires
 after-requires c κs = search needs
@@ -58,11 +58,14 @@ same-length-2 c = search needs
 same-length-3 : tie.Need-same-length-3
 same-length-3 c = search needs
 
-returns-2 : tie.Need-returns-2
-returns-2 c = relist-refused _ _ _ _ _ _ _ (c .before .n .given .1) (c .before .before .before .before .before .before .before .resample .ensures)
-
 same-length-4 : tie.Need-same-length-4
 same-length-4 c = search needs
+
+returns-2 : tie.Need-returns-2
+returns-2 c =
+    let at-refused = c .before in
+    let sampled = at-refused .before .before .before .before .before .before .before .before in
+    relist-refused _ _ _ _ _ _ _ (at-refused .n .given .1) (sampled .resample .ensures)
 
 same-length-5 : tie.Need-same-length-5
 same-length-5 c = search needs
@@ -73,18 +76,24 @@ same-length-6 c = search needs
 same-length-7 : tie.Need-same-length-7
 same-length-7 c = search needs
 
+same-length-8 : tie.Need-same-length-8
+same-length-8 c = search needs
+
+same-length-9 : tie.Need-same-length-9
+same-length-9 c = search needs
+
 returns-3 : tie.Need-returns-3
 returns-3 c =
     let thinned = c .before .before .before .before .before in
     let ended = thinned .before .before .before .before .before in
     let at-done = ended .before .before .before in
-    let sampled = at-done .before .before .before .before .before .before in
-    let tested = sampled .before .before .before in
+    let sampled = at-done .before .before .before .before .before .before .before .before in
+    let tested = sampled .before .before .before .before in
     let w = again-is _ _ _ _ _ _ (at-done .n2 .given .1) (sampled .resample .ensures) in
     let good = sym (tested .before .kept-good .ensures) ∙ not-false _ (tested .if1 .left) in
     let made = thinned .thin-record .ensures in
     let few = again-bound _ _ _ _ (w .spent) in
-    let most = made-bound _ _ _ _ _ (resampled-ready _ _ _ _ _ (w .fine) good (w .left)) made in
+    let most = made-bound _ _ _ _ _ _ (resampled-ready _ _ _ _ _ (w .fine) good (w .left)) made in
     relist-done _ _ _ _ _ _ _ _ _ _ w good (far-by-cutoff _ _ (ended .before .cutoff-of .ensures)) (ended .max-of .ensures) made (after-few _ (thinned .thin-record .result) (c .after .ensures) few most)
 
 pub relist-spec : {M : Type 1} → statement M
@@ -105,9 +114,11 @@ relist-spec =
     after-requires
     same-length-2
     same-length-3
-    returns-2
     same-length-4
+    returns-2
     same-length-5
     same-length-6
     same-length-7
+    same-length-8
+    same-length-9
     returns-3)

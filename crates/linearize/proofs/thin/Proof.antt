@@ -1,7 +1,8 @@
 -- `thin` meets its contract: a refusal before the list changes nothing; else the list of the record's points. Assumes nothing.
 use mathlib.Core.Path.{sym, _∙_}
 use Rattle.sampling.proofs.Checks.{ramp-fine}
-use Rattle.linearize.proofs.Checks.{ready, sample-fine}
+use Rattle.records.proofs.Passing.{sample-fine}
+use Rattle.linearize.proofs.Checks.{ready}
 use Rattle.linearize.proofs.Answers.{thin-refused, thin-done}
 use Rattle.sampling.proofs.Thresholds.{far-by-cutoff}
 use borrow.Author.Needs.{needs}
@@ -27,7 +28,7 @@ thin-record-requires : tie.Need-thin-record-requires
 thin-record-requires c κs =
     let told = c .before .before .before .before in
     let fine = sym (told .before .before .check-thin .ensures .answer) ∙ told .enum-told .given .1 in
-    (ready _ _ fine, ramp-fine _ _ _ (sample-fine _ _ fine))
+    (ready _ _ _ fine, ramp-fine _ _ _ _ (sample-fine _ _ _ fine))
 
 returns : tie.Need-returns
 returns c = thin-refused _ _ _ _ _ (sym (c .before .before .before .check-thin .ensures .answer) ∙ c .before .n .given .1)

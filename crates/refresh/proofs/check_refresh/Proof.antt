@@ -18,10 +18,10 @@ check-edit-requires : tie.Need-check-edit-requires
 check-edit-requires c κs = search needs
 
 returns : tie.Need-returns
-returns c = thin-refuses _ _ _ _ (sym (c .before .before .before .check-thin .ensures .answer) ∙ c .before .n .given .1)
+returns c = thin-refuses _ _ _ _ _ (sym (c .before .before .before .check-thin .ensures .answer) ∙ c .before .n .given .1)
 
 returns-2 : tie.Need-returns-2
-returns-2 c = thin-passes _ _ _ _ (sym (c .before .before .before .check-thin .ensures .answer) ∙ c .before .enum-told .given .1) (c .check-edit .ensures)
+returns-2 c = thin-passes _ _ _ _ _ (sym (c .before .before .before .check-thin .ensures .answer) ∙ c .before .enum-told .given .1) (c .check-edit .ensures)
 
 pub check-refresh-spec : {M : Type 1} → statement M
 check-refresh-spec =

@@ -28,7 +28,7 @@ change-requires : tie.Need-change-requires
 change-requires c κs =
     let told = c .before in
     let fine = sym (told .before .before .check-refresh .ensures) ∙ told .enum-told .given .1 in
-    let there = channels-there _ _ (allowed _ _ _ fine) in
+    let there = channels-there _ _ (allowed _ _ _ _ fine) in
     (there .0, there .1)
 
 kept-cells-requires : tie.Need-kept-cells-requires
@@ -39,14 +39,14 @@ array-share-prefix-copy c =
     let changed = c .before .before in
     let told = changed .before .before in
     let fine = sym (told .before .before .check-refresh .ensures) ∙ told .enum-told .given .1 in
-    omega (arith, channels-there _ _ (allowed _ _ _ fine) .1, changed .change .kept .1 .1 .1 .0)
+    omega (arith, channels-there _ _ (allowed _ _ _ _ fine) .1, changed .change .kept .1 .1 .1 .0)
 
 slice-aggregate-resample : tie.Need-slice-aggregate-resample
 slice-aggregate-resample c =
     let changed = c .before .before .before in
     let told = changed .before .before in
     let fine = sym (told .before .before .check-refresh .ensures) ∙ told .enum-told .given .1 in
-    sym (length-take-le _ (changed .change .last .1 .1 .1 .0) (omega (arith, channels-there _ _ (allowed _ _ _ fine) .1, changed .change .kept .1 .1 .1 .0)))
+    sym (length-take-le _ (changed .change .last .1 .1 .1 .0) (omega (arith, channels-there _ _ (allowed _ _ _ _ fine) .1, changed .change .kept .1 .1 .1 .0)))
 
 resample-requires : tie.Need-resample-requires
 resample-requires c κs = search needs
@@ -60,23 +60,29 @@ same-length c = search needs
 same-length-2 : tie.Need-same-length-2
 same-length-2 c = search needs
 
-returns : tie.Need-returns
-returns c = refresh-refused _ _ _ _ _ (sym (c .before .before .before .check-refresh .ensures) ∙ c .before .n .given .1)
-
 same-length-3 : tie.Need-same-length-3
 same-length-3 c = search needs
+
+returns : tie.Need-returns
+returns c = refresh-refused _ _ _ _ _ (sym (c .before .before .before .check-refresh .ensures) ∙ c .before .n .given .1)
 
 same-length-4 : tie.Need-same-length-4
 same-length-4 c = search needs
 
+same-length-5 : tie.Need-same-length-5
+same-length-5 c = search needs
+
+same-length-6 : tie.Need-same-length-6
+same-length-6 c = search needs
+
 returns-2 : tie.Need-returns-2
 returns-2 c =
-    let sampled = c .before .before .before .before .before in
-    let kept = sampled .before .before .before .before in
+    let sampled = c .before .before .before .before .before .before .before in
+    let kept = sampled .before .before .before .before .before in
     let changed = kept .before .before in
     let told = changed .before .before in
     let checked = told .before .before in
-    let a = checked .before .before .before .before .before .before .before .before .args in
+    let a = checked .before .before .before .before .before .before .before .before .before .before .args in
     let fine = sym (checked .check-refresh .ensures) ∙ told .enum-told .given .1 in
     let copy = take (length (a .channels .now)) (changed .change .last .1 .1 .1 .0) in
     refresh-done _ _ _ _ fine (rampOf (a .kind) (a .positions .now) copy (a .codes .now)) _
@@ -99,7 +105,9 @@ refresh-spec =
     refreshed-by-requires
     same-length
     same-length-2
-    returns
     same-length-3
+    returns
     same-length-4
+    same-length-5
+    same-length-6
     returns-2)

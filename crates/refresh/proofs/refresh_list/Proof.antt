@@ -28,7 +28,7 @@ change-requires : tie.Need-change-requires
 change-requires c κs =
     let told = c .before in
     let fine = sym (told .before .before .check-refresh .ensures) ∙ told .enum-told .given .1 in
-    let there = channels-there _ _ (allowed _ _ _ fine) in
+    let there = channels-there _ _ (allowed _ _ _ _ fine) in
     (there .0, there .1)
 
 array-share-prefix-copy : tie.Need-array-share-prefix-copy
@@ -36,14 +36,14 @@ array-share-prefix-copy c =
     let changed = c .before in
     let told = changed .before .before in
     let fine = sym (told .before .before .check-refresh .ensures) ∙ told .enum-told .given .1 in
-    omega (arith, channels-there _ _ (allowed _ _ _ fine) .1, changed .change .kept .1 .1 .1 .0)
+    omega (arith, channels-there _ _ (allowed _ _ _ _ fine) .1, changed .change .kept .1 .1 .1 .0)
 
 slice-aggregate-relist : tie.Need-slice-aggregate-relist
 slice-aggregate-relist c =
     let changed = c .before .before in
     let told = changed .before .before in
     let fine = sym (told .before .before .check-refresh .ensures) ∙ told .enum-told .given .1 in
-    sym (length-take-le _ (changed .change .last .1 .1 .1 .0) (omega (arith, channels-there _ _ (allowed _ _ _ fine) .1, changed .change .kept .1 .1 .1 .0)))
+    sym (length-take-le _ (changed .change .last .1 .1 .1 .0) (omega (arith, channels-there _ _ (allowed _ _ _ _ fine) .1, changed .change .kept .1 .1 .1 .0)))
 
 kept-cells-requires : tie.Need-kept-cells-requires
 kept-cells-requires c κs = search needs
@@ -57,11 +57,11 @@ same-length c = search needs
 same-length-2 : tie.Need-same-length-2
 same-length-2 c = search needs
 
-returns : tie.Need-returns
-returns c = refresh-list-refused _ _ _ _ _ _ (sym (c .before .before .before .check-refresh .ensures) ∙ c .before .n .given .1)
-
 same-length-3 : tie.Need-same-length-3
 same-length-3 c = search needs
+
+returns : tie.Need-returns
+returns c = refresh-list-refused _ _ _ _ _ _ (sym (c .before .before .before .check-refresh .ensures) ∙ c .before .n .given .1)
 
 same-length-4 : tie.Need-same-length-4
 same-length-4 c = search needs
@@ -72,14 +72,21 @@ same-length-5 c = search needs
 same-length-6 : tie.Need-same-length-6
 same-length-6 c = search needs
 
+same-length-7 : tie.Need-same-length-7
+same-length-7 c = search needs
+
+same-length-8 : tie.Need-same-length-8
+same-length-8 c = search needs
+
 returns-2 : tie.Need-returns-2
 returns-2 c =
-    let listed = c .before .before .before .before .before .before .before .before in
-    let kept = listed .before .before .before .before .before in
+    let listed = c .before .before .before .before .before .before .before .before .before .before in
+    let kept = listed .before .before .before .before .before .before in
     let changed = kept .before .before .before in
     let told = changed .before .before in
     let checked = told .before .before in
-    let a = checked .before .before .before .before .before .before .before .before .before .before .args in
+    let lent = checked .before .before .before .before .before .before .before .before in
+    let a = lent .before .before .before .before .args in
     let fine = sym (checked .check-refresh .ensures) ∙ told .enum-told .given .1 in
     let copy = take (length (a .channels .now)) (changed .change .last .1 .1 .1 .0) in
     refresh-list-done _ _ _ _ fine (rampOf (a .kind) (a .positions .now) copy (a .codes .now)) _
@@ -101,9 +108,11 @@ refresh-list-spec =
     relist-requires
     same-length
     same-length-2
-    returns
     same-length-3
+    returns
     same-length-4
     same-length-5
     same-length-6
+    same-length-7
+    same-length-8
     returns-2)

@@ -24,10 +24,10 @@ check-shape-requires : tie.Need-check-shape-requires
 check-shape-requires c κs = search needs
 
 returns : tie.Need-returns
-returns c = first-refuses _ _ _ _ (sym (c .before .before .before .check .ensures .answer) ∙ c .before .n .given .1)
+returns c = first-refuses _ _ _ _ _ (sym (c .before .before .before .check .ensures .answer) ∙ c .before .n .given .1)
 
 returns-2 : tie.Need-returns-2
-returns-2 c = first-passes _ _ _ _ _ _ (sym (c .before .before .before .before .before .check .ensures .answer) ∙ c .before .before .before .enum-told .given .1) (c .before .before .min-of .ensures) (c .before .max-of .ensures) (c .check-shape .ensures)
+returns-2 c = first-passes _ _ _ _ _ _ _ (sym (c .before .before .before .before .before .check .ensures .answer) ∙ c .before .before .before .enum-told .given .1) (c .before .before .min-of .ensures) (c .before .max-of .ensures) (c .check-shape .ensures)
 
 pub check-sample-spec : {M : Type 1} → statement M
 check-sample-spec =

@@ -31,10 +31,19 @@ resample-cells-requires : tie.Need-resample-cells-requires
 resample-cells-requires c κs =
     let told = c .before .before .before .before .before in
     let fine = sym (told .before .before .check-sample .ensures) ∙ told .enum-told .given .1 in
-    (record-lengths _ _ _ fine, ramp-fine _ _ _ fine)
+    let l = record-lengths _ _ _ _ fine in
+    ((l .long, l .many), ramp-fine _ _ _ _ fine)
+
+put-requires : tie.Need-put-requires
+put-requires c κs =
+    let sampled = c .before .before .before .before .before in
+    let told = sampled .before .before .before .before .before .before in
+    record-lengths _ _ _ _ (sym (told .before .before .check-sample .ensures) ∙ told .enum-told .given .1) .three
 
 mul-evaluations : tie.Need-mul-evaluations
-mul-evaluations c = omega (arith, renewed-bound _ _ _ _ _ _ _ (c .before .before .before .before .resample-cells .ensures))
+mul-evaluations c =
+    let sampled = c .before .before .before .before .before .before .before .before in
+    omega (arith, renewed-bound _ _ _ _ _ _ _ (sampled .resample-cells .ensures))
 
 returns : tie.Need-returns
 returns c = resample-refused _ _ _ _ _ (sym (c .before .before .before .check-sample .ensures) ∙ c .before .n .given .1)
@@ -45,14 +54,18 @@ same-length c = search needs
 same-length-2 : tie.Need-same-length-2
 same-length-2 c = search needs
 
+same-length-3 : tie.Need-same-length-3
+same-length-3 c = search needs
+
 returns-2 : tie.Need-returns-2
 returns-2 c =
-    let sampled = c .before .before .before .before in
+    let marked = c .before .before in
+    let sampled = marked .before .before .before .before .before .before in
     let most = sampled .before .before .before in
     let least = most .before in
     let cut = least .before in
     let told = cut .before in
-    resample-done _ _ _ _ _ _ _ _ _ (sym (told .before .before .check-sample .ensures) ∙ told .enum-told .given .1) (far-by-cutoff _ _ (cut .cutoff-of .ensures)) (least .min-of .ensures) (most .max-of .ensures) (sampled .resample-cells .ensures)
+    resample-done _ _ _ _ _ _ _ _ _ (sym (told .before .before .check-sample .ensures) ∙ told .enum-told .given .1) (far-by-cutoff _ _ (cut .cutoff-of .ensures)) (least .min-of .ensures) (most .max-of .ensures) (sampled .resample-cells .ensures) (marked .put .ensures)
 
 pub resample-spec : {M : Type 1} → statement M
 resample-spec =
@@ -65,8 +78,10 @@ resample-spec =
     min-of-requires
     max-of-requires
     resample-cells-requires
+    put-requires
     mul-evaluations
     returns
     same-length
     same-length-2
+    same-length-3
     returns-2)

@@ -13,8 +13,11 @@ same-length c = search needs
 same-length-2 : tie.Need-same-length-2
 same-length-2 c = search needs
 
+same-length-3 : tie.Need-same-length-3
+same-length-3 c = search needs
+
 returns : tie.Need-returns
-returns c = sample-of _ _ _ _ (c .before .before .before .before .resample .ensures)
+returns c = sample-of _ _ _ _ (c .before .before .before .before .before .before .resample .ensures)
 
 pub sample-spec : {M : Type 1} → statement M
-sample-spec = tie.close (tie.spec resample-requires same-length same-length-2 returns)
+sample-spec = tie.close (tie.spec resample-requires same-length same-length-2 same-length-3 returns)

@@ -40,10 +40,14 @@ same-length-3 c = search needs
 same-length-4 : tie.Need-same-length-4
 same-length-4 c = search needs
 
+same-length-5 : tie.Need-same-length-5
+same-length-5 c = search needs
+
 returns-2 : tie.Need-returns-2
 returns-2 c =
-    let called = c .before .before .before .before .before .before .before .before .before in
-    let named = called .before .before .before .before .before .before in
+    let lists = c .before .before .before .before .before in
+    let called = lists .before .before .before .before .before .before in
+    let named = called .before .before .before .before .before .before .before in
     of-a-kind _ (named .before .before .kind-of .ensures) (named .known .given .1) (called .flatten .ensures) (c .listed-shown2 .ensures)
 
 pub colorgrad-flatten-spec : {M : Type 1} → statement M
@@ -61,4 +65,5 @@ colorgrad-flatten-spec =
     same-length-2
     same-length-3
     same-length-4
+    same-length-5
     returns-2)

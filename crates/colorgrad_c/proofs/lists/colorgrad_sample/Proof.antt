@@ -34,10 +34,13 @@ same-length c = search needs
 same-length-2 : tie.Need-same-length-2
 same-length-2 c = search needs
 
+same-length-3 : tie.Need-same-length-3
+same-length-3 c = search needs
+
 returns-2 : tie.Need-returns-2
 returns-2 c =
-    let called = c .before .before .before .before .before in
-    let named = called .before .before .before .before in
+    let called = c .before .before .before .before .before .before .before in
+    let named = called .before .before .before .before .before in
     of-a-kind _ (named .before .before .kind-of .ensures) (named .known .given .1) (called .sample .ensures) (c .sampled-shown2 .ensures)
 
 pub colorgrad-sample-spec : {M : Type 1} → statement M
@@ -53,4 +56,5 @@ colorgrad-sample-spec =
     sampled-shown-requires-2
     same-length
     same-length-2
+    same-length-3
     returns-2)

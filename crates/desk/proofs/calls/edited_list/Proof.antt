@@ -15,6 +15,9 @@ slice-aggregate-sample-2 c = search needs
 slice-aggregate-sample-3 : tie.Need-slice-aggregate-sample-3
 slice-aggregate-sample-3 c = search needs
 
+slice-aggregate-sample-4 : tie.Need-slice-aggregate-sample-4
+slice-aggregate-sample-4 c = search needs
+
 sample-requires : tie.Need-sample-requires
 sample-requires c κs = search needs
 
@@ -33,6 +36,9 @@ slice-aggregate-refresh-list-2 c = search needs
 slice-aggregate-refresh-list-3 : tie.Need-slice-aggregate-refresh-list-3
 slice-aggregate-refresh-list-3 c = search needs
 
+slice-aggregate-refresh-list-4 : tie.Need-slice-aggregate-refresh-list-4
+slice-aggregate-refresh-list-4 c = search needs
+
 refresh-list-requires : tie.Need-refresh-list-requires
 refresh-list-requires c κs = search needs
 
@@ -40,11 +46,21 @@ after-requires : tie.Need-after-requires
 after-requires c κs = search needs
 
 reply-of-requires : tie.Need-reply-of-requires
-reply-of-requires c κs = let b = c in let u = b .before .before .before .before .before .before .before in let i = u .before .before .before .before .before .before .before in let w = i .before .before .before .before in let z = w .before .before .before .before .before .before .before .before in
-    relist-fits (z .args .edit) (w .sample .ensures) (i .n .given .1) (z .pre) (u .refresh-list .ensures) (after-few _ (u .refresh-list .result) (b .after .ensures) (sample-few (z .args .edit) (w .sample .ensures) (i .n .given .1)) (refresh-list-most _ _ _ _ _ _ (u .refresh-list .ensures)))
+reply-of-requires c κs =
+    let b = c in
+    let u = b .before .before .before .before .before .before .before .before in
+    let i = u .before .before .before .before .before .before .before .before in
+    let w = i .before .before .before .before .before in
+    let z = w .before .before .before .before .before .before .before .before .before in
+    let few = sample-few (z .args .edit) (w .sample .ensures) (i .n .given .1) in
+    let made = after-few _ (u .refresh-list .result) (b .after .ensures) few (refresh-list-most _ _ _ _ _ _ (u .refresh-list .ensures)) in
+    relist-fits (z .args .edit) (w .sample .ensures) (i .n .given .1) (z .pre) (u .refresh-list .ensures) made
 
 returns : tie.Need-returns
-returns c = let i = c .before in let w = i .before .before .before .before in let z = w .before .before .before .before .before .before .before .before in
+returns c =
+    let i = c .before in
+    let w = i .before .before .before .before .before in
+    let z = w .before .before .before .before .before .before .before .before .before in
     sample-no (z .args .edit) (w .sample .ensures) (i .number .given .1)
 
 same-length : tie.Need-same-length
@@ -54,8 +70,15 @@ same-length-2 : tie.Need-same-length-2
 same-length-2 c = search needs
 
 returns-2 : tie.Need-returns-2
-returns-2 c = let r = c in let b = r .before in let u = b .before .before .before .before .before .before .before in let i = u .before .before .before .before .before .before .before in let w = i .before .before .before .before in let z = w .before .before .before .before .before .before .before .before in
-    says-listed (b .after .result) (r .reply-of .ensures) (relist-same (z .args .edit) (w .sample .ensures) (i .n .given .1) (z .pre) (u .refresh-list .ensures) (after-few _ (u .refresh-list .result) (b .after .ensures) (sample-few (z .args .edit) (w .sample .ensures) (i .n .given .1)) (refresh-list-most _ _ _ _ _ _ (u .refresh-list .ensures))))
+returns-2 c =
+    let b = c .before in
+    let u = b .before .before .before .before .before .before .before .before in
+    let i = u .before .before .before .before .before .before .before .before in
+    let w = i .before .before .before .before .before in
+    let z = w .before .before .before .before .before .before .before .before .before in
+    let few = sample-few (z .args .edit) (w .sample .ensures) (i .n .given .1) in
+    let made = after-few _ (u .refresh-list .result) (b .after .ensures) few (refresh-list-most _ _ _ _ _ _ (u .refresh-list .ensures)) in
+    says-listed (b .after .result) (c .reply-of .ensures) (relist-same (z .args .edit) (w .sample .ensures) (i .n .given .1) (z .pre) (u .refresh-list .ensures) made)
 
 pub edited-list-spec : {M : Type 1} → statement M
 edited-list-spec =
@@ -64,12 +87,14 @@ edited-list-spec =
     slice-aggregate-sample
     slice-aggregate-sample-2
     slice-aggregate-sample-3
+    slice-aggregate-sample-4
     sample-requires
     enum-known-number
     enum-known-n
     slice-aggregate-refresh-list
     slice-aggregate-refresh-list-2
     slice-aggregate-refresh-list-3
+    slice-aggregate-refresh-list-4
     refresh-list-requires
     after-requires
     reply-of-requires

@@ -13,11 +13,17 @@ slice-aggregate-flatten-2 c = search needs
 slice-aggregate-flatten-3 : tie.Need-slice-aggregate-flatten-3
 slice-aggregate-flatten-3 c = search needs
 
+slice-aggregate-flatten-4 : tie.Need-slice-aggregate-flatten-4
+slice-aggregate-flatten-4 c = search needs
+
 flatten-requires : tie.Need-flatten-requires
 flatten-requires c κs = search needs
 
 reply-of-requires : tie.Need-reply-of-requires
-reply-of-requires c κs = let w = c .before .before .before .before .before .before in let z = w .before .before .before .before .before .before .before .before .before .before in
+reply-of-requires c κs =
+    let w = c .before .before .before .before .before .before .before in
+    let lent = w .before .before .before .before .before .before in
+    let z = lent .before .before .before .before .before in
     fresh-fits (z .pre) (w .flatten .ensures)
 
 same-length : tie.Need-same-length
@@ -27,8 +33,11 @@ same-length-2 : tie.Need-same-length-2
 same-length-2 c = search needs
 
 returns : tie.Need-returns
-returns c = let r = c in let w = r .before .before .before .before .before .before .before in let z = w .before .before .before .before .before .before .before .before .before .before in
-    says-listed (w .flatten .result) (r .reply-of .ensures) (fresh-same (z .pre) (w .flatten .ensures))
+returns c =
+    let w = c .before .before .before .before .before .before .before .before in
+    let lent = w .before .before .before .before .before .before in
+    let z = lent .before .before .before .before .before in
+    says-listed (w .flatten .result) (c .reply-of .ensures) (fresh-same (z .pre) (w .flatten .ensures))
 
 pub fresh-spec : {M : Type 1} → statement M
 fresh-spec =
@@ -37,6 +46,7 @@ fresh-spec =
     slice-aggregate-flatten
     slice-aggregate-flatten-2
     slice-aggregate-flatten-3
+    slice-aggregate-flatten-4
     flatten-requires
     reply-of-requires
     same-length

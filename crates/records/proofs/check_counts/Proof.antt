@@ -3,10 +3,10 @@ use mathlib.Core.Path.{_≡_, refl, sym, _∙_}
 use Prim.Native.Nat.{_-_, _≤_}
 use native.Mathlib.Omega.{arith}
 use lib.ListN.{length, drop}
-use Rattle.linearize.specs.Desk.{countsGood}
-use Rattle.linearize.proofs.Checks.{counts-fail, counts-pass, too-small, too-large, fitting, all-seen}
-use Rattle.linearize.proofs.check_counts.Statement.{statement}
-use Rattle.linearize.proofs.check_counts.Tie as tie
+use Rattle.records.specs.Fitness.{countsGood}
+use Rattle.records.proofs.Counting.{counts-fail, counts-pass, too-small, too-large, fitting, all-seen}
+use Rattle.records.proofs.check_counts.Statement.{statement}
+use Rattle.records.proofs.check_counts.Tie as tie
 
 abbrev Inv-loop : tie.InvT-loop
 Inv-loop counts i₀ i = (i ≤ length counts) × (countsGood (drop i counts) ≡ countsGood counts)

@@ -1,0 +1,4 @@
+-- Laws that belong to no one function.
+pub mod Counting
+pub mod Marking
+pub mod Passing

@@ -1,0 +1,2 @@
+-- Records that may be thinned or refreshed.
+pub mod Fitness
