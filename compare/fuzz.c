@@ -490,7 +490,7 @@ static void fuzz_refresh(Bytes in)
         expect(refreshed.evaluations == 0 && same_record(desk, before), "a refusal leaves the record");
         check_list(made, desk, ramp);
     } else {
-        expect(ramp.kind <= COLORGRAD_SMOOTHSTEP && stop < n, "an edit that is one");
+        expect(ramp.kind < COLORGRAD_GIMP && ramp.kind != COLORGRAD_SHARP && stop < n, "an edit that is one");
         check_list(made, desk, ramp);
         check_fresh(ramp, stop, colour, before, desk, was_sampled, made);
     }

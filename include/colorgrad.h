@@ -218,7 +218,7 @@ ColorgradListed colorgrad_flatten(uint32_t kind, const float *positions, size_t 
                                   uint8_t *counts, size_t counts_length, uint32_t *marks, size_t marks_length,
                                   float *places, size_t places_length, float *colours, size_t colours_length);
 
-/* The ramp as it was (linear or smoothstep), its record, and an edit: the colour that stop gets, counted from 0. Only the
+/* The ramp as it was (any but sharp and GIMP), its record, and an edit: the colour that stop gets, counted from 0. Only the
  * cells that the edit touches are filled anew; the record then equals one of the changed ramp made afresh, and its words
  * stay. The ramp itself is not written. Refused with 1 to 6 or 20: the record stays as it was. */
 ColorgradSampled colorgrad_refresh(uint32_t kind, const float *positions, size_t positions_length,

@@ -12,7 +12,7 @@ use crate::ordinary;
 use crate::ours::{self, Edit};
 use crate::ramps::{Kind, Ramp, KINDS, MOST_SEGMENTS};
 use crate::random::Random;
-use crate::refresh::changed;
+use crate::refresh::{changed, REFRESHED};
 use std::hint::black_box;
 use std::path::Path;
 
@@ -242,41 +242,63 @@ fn flatten(random: &mut Random) {
     }
 }
 
-/// Black and white in turn, one inner stop to mid grey: each of the 62 inner stops by itself, then medians over them.
-/// A refresh of a refreshed record does the same work again, so that it can be repeated.
-fn refresh(_: &mut Random) {
+/// 64 evenly spaced stops, black and white in turn.
+fn striped(kind: Kind) -> Ramp {
     const STOPS: usize = 64;
-    const REPEATED: usize = 5;
-    let threshold = 0.007;
     let positions = (0..STOPS).map(|i| i as f32 / (STOPS - 1) as f32).collect();
     let channels = (0..STOPS).flat_map(|i| [(i % 2) as f32, (i % 2) as f32, (i % 2) as f32, 1.0]).collect();
-    let ramp = Ramp { kind: Kind::Linear, positions, channels, codes: Vec::new() };
+    Ramp { kind, positions, channels, codes: Vec::new() }
+}
+
+/// One inner stop to mid grey: the times of each inner stop by itself, then the medians over them.
+fn inner_edits(ramp: &Ramp, timed: impl FnMut(Edit) -> (f64, f64)) -> (f64, f64) {
+    let inner = 1..ramp.positions.len() - 1;
+    let times = inner.map(|stop| Edit { stop, colour: [0.5, 0.5, 0.5, 1.0] }).map(timed);
+    let (ours, others) = times.unzip();
+    (median(ours), median(others))
+}
+
+/// A refresh of a refreshed record does the same work again, so that it can be repeated.
+const REPEATED: usize = 5;
+const THRESHOLD: f32 = 0.007;
+
+fn refresh(_: &mut Random) {
+    for kind in REFRESHED {
+        refresh_alone(&striped(kind));
+    }
+    refresh_and_thin(&striped(Kind::Linear));
+}
+
+fn refresh_alone(ramp: &Ramp) {
+    let (mut record, mut spare) = (Record::empty(), Record::empty());
+    let (ours, whole) = inner_edits(ramp, |edit| {
+        let after = changed(ramp, &edit);
+        ours::sample(ramp, THRESHOLD, &mut record).expect("a ramp that is taken");
+        timed(
+            REPEATED,
+            || used(ours::refresh(ramp, &edit, THRESHOLD, &mut record)),
+            || used(ours::sample(&after, THRESHOLD, &mut spare)),
+        )
+    });
+    row(&format!("refresh alone, {}", ramp.kind.name()), "our own sampling", ours, whole);
+}
+
+/// Beside a fresh sampling and thinning without the refresh.
+fn refresh_and_thin(ramp: &Ramp) {
     let (mut record, mut spare) = (Record::empty(), Record::empty());
     let mut out = (vec![0.0; MOST_POINTS], vec![0.0; 4 * MOST_POINTS]);
     let mut others = (vec![0.0; MOST_POINTS], vec![0.0; 4 * MOST_POINTS]);
-    let (mut alone, mut whole, mut together, mut fresh) = (Vec::new(), Vec::new(), Vec::new(), Vec::new());
-    for stop in 1..STOPS - 1 {
-        let edit = Edit { stop, colour: [0.5, 0.5, 0.5, 1.0] };
-        let after = changed(&ramp, &edit);
-        ours::sample(&ramp, threshold, &mut record).expect("a ramp that is taken");
-        let made = ours::refresh_list(&ramp, &edit, threshold, &mut record, &mut out.0, &mut out.1);
-        let stops = ordinary::flatten(&after, threshold, &mut spare, &mut others.0, &mut others.1);
+    let (ours, rust) = inner_edits(ramp, |edit| {
+        let after = changed(ramp, &edit);
+        ours::sample(ramp, THRESHOLD, &mut record).expect("a ramp that is taken");
+        let made = ours::refresh_list(ramp, &edit, THRESHOLD, &mut record, &mut out.0, &mut out.1);
+        let stops = ordinary::flatten(&after, THRESHOLD, &mut spare, &mut others.0, &mut others.1);
         assert!(made.is_ok_and(|m| m.0 == stops) && out == others, "the ordinary Rust does the same job");
-        let times = timed(
+        timed(
             REPEATED,
-            || used(ours::refresh(&ramp, &edit, threshold, &mut record)),
-            || used(ours::sample(&after, threshold, &mut spare)),
-        );
-        alone.push(times.0);
-        whole.push(times.1);
-        let times = timed(
-            REPEATED,
-            || used(ours::refresh_list(&ramp, &edit, threshold, &mut record, &mut out.0, &mut out.1)),
-            || used(ordinary::flatten(&after, threshold, &mut spare, &mut others.0, &mut others.1)),
-        );
-        together.push(times.0);
-        fresh.push(times.1);
-    }
-    row("refresh alone", "our own sampling", median(alone), median(whole));
-    row("refresh and thin", "sampling and thinning in ordinary Rust", median(together), median(fresh));
+            || used(ours::refresh_list(ramp, &edit, THRESHOLD, &mut record, &mut out.0, &mut out.1)),
+            || used(ordinary::flatten(&after, THRESHOLD, &mut spare, &mut others.0, &mut others.1)),
+        )
+    });
+    row("refresh and thin, linear", "sampling and thinning in ordinary Rust", ours, rust);
 }

@@ -57,7 +57,7 @@ const COMPARISONS: [Comparison; 12] = [
     ("counts", counts::run, 400_000),
     ("torn", torn::run, 100_000),
     ("lists", lists::run, 20_000),
-    ("refresh", refresh::run, 20_000),
+    ("refresh", refresh::run, 40_000),
     ("marks", marks::run, 20_000),
     ("many", many::run, 4_000),
 ];

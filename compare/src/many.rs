@@ -57,9 +57,9 @@ fn at_the_limit(options: &Options) -> Tally {
     for kind in &KINDS[..5] {
         for (ramp, refusal) in limits::full(*kind).into_iter().zip([0, 1]) {
             for (call, number) in calls(&ramp) {
-                // an edit of these kinds is refused, after the ramp
-                let curved = !matches!(kind, Kind::Linear | Kind::Smoothstep) && call.starts_with("refresh");
-                let want = if refusal == 0 && curved { 6 } else { refusal };
+                // an edit of a sharp ramp is refused, after the ramp
+                let sharp = *kind == Kind::Sharp && call.starts_with("refresh");
+                let want = if refusal == 0 && sharp { 6 } else { refusal };
                 tally.inputs(1);
                 tally.answered((want == 0) as u64);
                 if number != want {

@@ -9,14 +9,21 @@ use crate::ramps::{random_or_spoilt, Kind, Ramp, KINDS};
 use crate::random::Random;
 use crate::report::Tally;
 
+/// The kinds that can be refreshed.
+pub const REFRESHED: [Kind; 4] = [Kind::Linear, Kind::Smoothstep, Kind::Basis, Kind::CatmullRom];
+
+/// Of each kind; sharp and GIMP ramps are refused.
 pub fn run(options: &Options) -> Vec<Tally> {
-    let mut rubbish = Tally::new("refresh: clear rows kept", options.seed);
-    let mut fresh = Tally::new("refresh: refreshed is fresh", options.seed);
+    KINDS.iter().flat_map(|kind| one_kind(options, *kind)).filter(|tally| tally.count() > 0).collect()
+}
+
+fn one_kind(options: &Options, kind: Kind) -> [Tally; 2] {
+    let mut rubbish = Tally::new(format!("clear rows kept: {}", kind.name()), options.seed);
+    let mut fresh = Tally::new(format!("refreshed is fresh: {}", kind.name()), options.seed);
     let cases = options.cases();
     let of = cases.end;
     for case in cases {
-        let mut random = Random::of_case(options.seed, case);
-        let kind = if random.one_in(12) { random.pick(&KINDS) } else { random.pick(&[Kind::Linear, Kind::Smoothstep]) };
+        let mut random = Random::of_case(8 * options.seed + kind.code() as u64, case);
         let ramp = random_or_spoilt(&mut random, kind);
         let edit = random_edit(&mut random, &ramp);
         let threshold = random_threshold(&mut random);
@@ -31,7 +38,7 @@ pub fn run(options: &Options) -> Vec<Tally> {
         refreshed(&mut fresh, case, &ramp, &edit, threshold);
         rubbish.progress(case, of);
     }
-    vec![rubbish.done(), fresh.done()]
+    [rubbish.done(), fresh.done()]
 }
 
 pub fn random_edit(random: &mut Random, ramp: &Ramp) -> Edit {
@@ -41,6 +48,8 @@ pub fn random_edit(random: &mut Random, ramp: &Ramp) -> Edit {
         1 => random.next() as usize,
         2..=4 => 0,
         5..=7 => n.saturating_sub(1),
+        8 => 1,
+        9 => n.saturating_sub(2),
         _ => random.below(n.max(1)),
     };
     let mut colour = [random.unit(), random.unit(), random.unit(), random.unit()];
@@ -65,8 +74,10 @@ pub fn refusal(ramp: &Ramp, edit: &Edit, counts: &[u8], own_words: bool) -> u32 
     if !own_words {
         return 20;
     }
-    let kind = matches!(ramp.kind, Kind::Linear | Kind::Smoothstep);
-    if !kind || edit.stop >= ramp.positions.len() || edit.colour.iter().any(|c| !c.is_finite()) {
+    if !REFRESHED.contains(&ramp.kind)
+        || edit.stop >= ramp.positions.len()
+        || edit.colour.iter().any(|c| !c.is_finite())
+    {
         return 6;
     }
     0
@@ -79,21 +90,24 @@ pub fn changed(ramp: &Ramp, edit: &Edit) -> Ramp {
     ramp
 }
 
-/// Document 01's 'outside the stretch'.
-fn outside(positions: &[f32], k: usize, t: f32) -> bool {
-    let last = positions.len() - 1;
-    if k == 0 {
-        t > positions[1]
-    } else if k == last {
-        t <= positions[k - 1] && t < positions[k]
-    } else {
-        t <= positions[k - 1] || t > positions[k + 1]
+/// How many pairs a stop touches on each side.
+fn reach(kind: Kind) -> usize {
+    match kind {
+        Kind::Basis | Kind::CatmullRom => 2,
+        _ => 1,
     }
+}
+
+/// Document 01's 'outside the stretch', and that of request (vii).
+fn outside(positions: &[f32], reach: usize, k: usize, t: f32) -> bool {
+    let is_last = k + 1 == positions.len();
+    let before = k >= reach && t <= positions[k - reach] && (!is_last || t < positions[k]);
+    before || positions.get(k + reach).is_some_and(|right| t > *right)
 }
 
 fn clear(ramp: &Ramp, k: usize, cell: usize) -> bool {
     let (left, right) = (oracle::edge(ramp.domain(), cell), oracle::edge(ramp.domain(), cell + 1));
-    let out = |t| outside(&ramp.positions, k, t);
+    let out = |t| outside(&ramp.positions, reach(ramp.kind), k, t);
     out(left) && out(right) && middles_clear(&out, left, right, 7)
 }
 
@@ -145,7 +159,8 @@ pub fn kept(tally: &mut Tally, case: u64, ramp: &Ramp, edit: &Edit, threshold: f
     }
 }
 
-/// Sampled, refreshed and thinned, against the changed ramp flattened by the Rust; and the two last steps in one call.
+/// Sampled, refreshed and thinned, against the changed ramp sampled here and flattened by the Rust; and the two last steps
+/// in one call.
 pub fn refreshed(tally: &mut Tally, case: u64, ramp: &Ramp, edit: &Edit, threshold: f32) {
     if refusal(ramp, edit, &[], true) != 0 {
         return;
@@ -156,14 +171,15 @@ pub fn refreshed(tally: &mut Tally, case: u64, ramp: &Ramp, edit: &Edit, thresho
     let (want, _) = oracle::record(&g, after.domain(), threshold);
     let mut list = oracle::thinned(&g, after.domain().1, threshold, &want);
     tally.answered((emitted(&list, (MOST_POINTS, 4 * MOST_POINTS)).0 == 0) as u64);
-    let mut record = Record::empty();
-    let sampled = ours::sample(ramp, threshold, &mut record);
+    let (mut record, mut fresh) = (Record::empty(), Record::empty());
+    let sampled = ours::sample(ramp, threshold, &mut record).and(ours::sample(&after, threshold, &mut fresh));
     let mut again = record.clone();
     let done = ours::refresh(ramp, edit, threshold, &mut record);
     let room = (MOST_POINTS, 4 * MOST_POINTS);
     let mut out = (vec![RUBBISH; room.0], vec![RUBBISH; room.1]);
     let got = ours::thin(&after, threshold, &record, &mut out.0, &mut out.1);
-    let two_steps = sampled.is_ok() && is_record(&record, &want) && agrees(got, &list, room, (&out.0, &out.1));
+    let two_steps =
+        sampled.is_ok() && is_record(&record, &fresh) && is_record(&record, &want) && agrees(got, &list, room, (&out.0, &out.1));
     let mut out = (vec![RUBBISH; room.0], vec![RUBBISH; room.1]);
     let both = ours::refresh_list(ramp, edit, threshold, &mut again, &mut out.0, &mut out.1);
     list.evaluations += done.unwrap_or_default();

@@ -8,7 +8,7 @@ use crate::oracle::{self, List, Record, CELLS, MARKS, ROW};
 use crate::ours::Edit;
 use crate::ramps::{random_or_spoilt, random_points, Kind, Ramp, KINDS, MOST_SEGMENTS};
 use crate::random::Random;
-use crate::refresh::{self, changed};
+use crate::refresh::{self, changed, REFRESHED};
 use crate::sharp;
 use crate::texts;
 use std::collections::BTreeSet;
@@ -23,7 +23,7 @@ const MOST_TURNS: usize = 24;
 /// Lists of each kind, lists of records, and refreshed ones.
 const LISTS: u64 = 24;
 const THINNED: u64 = 100;
-const REFRESHED: u64 = 600;
+const EDITS: u64 = 600;
 const TEXTS: u64 = 60;
 const BUILT: u64 = 100;
 
@@ -315,11 +315,11 @@ fn thinned(options: &Options, words: &mut Words) {
 }
 
 fn refreshed(options: &Options, words: &mut Words) {
-    words.size(REFRESHED as usize);
-    for case in 0..REFRESHED {
+    words.size(EDITS as usize);
+    for case in 0..EDITS {
         let mut random = Random::of_case(options.seed, case);
         // one of a kind that cannot be refreshed
-        let kind = if case == 6 { random.pick(&KINDS[2..]) } else { random.pick(&[Kind::Linear, Kind::Smoothstep]) };
+        let kind = if case == 6 { random.pick(&[Kind::Sharp, Kind::Gimp]) } else { random.pick(&REFRESHED) };
         let (ramp, threshold, room, edit, refusal, list) = loop {
             let (ramp, threshold) = (short(&mut random, kind), random_threshold(&mut random));
             let room = if random.one_in(8) { Room::ShortRecord } else { Room::Full };

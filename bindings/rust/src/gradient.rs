@@ -95,7 +95,7 @@ pub trait Gradient {
     }
 }
 
-/// Ramps whose record can be kept true after an edit: linear and smoothstep ones.
+/// Ramps whose record can be kept true after an edit: linear, smoothstep, basis and Catmull-Rom ones.
 ///
 /// ```
 /// use guineaplume::{Color, Gradient, LinearGradient, Refresh, Refusal};
@@ -242,6 +242,8 @@ macro_rules! refreshed {
 
 refreshed!(LinearGradient);
 refreshed!(SmoothstepGradient);
+refreshed!(BasisGradient);
+refreshed!(CatmullRomGradient);
 
 /// The segments of a GIMP gradient file (.ggr).
 ///

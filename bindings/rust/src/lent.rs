@@ -231,7 +231,7 @@ impl Ramp<'_> {
         ))
     }
 
-    /// Refreshes the record of this ramp, linear or smoothstep, for an edit: it then equals the record of the changed ramp.
+    /// Refreshes the record of this ramp, any but sharp and GIMP, for an edit: it then equals the record of the changed ramp.
     /// The evaluations; refusals 1 to 6 and 20 leave it as it was.
     pub fn refresh(&self, edit: Edit, threshold: f32, record: RecordMut<'_>) -> Result<usize, Refusal> {
         let RecordMut { rows, counts, marks } = record;

@@ -27,7 +27,7 @@ pub enum Refusal {
     FarDomain = 4,
     /// 5: a record that is not 4,608 numbers, 36 counts of 1 to 128 and 3 words.
     BadRecord = 5,
-    /// 6: an edit of no stop, with no finite colour, or of a ramp that cannot be refreshed.
+    /// 6: an edit of no stop, with no finite colour, or of a sharp or GIMP ramp, which cannot be refreshed.
     BadEdit = 6,
     /// 7: one more colour or stop than the output has room for.
     NoRoom = 7,

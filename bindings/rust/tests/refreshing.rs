@@ -1,7 +1,9 @@
 //! A refreshed record and its list are those made afresh.
 
 use guineaplume::lent::{Edit, Listed, RecordMut, StopsMut, MOST_POINTS};
-use guineaplume::{Color, Gradient, LinearGradient, List, Record, Refresh, SmoothstepGradient};
+use guineaplume::{
+    BasisGradient, CatmullRomGradient, Color, Gradient, LinearGradient, List, Record, Refresh, SmoothstepGradient,
+};
 
 /// Numbers from 0 to 1, the same in every run.
 struct Numbers(u64);
@@ -67,6 +69,8 @@ fn refreshed_is_fresh() {
         let (positions, colors) = numbers.stops();
         edited(&mut numbers, LinearGradient::new(&positions, &colors).expect("a ramp"), positions.len());
         edited(&mut numbers, SmoothstepGradient::new(&positions, &colors).expect("a ramp"), positions.len());
+        edited(&mut numbers, BasisGradient::new(&positions, &colors).expect("a ramp"), positions.len());
+        edited(&mut numbers, CatmullRomGradient::new(&positions, &colors).expect("a ramp"), positions.len());
     }
 }
 
@@ -86,7 +90,7 @@ fn lists_are_ramps_again() {
 
 #[test]
 fn every_kind_has_its_colours() {
-    use guineaplume::{BasisGradient, CatmullRomGradient, SharpGradient};
+    use guineaplume::SharpGradient;
     let (positions, colors) = ([0.0, 1.0], [Color::new(0.0, 0.0, 0.0, 1.0), Color::new(1.0, 1.0, 1.0, 1.0)]);
     let gray = |x: f32| Color::new(x, x, x, 1.0);
     assert_eq!(LinearGradient::new(&positions, &colors).expect("a ramp").at(0.25), gray(0.25));

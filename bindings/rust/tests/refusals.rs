@@ -156,7 +156,7 @@ fn bad_edit() {
     assert_eq!(desk.refresh(gray(), 2, WHITE), Err(Refusal::BadEdit));
     assert_eq!(desk.refresh(gray(), usize::MAX, WHITE), Err(Refusal::BadEdit));
     assert_eq!(desk.refresh(gray(), 0, Color { g: f32::NAN, ..BLACK }), Err(Refusal::BadEdit));
-    assert_eq!(desk.refresh(lent::Ramp { kind: Kind::Basis, ..gray() }, 0, WHITE), Err(Refusal::BadEdit));
+    assert_eq!(desk.refresh(lent::Ramp { kind: Kind::Sharp, ..gray() }, 0, WHITE), Err(Refusal::BadEdit));
     assert!(desk.record_is_rubbish());
     let mut owned = LinearGradient::new(&[0.0, 1.0], &[BLACK, WHITE]).expect("a ramp");
     let (before, mut record) = (owned.clone(), owned.sample(0.007).expect("its record"));

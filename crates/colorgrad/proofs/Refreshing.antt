@@ -1,4 +1,4 @@
--- Refreshed is fresh: for every ramp that can be sampled, every threshold, and every edit that document 01 allows (linear or smoothstep, a stop that there is, a finite colour). A
+-- Refreshed is fresh: for every ramp that can be sampled, every threshold, and every edit that document 01 allows (linear, smoothstep, basis or Catmull-Rom, a stop that there is, a finite colour). A
 -- refresh with another threshold than the sampling's is no case apart: it is refused.
 -- First of the definitions; then, handed on from `refresh`, of the calls. Assumes nothing.
 use mathlib.Core.Path.{_≡_, ap, _∙_}

@@ -12,7 +12,7 @@ use Rattle.sampling.specs.Constants.{depth}
 use Rattle.sampling.specs.Midpoints.{midOf}
 use Rattle.sampling.specs.Cells.{edgeOf}
 
--- how many pairs a stop's colour reaches on each side; GIMP segments have no stops
+-- how many pairs a stop's colour reaches on each side: one, and two where a pair reads the stops beside it as well. GIMP segments have no stops
 abbrev pub reachOf : Kind → ℕ
 reachOf Linear = 1
 reachOf Smoothstep = 1
@@ -22,11 +22,11 @@ reachOf CatmullRom = 2
 reachOf Gimp = 1
 
 module _ (reach : ℕ) (ps : List Float) (k : ℕ) (t : Float) where
-  -- t is at most the position `reach` places to the left; for the last stop it must also lie below its position
+  -- t is at most the position `reach` places to the left, and nowhere where no stop stands there; for the last stop it must also lie below its position
   unfoldable pub beforeOf : Bool
   beforeOf = leb reach k && le t (posAt ps (k - reach)) && (ltb (k + 1) (length ps) || lt t (posAt ps k))
 
-  -- t is above the position `reach` places to the right
+  -- t is above the position `reach` places to the right, and nowhere where no stop stands there
   unfoldable pub afterOf : Bool
   afterOf = ltb (k + reach) (length ps) && lt (posAt ps (k + reach)) t
 

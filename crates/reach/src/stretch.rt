@@ -27,7 +27,7 @@ fn lies_before(positions: &[f32], reach: usize, k: usize, t: f32) -> bool
     ensures { λ r. ⌜ r ≡ beforeOf reach (now (positions .entry)) k t ⌝ }
 {
     if k < reach {
-        return false;
+        return false; // no stop stands there; the pair at the end reads a mirrored one
     }
     let left = k - reach;
     if t <= positions[left] {

@@ -1,5 +1,5 @@
 -- What holds after an edit, said of the calls: of any results that the contracts of sampling, refreshing, thinning and flattening allow.
--- Demand 3: after an edit the refreshed record and its list equal those made afresh, and rows clear of the change keep every byte. That the threshold is the
+-- Demand 3, for linear, smoothstep, basis and Catmull-Rom ramps: after an edit the refreshed record and its list equal those made afresh, and rows clear of the change keep every byte. That the threshold is the
 -- one the record was sampled with is nothing that a caller must see to: a refresh with another one is refused.
 use mathlib.Core.Path.{_≡_}
 use Prim.Native.Nat.{ℕ, _*_}

@@ -38,13 +38,13 @@ abbrev pub evaluationsOfRefreshed : Refreshed → ℕ
 evaluationsOfRefreshed (refreshed.Done e) = e
 evaluationsOfRefreshed (refreshed.Refused n) = 0
 
--- the kinds that can be refreshed
+-- the kinds that can be refreshed: all but sharp and GIMP
 abbrev pub refreshable : Kind → Bool
 refreshable Linear = true
 refreshable Smoothstep = true
 refreshable Sharp = false
-refreshable Basis = false
-refreshable CatmullRom = false
+refreshable Basis = true
+refreshable CatmullRom = true
 refreshable Gimp = false
 
 -- 6 of an edit of a ramp of n stops

@@ -23,8 +23,8 @@ fn is_refreshable(kind: Kind) -> bool
         Kind::Linear => true,
         Kind::Smoothstep => true,
         Kind::Sharp => false,
-        Kind::Basis => false,
-        Kind::CatmullRom => false,
+        Kind::Basis => true,
+        Kind::CatmullRom => true,
         Kind::Gimp => false,
     }
 }

@@ -21,7 +21,7 @@ farDomain = 4
 abbrev pub badRecord : ℕ
 badRecord = 5
 
--- edit: ramp neither linear nor smoothstep, no such stop, or a new channel is not finite
+-- edit: ramp sharp or GIMP, no such stop, or a new channel is not finite
 abbrev pub badEdit : ℕ
 badEdit = 6
 
