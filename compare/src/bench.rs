@@ -28,13 +28,14 @@ pub fn run(options: &Options) {
     let unit = if count::output().is_some() { "instructions" } else { "ns" };
     println!("| call | beside | ours, {unit} | Rust, {unit} | ratio |");
     println!("|---|---|---|---|---|");
-    let tables: [(&str, fn(&mut Random)); 7] = [
+    let tables: [(&str, fn(&mut Random)); 8] = [
         ("root", roots),
         ("token", tokens),
         ("paint", paint),
         ("files", paint_files),
         ("read", reading),
         ("flatten", flatten),
+        ("growth", growth),
         ("refresh", refresh),
     ];
     for (name, table) in tables {
@@ -229,17 +230,33 @@ fn flatten(random: &mut Random) {
     for kind in KINDS {
         for n in sizes(kind, &[2, 16, 64, 512, 2048]) {
             let ramp = even_ramp(random, kind, n);
-            let g = oracle::gradient(&ramp);
             for threshold in [0.007, 0.001] {
-                let mut record = Record::empty();
-                let mut out = (vec![0.0; MOST_POINTS], vec![0.0; 4 * MOST_POINTS]);
-                let call = format!("flatten {}, {} items, {threshold}", kind.name(), items(&ramp));
-                let ours = || used(ours::flatten(&ramp, threshold, &mut record, &mut out.0, &mut out.1));
-                let rust = || used(oracle::linearize_only(&g, black_box(threshold)));
-                beside(&call, "linearize", 1, ours, rust);
+                flatten_beside("flatten", &ramp, threshold, 1);
             }
         }
     }
+}
+
+/// How cost grows with the stops: flattening, for each evaluation that document 01 counts.
+fn growth(random: &mut Random) {
+    for kind in KINDS {
+        for n in sizes(kind, &[2, 4, 8, 16, 32, 64, 128, 256, 512, 1024, 2048]) {
+            let ramp = even_ramp(random, kind, n);
+            let mut out = (vec![0.0; MOST_POINTS], vec![0.0; 4 * MOST_POINTS]);
+            let made = ours::flatten(&ramp, 0.007, &mut Record::empty(), &mut out.0, &mut out.1);
+            flatten_beside("an evaluation in flattening", &ramp, 0.007, made.expect("a ramp that is taken").1);
+        }
+    }
+}
+
+fn flatten_beside(name: &str, ramp: &Ramp, threshold: f32, parts: usize) {
+    let g = oracle::gradient(ramp);
+    let mut record = Record::empty();
+    let mut out = (vec![0.0; MOST_POINTS], vec![0.0; 4 * MOST_POINTS]);
+    let call = format!("{name} {}, {} items, {threshold}", ramp.kind.name(), items(ramp));
+    let ours = || used(ours::flatten(ramp, threshold, &mut record, &mut out.0, &mut out.1));
+    let rust = || used(oracle::linearize_only(&g, black_box(threshold)));
+    beside(&call, "linearize", parts, ours, rust);
 }
 
 /// 64 evenly spaced stops, black and white in turn.

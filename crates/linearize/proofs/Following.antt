@@ -10,11 +10,11 @@ use lib.Dec.{ltb}
 use lib.ListN.{length, take, drop, getD, length-append, length-drop, List·getD-append}
 use lib.Seq.{length-take-le, getD-append-add, getD-take, getD-drop, drop-cons, take-length}
 use lib.Ieee.{Float, nan}
-use Rattle.sampling.specs.Cells.{joined, summed}
+use Rattle.slices.specs.Joined.{joined, summed}
 use Rattle.linearize.specs.Places.{rowPoints, listOf, firstPlace, nextPlace, pointAt, follow, pointsBefore, InRecord}
 use Rattle.linearize.specs.Inner.{Ready}
 use Rattle.linearize.specs.declared.RowPlace.{RowPlace}
-use Rattle.sampling.proofs.Joined.{length-summed, summed-mono, item}
+use Rattle.slices.proofs.Joined.{length-summed, summed-mono, item}
 
 -- ---- the next place
 

@@ -25,7 +25,7 @@ use Rattle.sampling.specs.Anew.{anewRow, anewCount, anewRows, anewCounts, keptB
 use Rattle.sampling.specs.Promises.{Resamples}
 use Rattle.sampling.specs.declared.Sampled.{Sampled}
 use Rattle.sampling.specs.declared.Sampled.the-variants as sampled
-use Rattle.sampling.proofs.Joined.{length-joined, single}
+use Rattle.slices.proofs.Joined.{length-joined, single}
 use Rattle.sampling.proofs.Rows.{cell-count-some, cell-count-most}
 use Rattle.sampling.proofs.Checks.{record-lengths}
 use Rattle.sampling.proofs.Renewing.{anew-length, none-held, none-evaluations}

@@ -7,7 +7,7 @@ use lib.Dec.{ltb}
 use lib.ListN.{take, drop, getD}
 use lib.Ieee.{Float, nan}
 use Rattle.sampling.specs.Constants.{cells, rowLength}
-use Rattle.sampling.specs.Cells.{joined, summed}
+use Rattle.slices.specs.Joined.{joined, summed}
 use Rattle.linearize.specs.declared.RowPlace.{RowPlace}
 
 -- row i's points

@@ -3,9 +3,9 @@ use crate::Listed;
 use crate::RowPlace;
 use sampling::Sampler;
 use sampling::cells::evaluate;
-use sampling::segments;
 use slices::zero_from;
 use stops::Kind;
+use stops::segments;
 use thinning::Progress;
 use thinning::emit;
 use thinning::room_of;
@@ -79,6 +79,7 @@ fn thin_points(
         channels,
         codes,
         point_at(rows, max, place),
+        1,
         table,
     );
     while place.row < Sampler::CELLS {
@@ -89,6 +90,7 @@ fn thin_points(
             channels,
             codes,
             point_at(rows, max, after),
+            x.pair,
             table,
         );
         s = step(cutoff, room, s, x, next, out_positions, out_channels);
@@ -140,7 +142,7 @@ fn thin_each(
     ensures { λ r. ⌜ MakesList (lentRamp kind positions channels codes) cutoff (points rows counts max) (lentOutput «out_positions» «out_channels») r ⌝ }
 {
     let room = room_of(out_positions.len(), out_channels.len());
-    let first = evaluate(kind, positions, channels, codes, rows[0], table);
+    let first = evaluate(kind, positions, channels, codes, rows[0], 1, table);
     let start = Progress {
         last: first,
         stops: 0,

@@ -15,6 +15,7 @@ use Rattle.blend.specs.declared.Rgba.{Rgba}
 use Rattle.stops.specs.Place.{Rising}
 use Rattle.stops.specs.Pair.{colourIn}
 use Rattle.stops.specs.Near.{placeNear, pairOr, segmentFor, segmentIn}
+use Rattle.stops.specs.Segments.{isCatmullRom}
 use Rattle.stops.specs.declared.Kind.the-variants.{Linear, Smoothstep, Sharp, Basis, CatmullRom, Gimp}
 use Rattle.stops.specs.declared.Place.{Place}
 use Rattle.stops.specs.Lent.{Ramp}
@@ -34,7 +35,7 @@ use Rattle.paint_segments.specs.Within.{Fits}
 use Rattle.paint_segments.proofs.Fitting.{over-fit}
 use Rattle.paint.specs.Canvas.{colourRoom, canvas}
 use Rattle.paint.specs.Promises.{AtIs, PaintIs}
-use Rattle.paint.specs.Within.{isCatmull, stopColour, Paintable}
+use Rattle.paint.specs.Within.{stopColour, Paintable}
 use Rattle.paint.specs.declared.Answer.the-variants as answer
 use Rattle.paint.specs.declared.Painted.the-variants as painted
 
@@ -78,7 +79,7 @@ module _ (ramp : Ramp) where
           }
 
 -- ---- each kind's colours
-catmull : (kind : Kind) → isCatmull kind ≡ true → kind ≡ CatmullRom
+catmull : (kind : Kind) → isCatmullRom kind ≡ true → kind ≡ CatmullRom
 catmull Linear h = absurd (true≢false (sym h))
 catmull Smoothstep h = absurd (true≢false (sym h))
 catmull Sharp h = absurd (true≢false (sym h))
@@ -104,7 +105,7 @@ module _ (ramp : Ramp) (ts out : List Float) where
     pub as-stops : {out′ : List Float} → out′ ≡ paintedOver (stopColour (ramp .kind) (ramp .positions) (ramp .channels)) ts out → out′ ≡ paintedOver (colourOf ramp) ts out
     as-stops e = e ∙ ap (λ (g : Float → Rgba). paintedOver g ts out) (fun-ext not-gimp)
 
-    pub as-kept : {out′ : List Float} → isCatmull (ramp .kind) ≡ true → out′ ≡ paintedOver (stopColour CatmullRom (ramp .positions) (ramp .channels)) ts out → out′ ≡ paintedOver (colourOf ramp) ts out
+    pub as-kept : {out′ : List Float} → isCatmullRom (ramp .kind) ≡ true → out′ ≡ paintedOver (stopColour CatmullRom (ramp .positions) (ramp .channels)) ts out → out′ ≡ paintedOver (colourOf ramp) ts out
     as-kept h e = as-stops (e ∙ ap (λ (u : Kind). paintedOver (stopColour u (ramp .positions) (ramp .channels)) ts out) (sym (catmull (ramp .kind) h)))
 
     pub paintable : checkOf ramp ≡ checked.Fine → 4 * length ts ≤ length out → Paintable (ramp .positions) (ramp .channels) ts out

@@ -1,7 +1,7 @@
 -- What the functions within promise each other; no public promise is stated with it. Stops are read here without a test: what the check of the ramp has made
 -- sure of is asked for instead.
 use mathlib.Core.Path.{_≡_}
-use mathlib.Core.Bool.{Bool, true, false}
+use mathlib.Core.Bool.{false}
 use mathlib.Core.List.{List}
 use Prim.Native.Nat.{ℕ, _-_, _*_, _≤_, _<_, _^_}
 use lib.ListN.{length}
@@ -11,7 +11,6 @@ use Rattle.stops.specs.Stops.{posAt}
 use Rattle.stops.specs.Place.{Rising, placeOf}
 use Rattle.stops.specs.Pair.{colourIn}
 use Rattle.stops.specs.declared.Kind.{Kind}
-use Rattle.stops.specs.declared.Kind.the-variants.{Linear, Smoothstep, Sharp, Basis, CatmullRom, Gimp}
 use Rattle.stops.specs.declared.Place.{Place}
 
 -- the largest power of two below n
@@ -46,12 +45,3 @@ pub record Placed (ps cs : List Float) (t : Float) (place : Place) : Type 0 wher
   pub rising : Rising ps
   pub four : length cs ≡ 4 * length ps
   pub found : place ≡ placeOf ps t
-
--- the kind whose segments are kept
-abbrev pub isCatmull : Kind → Bool
-isCatmull Linear = false
-isCatmull Smoothstep = false
-isCatmull Sharp = false
-isCatmull Basis = false
-isCatmull CatmullRom = true
-isCatmull Gimp = false

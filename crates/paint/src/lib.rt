@@ -5,6 +5,7 @@ use refusals::NO_ROOM;
 use stops::Checked;
 use stops::Kind;
 use stops::near;
+use stops::segments;
 ghost use mathlib.Core.Path.{_≡_};
 ghost use Prim.Native.Nat.{_+_, _*_, _≤_};
 ghost use lib.ListN.{length};
@@ -12,11 +13,12 @@ ghost use lib.Seq.{sets};
 ghost use Rattle.blend.specs.Channels.{channelsOf};
 ghost use Rattle.stops.specs.Lent.{old, new, rampIn, lentRamp};
 ghost use Rattle.stops.specs.Near.{segmentFor};
+ghost use Rattle.stops.specs.Segments.{Segments};
 ghost use Rattle.stops.specs.declared.Checked.the-variants.{Fine};
 ghost use Rattle.gradient.specs.Ramp.{checkOf, colourOf};
 ghost use Rattle.paint_segments.specs.Over.{paintedOver};
 ghost use Rattle.paint.specs.Promises.{AtIs, PaintIs};
-ghost use Rattle.paint.specs.Within.{isCatmull, stopColour, Paintable};
+ghost use Rattle.paint.specs.Within.{stopColour, Paintable};
 
 mod pairs;
 
@@ -72,20 +74,35 @@ fn paint_stops(kind: Kind, positions: &[f32], channels: &[f32], ts: &[f32], out:
     }
 }
 
-// The segment of pair j, where s is that of pair k.
-fn renewed(channels: &[f32], n: usize, s: [[f32; 4]; 4], k: usize, j: usize) -> [[f32; 4]; 4]
+// The segment of pair j, where s is that of pair k: out of the table, if it is there.
+fn renewed(
+    channels: &[f32],
+    n: usize,
+    s: [[f32; 4]; 4],
+    k: usize,
+    j: usize,
+    table: &[[[f32; 4]; 4]],
+) -> [[f32; 4]; 4]
     requires { ⌜ s ≡ segmentFor (now channels) n k ⌝ }
+    requires { ⌜ Segments (now channels) n (now table) ⌝ }
     ensures { λ r. ⌜ r ≡ segmentFor (old channels) n j ⌝ }
 {
     if j == k {
         return s;
     }
-    near::segment_for(channels, n, j)
+    segments::segment(channels, n, table, j)
 }
 
-// Catmull-Rom stops at ts. A segment costs twelve roots, so it is kept while the pair stays.
-fn paint_catmull(positions: &[f32], channels: &[f32], ts: &[f32], out: &mut [f32])
+// Catmull-Rom stops at ts, with a table of segments in hand. A segment is kept while the pair stays.
+fn paint_catmull(
+    positions: &[f32],
+    channels: &[f32],
+    ts: &[f32],
+    out: &mut [f32],
+    table: &[[[f32; 4]; 4]],
+)
     requires { ⌜ Paintable (now positions) (now channels) (now ts) (now out) ⌝ }
+    requires { ⌜ Segments (now channels) (length (now positions)) (now table) ⌝ }
     ensures { λ _. ⌜ new out ≡ paintedOver (stopColour Kind.CatmullRom (old positions) (old channels)) (old ts) (old out) ⌝ }
 {
     let n = positions.len();
@@ -96,7 +113,7 @@ fn paint_catmull(positions: &[f32], channels: &[f32], ts: &[f32], out: &mut [f32
         let t = ts[i];
         let place = near::find_place(positions, t, k);
         let j = near::pair_or(place, k);
-        let fresh = renewed(channels, n, s, k, j);
+        let fresh = renewed(channels, n, s, k, j, table);
         s = fresh;
         k = j;
         let c = near::segment_colour(positions, channels, s, t, place);
@@ -105,17 +122,40 @@ fn paint_catmull(positions: &[f32], channels: &[f32], ts: &[f32], out: &mut [f32
     }
 }
 
-fn is_catmull(kind: Kind) -> bool
-    ensures { λ r. ⌜ r ≡ isCatmull kind ⌝ }
+// The same, the segments worked out once, as many as there is room for.
+fn paint_tabled(
+    positions: &[f32],
+    channels: &[f32],
+    ts: &[f32],
+    out: &mut [f32],
+    room: &mut [[[f32; 4]; 4]],
+)
+    requires { ⌜ Paintable (now positions) (now channels) (now ts) (now out) ⌝ }
+    ensures { λ _. ⌜ new out ≡ paintedOver (stopColour Kind.CatmullRom (old positions) (old channels)) (old ts) (old out) ⌝ }
 {
-    match kind {
-        Kind::Linear => false,
-        Kind::Smoothstep => false,
-        Kind::Sharp => false,
-        Kind::Basis => false,
-        Kind::CatmullRom => true,
-        Kind::Gimp => false,
+    let m = segments::fill(channels, positions.len(), room);
+    let table = &room[..m];
+    paint_catmull(positions, channels, ts, out, table)
+}
+
+// Catmull-Rom stops at ts. A segment costs twelve roots, so a table pays where there are at least as many points as stops.
+fn paint_cubics(positions: &[f32], channels: &[f32], ts: &[f32], out: &mut [f32])
+    requires { ⌜ Paintable (now positions) (now channels) (now ts) (now out) ⌝ }
+    ensures { λ _. ⌜ new out ≡ paintedOver (stopColour Kind.CatmullRom (old positions) (old channels)) (old ts) (old out) ⌝ }
+{
+    if ts.len() < positions.len() {
+        let none = [[[0.0f32; 4]; 4]; 1];
+        let table = &none[..0];
+        paint_catmull(positions, channels, ts, out, table);
+        return;
     }
+    if positions.len() <= segments::FEW {
+        let mut few = [[[0.0f32; 4]; 4]; segments::FEW];
+        paint_tabled(positions, channels, ts, out, &mut few);
+        return;
+    }
+    let mut room = [[[0.0f32; 4]; 4]; segments::ROOM];
+    paint_tabled(positions, channels, ts, out, &mut room)
 }
 
 fn paint_all(
@@ -134,8 +174,8 @@ fn paint_all(
         paint_segments::paint(positions, channels, codes, ts, out);
         return;
     }
-    if is_catmull(kind) {
-        paint_catmull(positions, channels, ts, out);
+    if segments::is_catmull_rom(kind) {
+        paint_cubics(positions, channels, ts, out);
         return;
     }
     paint_stops(kind, positions, channels, ts, out)

@@ -13,8 +13,6 @@ use Rattle.sampling.proofs.sample.Reads as of-sample
 use Rattle.sampling.proofs.resample.Reads as of-resample
 use Rattle.sampling.proofs.cells.edge.Reads as of-edge
 use Rattle.sampling.proofs.cells.evaluate.Reads as of-evaluate
-use Rattle.sampling.proofs.segments.is_catmull_rom.Reads as of-is-catmull-rom
-use Rattle.sampling.proofs.segments.fill.Reads as of-fill
 
 pub stands-out : (κs : Lfts 0) (a : _) → Coincide (of-stands-out.Learnt κs a) answer
 stands-out κs a = coincide (λ r e w. w)
@@ -41,10 +39,3 @@ edge κs a = coincide (λ r e w. w)
 
 pub evaluate : (κs : Lfts 4) (a : _) → Coincide (of-evaluate.Learnt κs a) answer
 evaluate κs a = coincide (λ r e w. w)
-
-pub is-catmull-rom : (κs : Lfts 0) (a : _) → Coincide (of-is-catmull-rom.Learnt κs a) answer
-is-catmull-rom κs a = coincide (λ r e w. w)
-
--- how many, and the table
-pub fill : (κs : Lfts 2) (a : _) → Coincide (of-fill.Learnt κs a) (λ r e. r with now (e .1 .1 .0))
-fill κs a = coincide (λ r e w. both (w .many) (w .written))

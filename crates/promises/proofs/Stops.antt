@@ -1,7 +1,7 @@
 -- `stops`: every call on any slices at all.
 use contract.Lifetimes.{Lfts}
 use denote.Ref.{now}
-use Rattle.promises.specs.Law.{Coincide, coincide, answer}
+use Rattle.promises.specs.Law.{Coincide, coincide, answer, _with_, both}
 use Rattle.stops.proofs.less.Reads as of-less
 use Rattle.stops.proofs.channels.item.Reads as of-item
 use Rattle.stops.proofs.channels.colour.Reads as of-colour
@@ -20,6 +20,10 @@ use Rattle.stops.proofs.near.find_place.Reads as of-find-place-near
 use Rattle.stops.proofs.near.pair_or.Reads as of-pair-or
 use Rattle.stops.proofs.near.segment_for.Reads as of-segment-for
 use Rattle.stops.proofs.near.segment_colour.Reads as of-segment-colour
+use Rattle.stops.proofs.segments.is_catmull_rom.Reads as of-is-catmull-rom
+use Rattle.stops.proofs.segments.fill.Reads as of-fill
+use Rattle.stops.proofs.segments.segment.Reads as of-segment
+use Rattle.stops.proofs.segments.pair_colour.Reads as of-pair-colour
 
 pub less : (κs : Lfts 0) (a : _) → Coincide (of-less.Learnt κs a) answer
 less κs a = coincide (λ r e w. w)
@@ -75,3 +79,16 @@ segment-colour κs a = coincide (λ r e w. w)
 -- the output
 pub put-colour : (κs : Lfts 1) (a : _) → Coincide (of-put-colour.Learnt κs a) (λ r e. now (e .0))
 put-colour κs a = coincide (λ r e w. w)
+
+pub is-catmull-rom : (κs : Lfts 0) (a : _) → Coincide (of-is-catmull-rom.Learnt κs a) answer
+is-catmull-rom κs a = coincide (λ r e w. w)
+
+-- how many, and the table
+pub fill : (κs : Lfts 2) (a : _) → Coincide (of-fill.Learnt κs a) (λ r e. r with now (e .1 .1 .0))
+fill κs a = coincide (λ r e w. both (w .many) (w .written))
+
+pub segment : (κs : Lfts 2) (a : _) → Coincide (of-segment.Learnt κs a) answer
+segment κs a = coincide (λ r e w. w)
+
+pub pair-colour : (κs : Lfts 3) (a : _) → Coincide (of-pair-colour.Learnt κs a) answer
+pair-colour κs a = coincide (λ r e w. w)

@@ -16,10 +16,11 @@ use Rattle.stops.specs.declared.Kind.{Kind}
 use Rattle.stops.specs.declared.Checked.the-variants as checked
 use Rattle.gradient.specs.Ramp.{minIn, maxIn, minOf, maxOf}
 use Rattle.sampling.specs.Constants.{cells}
-use Rattle.sampling.specs.Cells.{edgeOf, joined}
+use Rattle.slices.specs.Joined.{joined}
+use Rattle.sampling.specs.Cells.{edgeOf}
 use Rattle.sampling.specs.Lent.{Held}
 use Rattle.sampling.specs.Sampling.{heldCheck}
-use Rattle.sampling.proofs.Joined.{length-joined}
+use Rattle.slices.proofs.Joined.{length-joined}
 use Rattle.reach.specs.Stretch.{reachOf, beforeOf, afterOf, outsideOf, clearOf, cellClear}
 use Rattle.reach.specs.KeptCells.{isDomain, cellKept, keptCells}
 use Rattle.reach.proofs.Sides.{before-clear, after-clear}

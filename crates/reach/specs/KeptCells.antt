@@ -8,7 +8,7 @@ use lib.Ieee.{Float, neg, le}
 use Rattle.stops.specs.declared.Kind.{Kind}
 use Rattle.gradient.specs.Ramp.{minIn, maxIn}
 use Rattle.sampling.specs.Constants.{cells, farthest}
-use Rattle.sampling.specs.Cells.{joined}
+use Rattle.slices.specs.Joined.{joined}
 use Rattle.reach.specs.Stretch.{reachOf, outsideOf, cellClear}
 
 -- the ends of a domain: in order, and neither beyond plus or minus 1e38

@@ -9,10 +9,11 @@ use lib.ListN.{length, take, drop, getD}
 use lib.Ieee.{Float}
 use Rattle.sampling.specs.Constants.{cells, rowLength, recordLength}
 use Rattle.sampling.specs.Midpoints.{Gradient, Far}
-use Rattle.sampling.specs.Cells.{summed, cellCount}
+use Rattle.slices.specs.Joined.{summed}
+use Rattle.sampling.specs.Cells.{cellCount}
 use Rattle.sampling.specs.Anew.{anewRow, anewCount, anewTries, anewRows, anewCounts, anewEvaluations}
 use Rattle.sampling.proofs.Rows.{cell-count-some, cell-count-most}
-use Rattle.sampling.proofs.Joined.{length-joined, single}
+use Rattle.slices.proofs.Joined.{length-joined, single}
 use Rattle.sampling.proofs.Renewing.{anew-length, row-kept}
 use Rattle.linearize.specs.Inner.{Ready}
 use Rattle.refresh.proofs.Agree.{joined-same, joined-cell}

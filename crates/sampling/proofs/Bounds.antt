@@ -12,7 +12,8 @@ use Rattle.sampling.specs.Anew.{anewTries, anewEvaluations, keptBy, resa
 use Rattle.sampling.specs.Inner.{RecordAnew}
 use Rattle.sampling.proofs.Renewing.{anew-tries-most}
 use Rattle.sampling.specs.Midpoints.{Gradient, Far}
-use Rattle.sampling.specs.Cells.{summed, cellTries, triesOf, samplingEvaluations}
+use Rattle.slices.specs.Joined.{summed}
+use Rattle.sampling.specs.Cells.{cellTries, triesOf, samplingEvaluations}
 use Rattle.sampling.proofs.Rows.{cell-tries-most}
 
 pub summed-most : (f : ℕ → ℕ) (k : ℕ) → ((i : ℕ) → f i ≤ 127) → summed f k ≤ 127 * k

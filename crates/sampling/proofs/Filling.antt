@@ -6,10 +6,11 @@ use native.Mathlib.Omega.{arith}
 use lib.ListN.{length, getD, set, take, drop, length-set, drop-of-length-le}
 use lib.Seq.{sets, length-sets}
 use lib.Ieee.{Float}
-use Rattle.sampling.specs.Cells.{joined, summed, cellRow, cellCount, rowsOf, countsOf}
+use Rattle.slices.specs.Joined.{joined, summed}
+use Rattle.sampling.specs.Cells.{cellRow, cellCount, rowsOf, countsOf}
 use Rattle.sampling.specs.Midpoints.{Gradient, Far}
 use Rattle.slices.proofs.Stores.{sets-next, keep-next}
-use Rattle.sampling.proofs.Joined.{length-joined, joined-next, summed-next, single}
+use Rattle.slices.proofs.Joined.{length-joined, joined-next, summed-next, single}
 use Rattle.sampling.proofs.Rows.{cell-length}
 
 module _ (f : ℕ → List Float) (k w : ℕ → ℕ) (rows₀ : List Float) (counts₀ : List ℕ) where

@@ -14,7 +14,7 @@ use Rattle.blend.specs.Blend.{linear}
 use Rattle.blend.specs.declared.Rgba.{Rgba}
 use Rattle.stops.specs.Lent.{Ramp}
 use Rattle.gradient.specs.Ramp.{colourOf}
-use Rattle.sampling.specs.Segments.{Table}
+use Rattle.stops.specs.Segments.{Table}
 use Rattle.sampling.specs.Inner.{PointAt, Between, HalvesTo}
 use Rattle.sampling.specs.declared.Point.{Point}
 use Rattle.sampling.specs.declared.Halved.{Halved}

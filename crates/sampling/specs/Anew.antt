@@ -9,7 +9,8 @@ use Rattle.stops.specs.Lent.{Ramp}
 use Rattle.gradient.specs.Ramp.{minOf, maxOf, colourOf}
 use Rattle.sampling.specs.Constants.{cells, rowLength}
 use Rattle.sampling.specs.Midpoints.{Gradient, Far}
-use Rattle.sampling.specs.Cells.{joined, summed, cellRow, cellCount, cellTries}
+use Rattle.slices.specs.Joined.{joined, summed}
+use Rattle.sampling.specs.Cells.{cellRow, cellCount, cellTries}
 use Rattle.sampling.specs.Lent.{Held, heldOf}
 use Rattle.sampling.specs.Sampling.{farOf, marksOf, heldCheck}
 use Rattle.sampling.specs.declared.Sampled.{Sampled}

@@ -1,12 +1,13 @@
 -- A cell's row, count and tries, and the record of all cells, over any gradient.
 use mathlib.Core.Bool.{cond}
 use mathlib.Core.List.{List, [], _∷_, _++_}
-use Prim.Native.Nat.{ℕ, zero, suc, _+_, _-_, _*_}
+use Prim.Native.Nat.{ℕ, _+_, _-_, _*_}
 use lib.Dec.{leb}
 use lib.ListN.{length, replicate}
 use lib.Ieee.{Float}
 use Rattle.float.specs.F32.{_⊕_, _⊖_, _⊗_, _⊘_, f0}
 use Rattle.float.specs.Number.{countOf}
+use Rattle.slices.specs.Joined.{joined, summed}
 use Rattle.sampling.specs.Constants.{cells, depth, rowLength}
 use Rattle.sampling.specs.Midpoints.{Gradient, Far, halves, tries}
 
@@ -28,16 +29,6 @@ padded n xs = xs ++ replicate (n - length xs) f0
 
 unfoldable pub rowOf : Gradient → Far → Float → Float → List Float
 rowOf g far t0 t1 = padded rowLength (pointsOf g far t0 t1)
-
--- f 0, f 1, .. f (n - 1), one after the other
-unfoldable pub joined : {A : Type 0} → (ℕ → List A) → ℕ → List A
-joined f zero = []
-joined f (suc n) = joined f n ++ f n
-
--- f 0 + f 1 + .. + f (n - 1)
-unfoldable pub summed : (ℕ → ℕ) → ℕ → ℕ
-summed f zero = 0
-summed f (suc n) = summed f n + f n
 
 module _ (g : Gradient) (far : Far) (lo hi : Float) where
   -- cell i's row, count and tries

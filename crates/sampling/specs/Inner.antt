@@ -7,15 +7,16 @@ use lib.ListN.{length, set}
 use lib.Seq.{sets}
 use lib.Ieee.{Float}
 use Rattle.stops.specs.Lent.{Ramp, Change, Slice, Lent, rampIn, lentRamp}
+use Rattle.stops.specs.Segments.{Table, Segments}
 use Rattle.stops.specs.declared.Checked.the-variants.{Fine}
 use Rattle.gradient.specs.Ramp.{checkOf, colourOf}
 use Rattle.difference.specs.Difference.{exceeds}
 use Rattle.sampling.specs.Constants.{cells, depth, rowLength}
 use Rattle.sampling.specs.Midpoints.{Gradient, Far, halves, tries}
-use Rattle.sampling.specs.Cells.{edgeOf, pointsOf, rowOf, summed, cellRow, cellCount, cellTries}
+use Rattle.slices.specs.Joined.{summed}
+use Rattle.sampling.specs.Cells.{edgeOf, pointsOf, rowOf, cellRow, cellCount, cellTries}
 use Rattle.sampling.specs.Anew.{anewTries, anewRows, anewCounts}
 use Rattle.sampling.specs.Lent.{Body}
-use Rattle.sampling.specs.Segments.{Table, Segments}
 use Rattle.sampling.specs.declared.Point.{Point}
 use Rattle.sampling.specs.declared.Halved.{Halved}
 use Rattle.sampling.specs.declared.Carried.{Carried}

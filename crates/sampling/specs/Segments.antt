@@ -1,68 +1,44 @@
--- Catmull-Rom segments in a table, and the colour of a ramp with a table in hand.
-use mathlib.Core.Path.{_≡_}
-use mathlib.Core.Bool.{Bool, true, false, cond}
-use mathlib.Core.List.{List, [], _∷_}
-use Prim.Native.Nat.{ℕ, _<_, min}
-use lib.Dec.{ltb}
-use lib.ListN.{length, getD}
-use lib.Seq.{sets}
+-- The colour of a ramp with a table of Catmull-Rom segments in hand.
+use mathlib.Core.Bool.{cond}
+use mathlib.Core.List.{List}
+use Prim.Native.Nat.{ℕ}
+use lib.ListN.{length}
 use lib.Ieee.{Float}
 use Rattle.blend.specs.declared.Rgba.{Rgba}
 use Rattle.stops.specs.Lent.{Ramp}
-use Rattle.stops.specs.Near.{pairOr, segmentFor, segmentIn}
-use Rattle.stops.specs.Pair.{colourIn}
-use Rattle.stops.specs.Place.{placeIn}
+use Rattle.blend.specs.Blend.{black}
+use Rattle.stops.specs.Near.{placeNear, segmentIn}
+use Rattle.stops.specs.Pair.{between}
+use Rattle.stops.specs.Segments.{isCatmullRom, Table, segmentBy}
+use Rattle.stops.specs.Stops.{colourAt}
 use Rattle.stops.specs.declared.Kind.{Kind}
-use Rattle.stops.specs.declared.Kind.the-variants.{Linear, Smoothstep, Sharp, Basis, CatmullRom, Gimp}
 use Rattle.stops.specs.declared.Place.{Place}
+use Rattle.stops.specs.declared.Place.the-variants.{End, Nowhere, Between}
 use Rattle.gradient.specs.Gimp.{gimpColour}
 use Rattle.gradient.specs.Ramp.{isGimp}
-use Rattle.sampling.specs.Cells.{joined}
 use Rattle.sampling.specs.declared.Point.{Point}
 
-abbrev pub isCatmullRom : Kind → Bool
-isCatmullRom Linear = false
-isCatmullRom Smoothstep = false
-isCatmullRom Sharp = false
-isCatmullRom Basis = false
-isCatmullRom CatmullRom = true
-isCatmullRom Gimp = false
+-- the colour between stop k - 1 and stop k of any stops, with any table
+unfoldable pub pairBy : Kind → List Float → List Float → Table → ℕ → Float → Rgba
+pairBy kind ps cs table k t =
+    cond (isCatmullRom kind)
+    (segmentIn ps cs (segmentBy cs (length ps) table k) t (Between k))
+    (between kind ps cs k t)
 
-abbrev pub Table : Type 0
-Table = List (List (List Float))
+-- a point with its colour and its pair, 0 for none
+abbrev pub pointOf : Rgba → Float → ℕ → Point
+pointOf c t k = record { colour = c; t = t; pair = k }
 
--- the segments of the first k pairs of n stops
-abbrev pub firstSegments : List Float → ℕ → ℕ → Table
-firstSegments cs n k = joined (λ i. segmentFor cs n i ∷ []) k
+-- the point at t, whose place is known
+abbrev pub placedPoint : Kind → List Float → List Float → Table → Float → Place → Point
+placedPoint kind ps cs table t (End i) = pointOf (colourAt cs i) t 0
+placedPoint kind ps cs table t Nowhere = pointOf black t 0
+placedPoint kind ps cs table t (Between k) = pointOf (pairBy kind ps cs table k t) t k
 
--- the segments of the pairs of n stops are written, until the table is full; k is how many there are
-pub record FillsTable (cs : List Float) (n : ℕ) (table table′ : Table) (k : ℕ) : Type 0 where
-  pub many : k ≡ min n (length table)
-  pub written : table′ ≡ sets table 0 (firstSegments cs n (min n (length table)))
-
--- at k stands the segment of the pair k - 1, k of n stops
-pub record Segments (cs : List Float) (n : ℕ) (table : Table) : Type 0 where
-  pub each : (k : ℕ) → k < length table → getD table k [] ≡ segmentFor cs n k
-
--- the segment of the pair k - 1, k: out of any table, or worked out where the table ends before it
-unfoldable pub segmentBy : List Float → ℕ → Table → ℕ → List (List Float)
-segmentBy cs n table k = cond (ltb k (length table)) (getD table k []) (segmentFor cs n k)
-
--- the colour at a place, by the segment of its pair
-unfoldable pub tabledIn : List Float → List Float → Table → Float → Place → Rgba
-tabledIn ps cs table t place = segmentIn ps cs (segmentBy cs (length ps) table (pairOr place 1)) t place
-
--- the colour of any ramp with any table; with the ramp's own segments in it, it is the ramp's colour (proofs/Tabled)
-unfoldable pub tabledColour : Ramp → Table → Float → Rgba
-tabledColour ramp table t =
+-- the point at t of any ramp with any table, tried in a pair first; of a checked ramp with its own segments in the table its colour is the ramp's, whichever
+-- pair is tried (proofs/Tabled)
+unfoldable pub pointNear : Ramp → Table → Float → ℕ → Point
+pointNear ramp table t guess =
     cond (isGimp (ramp .kind))
-    (gimpColour (ramp .positions) (ramp .channels) (ramp .codes) t)
-    (cond (isCatmullRom (ramp .kind))
-    (tabledIn (ramp .positions) (ramp .channels) table t (placeIn (ramp .positions) t))
-    (colourIn (ramp .kind) (ramp .positions) (ramp .channels) t (placeIn (ramp .positions) t)))
-
-abbrev pub pointOf : Rgba → Float → Point
-pointOf c t = record { colour = c; t = t }
-
-abbrev pub tabledPoint : Ramp → Table → Float → Point
-tabledPoint ramp table t = pointOf (tabledColour ramp table t) t
+    (pointOf (gimpColour (ramp .positions) (ramp .channels) (ramp .codes) t) t 0)
+    (placedPoint (ramp .kind) (ramp .positions) (ramp .channels) table t (placeNear (ramp .positions) t guess))

@@ -4,42 +4,122 @@ use crate::Point;
 use crate::Sampler;
 use crate::Task;
 use crate::halving::row_into;
-use crate::segments;
+use blend::Rgba;
+use blend::basis;
+use blend::linear;
+use blend::sharp;
+use blend::smoothstep;
 use gradient::gimp;
 use stops::Kind;
+use stops::Place;
+use stops::near;
+use stops::segments;
 ghost use mathlib.Core.Path.{_≡_};
 ghost use Prim.Native.Nat.{_≤_, _<_};
 ghost use lib.ListN.{length};
 ghost use Rattle.sampling.specs.Constants.{cells, recordLength};
 ghost use Rattle.sampling.specs.Cells.{endOf};
-ghost use Rattle.sampling.specs.Segments.{tabledPoint};
+ghost use Rattle.sampling.specs.Segments.{pairBy, placedPoint, pointNear};
 ghost use Rattle.sampling.specs.Inner.{Prepared, Reaches, taskRamp, taskColours, taskEnd, taskFar, PointAt, CellCarried};
 ghost use Rattle.sampling.specs.Lent.{lentBody};
 ghost use Rattle.stops.specs.Lent.{lentRamp, old};
+ghost use Rattle.stops.specs.Pair.{between};
 
-// The point at t, with a table of Catmull-Rom segments in hand, which is empty where the ramp has none: where the table has
-// the segment of t's pair, that one is used.
+// The colour between stop k - 1 and stop k. It is mixed here: behind the call that any place takes, the stops would go through
+// memory at each point.
+fn pair_at(kind: Kind, positions: &[f32], channels: &[f32], k: usize, t: f32) -> Rgba
+    ensures { λ r. ⌜ r ≡ between kind (old positions) (old channels) k t ⌝ }
+{
+    let lower = stops::less(k);
+    let p = stops::stop(positions, channels, lower);
+    let q = stops::stop(positions, channels, k);
+    match kind {
+        Kind::Linear => linear::pair_colour(p, q, t),
+        Kind::Smoothstep => smoothstep::pair_colour(p, q, t),
+        Kind::Sharp => sharp::pair_colour(lower, p, q, t),
+        Kind::Basis => basis::pair_colour(
+            stops::left_of(channels, k, p.colour, q.colour),
+            p,
+            q,
+            stops::right_of(channels, positions.len(), k, p.colour, q.colour),
+            t,
+        ),
+        Kind::CatmullRom => stops::colour_in(kind, positions, channels, t, Place::Between(k)),
+        Kind::Gimp => stops::colour_in(kind, positions, channels, t, Place::Between(k)),
+    }
+}
+
+// The same with a table of Catmull-Rom segments in hand.
+fn within(
+    kind: Kind,
+    positions: &[f32],
+    channels: &[f32],
+    table: &[[[f32; 4]; 4]],
+    k: usize,
+    t: f32,
+) -> Rgba
+    ensures { λ r. ⌜ r ≡ pairBy kind (old positions) (old channels) (old table) k t ⌝ }
+{
+    if segments::is_catmull_rom(kind) {
+        return segments::pair_colour(positions, channels, table, k, t);
+    }
+    pair_at(kind, positions, channels, k, t)
+}
+
+// The point at t, whose place among the stops is known.
+fn placed(
+    kind: Kind,
+    positions: &[f32],
+    channels: &[f32],
+    table: &[[[f32; 4]; 4]],
+    t: f32,
+    place: Place,
+) -> Point
+    ensures { λ r. ⌜ r ≡ placedPoint kind (old positions) (old channels) (old table) t place ⌝ }
+{
+    match place {
+        Place::End(i) => Point {
+            colour: stops::colour(channels, i),
+            t,
+            pair: 0,
+        },
+        Place::Nowhere => Point {
+            colour: Rgba {
+                r: 0.0,
+                g: 0.0,
+                b: 0.0,
+                a: 1.0,
+            },
+            t,
+            pair: 0,
+        },
+        Place::Between(k) => Point {
+            colour: within(kind, positions, channels, table, k, t),
+            t,
+            pair: k,
+        },
+    }
+}
+
+// The point at t, tried in the pair `guess` before its place is searched for, with a table of Catmull-Rom segments in hand,
+// which is empty where the ramp has none: where the table has the segment of t's pair, that one is used.
 pub fn evaluate(
     kind: Kind,
     positions: &[f32],
     channels: &[f32],
     codes: &[u8],
     t: f32,
+    guess: usize,
     table: &[[[f32; 4]; 4]],
 ) -> Point
-    ensures { λ r. ⌜ r ≡ tabledPoint (lentRamp kind positions channels codes) (old table) t ⌝ }
+    ensures { λ r. ⌜ r ≡ pointNear (lentRamp kind positions channels codes) (old table) t guess ⌝ }
 {
     if gradient::is_gimp(kind) {
         let colour = gimp::colour_at(positions, channels, codes, t);
-        return Point { colour, t };
+        return Point { colour, t, pair: 0 };
     }
-    let place = stops::find_place(positions, t);
-    if segments::is_catmull_rom(kind) {
-        let colour = segments::colour_in(positions, channels, table, t, place);
-        return Point { colour, t };
-    }
-    let colour = stops::colour_in(kind, positions, channels, t, place);
-    Point { colour, t }
+    let place = near::find_place(positions, t, guess);
+    placed(kind, positions, channels, table, t, place)
 }
 
 // The end between cell i - 1 and cell i; past the last cell it is max.
@@ -52,13 +132,14 @@ pub fn edge(min: f32, max: f32, i: usize) -> f32
     min + (max - min) * (float::from_whole(i as u64) / float::from_whole(Sampler::CELLS as u64))
 }
 
-// The point between cell i - 1 and cell i.
+// The point between cell i - 1 and cell i, tried in the pair `guess` first.
 fn end_at(
     task: Task,
     positions: &[f32],
     channels: &[f32],
     codes: &[u8],
     i: usize,
+    guess: usize,
     table: &[[[f32; 4]; 4]],
 ) -> Point
     requires { ⌜ i ≤ cells ⌝ }
@@ -67,7 +148,7 @@ fn end_at(
 {
     let kind = task.kind;
     let t = edge(task.min, task.max, i);
-    evaluate(kind, positions, channels, codes, t, table)
+    evaluate(kind, positions, channels, codes, t, guess, table)
 }
 
 // The point where cell i starts: the one in hand, if it is known.
@@ -87,7 +168,7 @@ fn left_end(
     if carried.known {
         return carried.point;
     }
-    end_at(task, positions, channels, codes, i, table)
+    end_at(task, positions, channels, codes, i, 1, table)
 }
 
 // Cell i: kept, or sampled anew from the point carried to it.
@@ -116,7 +197,7 @@ pub(crate) fn resample_cell(
         };
     }
     let p = left_end(task, positions, channels, codes, i, carried, table);
-    let q = end_at(task, positions, channels, codes, i + 1, table);
+    let q = end_at(task, positions, channels, codes, i + 1, p.pair, table);
     let a = i * Sampler::ROW;
     let e = a + Sampler::ROW;
     let row = &mut rows[a..e];

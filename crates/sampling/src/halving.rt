@@ -36,7 +36,7 @@ fn halve(
     }
     let middle = (p.t + q.t) / 2.0;
     let kind = task.kind;
-    let m = evaluate(kind, positions, channels, codes, middle, table);
+    let m = evaluate(kind, positions, channels, codes, middle, p.pair, table);
     let foretold = interpolate_linear(p.colour, q.colour, 0.5);
     if !stands_out(task.cutoff, m.colour, foretold) {
         return Halved { at, tries: 1 };

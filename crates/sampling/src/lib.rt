@@ -16,7 +16,6 @@ pub mod cells;
 mod halving;
 mod marks;
 mod resampling;
-pub mod segments;
 
 // The shape of a record, the depth of the halving, the thresholds, and how far a domain may reach.
 pub struct Sampler {
@@ -63,11 +62,12 @@ impl Sampler {
     }
 }
 
-// A number and its colour, so that no point is evaluated twice. The colour comes first, so that a point is read in the
-// same parts in which it was written.
+// A number and its colour, so that no point is evaluated twice, and the pair of stops that it lies in (0 for none), which the
+// next point is tried in. The colour comes first, so that a point is read in the same parts in which it was written.
 pub struct Point {
     pub colour: Rgba,
     pub t: f32,
+    pub pair: usize,
 }
 
 // What a sampling works by, beside the ramp's lists: the ramp's kind and domain, and how far apart colours may be.

@@ -4,8 +4,8 @@ use crate::Point;
 use crate::Sampler;
 use crate::Task;
 use crate::cells::resample_cell;
-use crate::segments;
 use blend::Rgba;
+use stops::segments;
 ghost use mathlib.Core.Path.{_≡_};
 ghost use mathlib.Core.Bool.{false};
 ghost use lib.ListN.{length};
@@ -27,7 +27,7 @@ fn nothing_known(t: f32) -> Carried
         a: 0.0,
     };
     Carried {
-        point: Point { colour, t },
+        point: Point { colour, t, pair: 0 },
         known: false,
         tries: 0,
     }
@@ -68,7 +68,27 @@ fn resample_each(
     s.tries
 }
 
-// Samples every cell that is not kept. Gives the tries. The segments of a Catmull-Rom ramp are worked out once, in a table.
+// The same for a Catmull-Rom ramp, whose segments are worked out once, as many as there is room for.
+fn resample_tabled(
+    task: Task,
+    positions: &[f32],
+    channels: &[f32],
+    codes: &[u8],
+    keep: [bool; 36],
+    rows: &mut [f32],
+    counts: &mut [u8],
+    room: &mut [[[f32; 4]; 4]],
+) -> usize
+    requires { ⌜ (length (now rows) ≡ recordLength) × (length (now counts) ≡ cells) ⌝ }
+    requires { ⌜ checkOf (taskRamp task positions channels codes) ≡ Fine ⌝ }
+    ensures { λ r. ⌜ RecordAnew (taskColours task positions channels codes) (taskFar task) (keptBy keep) (task .min) (task .max) (lentBody rows counts) r ⌝ }
+{
+    let m = segments::fill(channels, positions.len(), room);
+    let table = &room[..m];
+    resample_each(task, positions, channels, codes, keep, rows, counts, table)
+}
+
+// Samples every cell that is not kept. Gives the tries.
 pub(crate) fn resample_cells(
     task: Task,
     positions: &[f32],
@@ -88,8 +108,28 @@ pub(crate) fn resample_cells(
         let table = &none[..0];
         return resample_each(task, positions, channels, codes, keep, rows, counts, table);
     }
+    if positions.len() <= segments::FEW {
+        let mut few = [[[0.0f32; 4]; 4]; segments::FEW];
+        return resample_tabled(
+            task,
+            positions,
+            channels,
+            codes,
+            keep,
+            rows,
+            counts,
+            &mut few,
+        );
+    }
     let mut room = [[[0.0f32; 4]; 4]; segments::ROOM];
-    let m = segments::fill(channels, positions.len(), &mut room);
-    let table = &room[..m];
-    resample_each(task, positions, channels, codes, keep, rows, counts, table)
+    resample_tabled(
+        task,
+        positions,
+        channels,
+        codes,
+        keep,
+        rows,
+        counts,
+        &mut room,
+    )
 }

@@ -9,3 +9,4 @@ pub mod Valid
 pub mod Nearby
 pub mod Pairs
 pub mod Colours
+pub mod Tables

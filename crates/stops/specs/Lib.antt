@@ -4,3 +4,4 @@ pub mod Answers
 pub mod Place
 pub mod Pair
 pub mod Near
+pub mod Segments

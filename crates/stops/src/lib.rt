@@ -8,6 +8,7 @@ pub mod channels;
 pub mod near;
 pub mod rules;
 pub mod search;
+pub mod segments;
 
 pub use crate::between::colour_at;
 pub use crate::between::colour_in;

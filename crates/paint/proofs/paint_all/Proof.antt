@@ -24,11 +24,11 @@ returns c =
     let s = asked .before .before .before .before .before .before in
     as-gimp (rampIn (s .args .kind) (s .args .positions) (s .args .channels) (s .args .codes)) (now (s .args .ts)) (now (s .args .out)) (sym (asked .is-gimp .ensures) ∙ segments .if1 .taken) (s .pre .0) (s .pre .1) (painted .paint .ensures)
 
-is-catmull-requires : tie.Need-is-catmull-requires
-is-catmull-requires c κs = search needs
+is-catmull-rom-requires : tie.Need-is-catmull-rom-requires
+is-catmull-rom-requires c κs = search needs
 
-paint-catmull-requires : tie.Need-paint-catmull-requires
-paint-catmull-requires c κs =
+paint-cubics-requires : tie.Need-paint-cubics-requires
+paint-cubics-requires c κs =
     let stops = c .before .before .before in
     let asked = stops .before in
     let s = asked .before .before .before .before .before .before in
@@ -44,7 +44,7 @@ returns-2 c =
     let stops = kept .before .before in
     let asked = stops .before in
     let s = asked .before .before .before .before .before .before in
-    as-kept (rampIn (s .args .kind) (s .args .positions) (s .args .channels) (s .args .codes)) (now (s .args .ts)) (now (s .args .out)) (sym (asked .is-gimp .ensures) ∙ stops .if1 .left) (sym (kept .before .is-catmull .ensures) ∙ kept .if2 .taken) (painted .paint-catmull .ensures)
+    as-kept (rampIn (s .args .kind) (s .args .positions) (s .args .channels) (s .args .codes)) (now (s .args .ts)) (now (s .args .out)) (sym (asked .is-gimp .ensures) ∙ stops .if1 .left) (sym (kept .before .is-catmull-rom .ensures) ∙ kept .if2 .taken) (painted .paint-cubics .ensures)
 
 paint-stops-requires : tie.Need-paint-stops-requires
 paint-stops-requires c κs =
@@ -72,8 +72,8 @@ paint-all-spec =
     paint-requires
     same-length
     returns
-    is-catmull-requires
-    paint-catmull-requires
+    is-catmull-rom-requires
+    paint-cubics-requires
     same-length-2
     returns-2
     paint-stops-requires

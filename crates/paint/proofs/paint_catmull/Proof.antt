@@ -18,10 +18,10 @@ use Rattle.paint.proofs.paint_catmull.Statement.{statement}
 use Rattle.paint.proofs.paint_catmull.Tie as tie
 
 abbrev Inv-loop : tie.InvT-loop
-Inv-loop positions channels ts out₀ n k₀ s₀ i₀ out k s i = (i ≤ length ts) × (length out ≡ length out₀) × (out ≡ coloursOf (stopColour CatmullRom positions channels) (take i ts) ++ drop (4 * i) out₀) × (s ≡ segmentFor channels (length positions) k)
+Inv-loop positions channels ts out₀ table n k₀ s₀ i₀ out k s i = (i ≤ length ts) × (length out ≡ length out₀) × (out ≡ coloursOf (stopColour CatmullRom positions channels) (take i ts) ++ drop (4 * i) out₀) × (s ≡ segmentFor channels (length positions) k)
 
 abbrev μ-loop : tie.MeasureT-loop
-μ-loop positions channels ts out₀ n k₀ s₀ i₀ out k s i = length ts - i
+μ-loop positions channels ts out₀ table n k₀ s₀ i₀ out k s i = length ts - i
 
 segment-for-requires : tie.Need-segment-for-requires Inv-loop μ-loop
 segment-for-requires c κs = search needs
@@ -43,7 +43,7 @@ pair-or-requires : tie.Need-pair-or-requires Inv-loop μ-loop
 pair-or-requires c κs = search needs
 
 renewed-requires : tie.Need-renewed-requires Inv-loop μ-loop
-renewed-requires c κs = c .before .before .before .before .loop .inv .3
+renewed-requires c κs = let l = c .before .before .before .before in (l .loop .inv .3, l .before .before .before .before .before .before .pre .1)
 
 segment-colour-requires : tie.Need-segment-colour-requires Inv-loop μ-loop
 segment-colour-requires c κs = search needs
@@ -55,7 +55,11 @@ put-colour-requires : tie.Need-put-colour-requires Inv-loop μ-loop
 put-colour-requires c κs = search needs
 
 add-i : tie.Need-add-i Inv-loop μ-loop
-add-i c = search needs
+add-i c =
+    let p = c .before .before in
+    let test = p .before .before .before .before .before .before .before in
+    let s = test .before .before .before .before .before .before .before in
+    omega (arith, test .loop-test .taken, s .good .1 .1 .0 .1)
 
 loop-less : tie.Need-loop-less Inv-loop μ-loop
 loop-less c = omega arith
@@ -71,7 +75,7 @@ loop-again c =
       ap length (p .put-colour .ensures) ∙ simp length-sets (l .loop .inv .1),
       p .put-colour .ensures
           ∙ ap (λ (r : List Float). sets r (4 * i) (channelsOf (p .before .before .segment-colour .result))) (l .loop .inv .2)
-          ∙ colours-next (stopColour CatmullRom (now (s .args .positions)) (now (s .args .channels))) (now (s .args .ts)) (now (s .args .out)) (s .pre .room) i (omega arith) (kept-colour (now (s .args .positions)) (now (s .args .channels)) (s .pre .two) (s .pre .rising) _ (l .loop .k) (p .before .before .before .before .before .find-place .ensures) (p .before .before .before .before .pair-or .ensures) (p .before .before .before .renewed .ensures) (p .before .before .segment-colour .ensures)),
+          ∙ colours-next (stopColour CatmullRom (now (s .args .positions)) (now (s .args .channels))) (now (s .args .ts)) (now (s .args .out)) (s .pre .0 .room) i (omega arith) (kept-colour (now (s .args .positions)) (now (s .args .channels)) (s .pre .0 .two) (s .pre .0 .rising) _ (l .loop .k) (p .before .before .before .before .before .find-place .ensures) (p .before .before .before .before .pair-or .ensures) (p .before .before .before .renewed .ensures) (p .before .before .segment-colour .ensures)),
       p .before .before .before .renewed .ensures,
     )
 
@@ -79,7 +83,7 @@ same-length : tie.Need-same-length Inv-loop μ-loop
 same-length c = c .before .loop .inv .1
 
 returns : tie.Need-returns Inv-loop μ-loop
-returns c = let l = c .before in let s = l .before .before .before .before .before .before in l .loop .inv .2 ∙ colours-done (stopColour CatmullRom (now (s .args .positions)) (now (s .args .channels))) (now (s .args .ts)) (now (s .args .out)) (s .pre .room) (l .loop .i) (omega arith) (omega arith)
+returns c = let l = c .before in let s = l .before .before .before .before .before .before in l .loop .inv .2 ∙ colours-done (stopColour CatmullRom (now (s .args .positions)) (now (s .args .channels))) (now (s .args .ts)) (now (s .args .out)) (s .pre .0 .room) (l .loop .i) (omega arith) (omega arith)
 
 pub paint-catmull-spec : {M : Type 1} → statement M
 paint-catmull-spec =

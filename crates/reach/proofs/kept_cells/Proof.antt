@@ -4,7 +4,7 @@ use Prim.Native.Nat.{_-_, _≤_}
 use native.Mathlib.Omega.{arith}
 use lib.ListN.{length, take, length-set}
 use Rattle.float.proofs.Flags.{failed, passed}
-use Rattle.sampling.specs.Cells.{joined}
+use Rattle.slices.specs.Joined.{joined}
 use Rattle.reach.specs.Stretch.{outsideOf, cellClear}
 use Rattle.reach.proofs.Kept.{no-stop, no-domain, each, filled-next, filled}
 use borrow.Author.Needs.{needs}

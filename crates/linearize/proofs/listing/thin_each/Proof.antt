@@ -42,7 +42,7 @@ finish-requires c κs =
     let p = at-point .evaluate .result in
     let h = at-emit .emit in
     let r1 = run (h .result) (h .last .1 .1 .1 .0) (h .last .1 .1 .1 .1 .0) in
-    let w = emitted-as g room (run (starting p) ps cs) r1 p (h .ensures) (prepared-point _ _ (at-start .pre .1) _ _ (at-point .evaluate .ensures) .1) in
+    let w = emitted-as g room (run (starting p) ps cs) r1 p (h .ensures) (prepared-point _ _ (at-start .pre .1) _ _ _ (at-point .evaluate .ensures) .1) in
     (omega (arith, w .tried), omega (arith, w .fitting (omega arith), at-room .room-of .ensures, h .kept .1 .1 .1 .0))
 
 same-length : tie.Need-same-length
@@ -69,8 +69,8 @@ returns c =
     let p = at-point .evaluate .result in
     let h = at-emit .emit in
     let r1 = run (h .result) (h .last .1 .1 .1 .0) (h .last .1 .1 .1 .1 .0) in
-    let w = emitted-as g room (run (starting p) ps cs) r1 p (h .ensures) (prepared-point _ _ (at-start .pre .1) _ _ (at-point .evaluate .ensures) .1) in
-    let e = list-head (a .rows .now) (a .counts .now) (a .max) (at-start .pre .0) (p .t) (prepared-point _ _ (at-start .pre .1) _ _ (at-point .evaluate .ensures) .0) in
+    let w = emitted-as g room (run (starting p) ps cs) r1 p (h .ensures) (prepared-point _ _ (at-start .pre .1) _ _ _ (at-point .evaluate .ensures) .1) in
+    let e = list-head (a .rows .now) (a .counts .now) (a .max) (at-start .pre .0) (p .t) (prepared-point _ _ (at-start .pre .1) _ _ _ (at-point .evaluate .ensures) .0) in
     let f = at-end .finish in
     made-list g far room ts ps cs p e _ (at-room .room-of .ensures) r1 (first-refused g far room ts ps cs p e r1 w (at-test .if1 .taken)) (h .kept .1 .1 .1 .0) (h .kept .1 .1 .1 .1 .0)
     (f .last .1 .0) (f .last .1 .1 .0) (f .result) (f .ensures .0) (f .ensures .1 .0) (f .ensures .1 .1)
@@ -92,7 +92,7 @@ thin-points-requires c κs =
     let p = at-point .evaluate .result in
     let h = at-emit .emit in
     let r1 = run (h .result) (h .last .1 .1 .1 .0) (h .last .1 .1 .1 .1 .0) in
-    let w = emitted-as g room (run (starting p) ps cs) r1 p (h .ensures) (prepared-point _ _ (at-start .pre .1) _ _ (at-point .evaluate .ensures) .1) in
+    let w = emitted-as g room (run (starting p) ps cs) r1 p (h .ensures) (prepared-point _ _ (at-start .pre .1) _ _ _ (at-point .evaluate .ensures) .1) in
     ((at-start .pre .0, record { going = at-test .if1 .left; none = w .tried; fitting = w .fitting (omega arith); coloured = w .coloured (at-test .if1 .left) }), at-start .pre .1)
 
 finish-requires-2 : tie.Need-finish-requires-2
@@ -112,7 +112,7 @@ finish-requires-2 c κs =
     let p = at-point .evaluate .result in
     let h = at-emit .emit in
     let r1 = run (h .result) (h .last .1 .1 .1 .0) (h .last .1 .1 .1 .1 .0) in
-    let w = emitted-as g room (run (starting p) ps cs) r1 p (h .ensures) (prepared-point _ _ (at-start .pre .1) _ _ (at-point .evaluate .ensures) .1) in
+    let w = emitted-as g room (run (starting p) ps cs) r1 p (h .ensures) (prepared-point _ _ (at-start .pre .1) _ _ _ (at-point .evaluate .ensures) .1) in
     let k = at-rest .thin-points in
     (k .ensures .few, omega (arith, k .ensures .fitting, at-room .room-of .ensures, h .kept .1 .1 .1 .0, k .kept .1 .1 .1 .1 .1 .1 .1 .1 .1 .1 .0))
 
@@ -141,8 +141,8 @@ returns-2 c =
     let p = at-point .evaluate .result in
     let h = at-emit .emit in
     let r1 = run (h .result) (h .last .1 .1 .1 .0) (h .last .1 .1 .1 .1 .0) in
-    let w = emitted-as g room (run (starting p) ps cs) r1 p (h .ensures) (prepared-point _ _ (at-start .pre .1) _ _ (at-point .evaluate .ensures) .1) in
-    let e = list-head (a .rows .now) (a .counts .now) (a .max) (at-start .pre .0) (p .t) (prepared-point _ _ (at-start .pre .1) _ _ (at-point .evaluate .ensures) .0) in
+    let w = emitted-as g room (run (starting p) ps cs) r1 p (h .ensures) (prepared-point _ _ (at-start .pre .1) _ _ _ (at-point .evaluate .ensures) .1) in
+    let e = list-head (a .rows .now) (a .counts .now) (a .max) (at-start .pre .0) (p .t) (prepared-point _ _ (at-start .pre .1) _ _ _ (at-point .evaluate .ensures) .0) in
     let k = at-rest .thin-points in
     let f = at-end .finish2 in
     let r2 = run (k .result) (k .last .1 .1 .1 .1 .1 .1 .1 .1 .1 .1 .0) (k .last .1 .1 .1 .1 .1 .1 .1 .1 .1 .1 .1 .0) in

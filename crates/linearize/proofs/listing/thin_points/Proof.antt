@@ -46,7 +46,7 @@ loop-holds c =
     let g = colourOf (rampIn (a .kind) (a .positions) (a .channels) (a .codes)) in
     let far = exceeds (a .cutoff) in
     let ok = at-start .pre .0 .0 in
-    started g far (a .room) (a .rows .now) (a .counts .now) (a .max) ok (a .start) (a .out-positions .now) (a .out-channels .now) (at-place .next-place .result) (c .evaluate .result) (at-start .pre .0 .1) (at-place .next-place .ensures) (prepared-point _ _ (at-start .pre .1) _ _ (c .evaluate .ensures) .0 ∙ at-number .point-at .ensures) (prepared-point _ _ (at-start .pre .1) _ _ (c .evaluate .ensures) .1)
+    started g far (a .room) (a .rows .now) (a .counts .now) (a .max) ok (a .start) (a .out-positions .now) (a .out-channels .now) (at-place .next-place .result) (c .evaluate .result) (at-start .pre .0 .1) (at-place .next-place .ensures) (prepared-point _ _ (at-start .pre .1) _ _ _ (c .evaluate .ensures) .0 ∙ at-number .point-at .ensures) (prepared-point _ _ (at-start .pre .1) _ _ _ (c .evaluate .ensures) .1)
 
 next-place-requires-2 : tie.Need-next-place-requires-2 Inv-loop μ-loop
 next-place-requires-2 c κs =
@@ -99,7 +99,7 @@ returns c =
     let g = colourOf (rampIn (a .kind) (a .positions) (a .channels) (a .codes)) in
     let far = exceeds (a .cutoff) in
     let ok = at-start .pre .0 .0 in
-    stopped g far (a .room) (a .rows .now) (a .counts .now) (a .max) ok _ (at-loop .loop .out-positions) (at-loop .loop .out-channels) (at-loop .loop .s) (at-loop .loop .place) (at-loop .loop .x) (at-loop .loop .inv) (at-test .if1 .taken) (at-place .next-place2 .result) (at-point .evaluate2 .result) (at-place .next-place2 .ensures) (prepared-point _ _ (at-start .pre .1) _ _ (at-point .evaluate2 .ensures) .0 ∙ at-number .point-at2 .ensures) (prepared-point _ _ (at-start .pre .1) _ _ (at-point .evaluate2 .ensures) .1) (at-step .step .last .1 .1 .1 .1 .1 .0) (at-step .step .last .1 .1 .1 .1 .1 .1 .0) (at-step .step .result) (at-step .step .ensures) (c .if2 .taken)
+    stopped g far (a .room) (a .rows .now) (a .counts .now) (a .max) ok _ (at-loop .loop .out-positions) (at-loop .loop .out-channels) (at-loop .loop .s) (at-loop .loop .place) (at-loop .loop .x) (at-loop .loop .inv) (at-test .if1 .taken) (at-place .next-place2 .result) (at-point .evaluate2 .result) (at-place .next-place2 .ensures) (prepared-point _ _ (at-start .pre .1) _ _ _ (at-point .evaluate2 .ensures) .0 ∙ at-number .point-at2 .ensures) (prepared-point _ _ (at-start .pre .1) _ _ _ (at-point .evaluate2 .ensures) .1) (at-step .step .last .1 .1 .1 .1 .1 .0) (at-step .step .last .1 .1 .1 .1 .1 .1 .0) (at-step .step .result) (at-step .step .ensures) (c .if2 .taken)
 
 loop-less : tie.Need-loop-less Inv-loop μ-loop
 loop-less c =
@@ -126,7 +126,7 @@ loop-again c =
     let g = colourOf (rampIn (a .kind) (a .positions) (a .channels) (a .codes)) in
     let far = exceeds (a .cutoff) in
     let ok = at-start .pre .0 .0 in
-    next g far (a .room) (a .rows .now) (a .counts .now) (a .max) ok _ (at-loop .loop .out-positions) (at-loop .loop .out-channels) (at-loop .loop .s) (at-loop .loop .place) (at-loop .loop .x) (at-loop .loop .inv) (at-test .if1 .taken) (at-place .next-place2 .result) (at-point .evaluate2 .result) (at-place .next-place2 .ensures) (prepared-point _ _ (at-start .pre .1) _ _ (at-point .evaluate2 .ensures) .0 ∙ at-number .point-at2 .ensures) (prepared-point _ _ (at-start .pre .1) _ _ (at-point .evaluate2 .ensures) .1) (at-step .step .last .1 .1 .1 .1 .1 .0) (at-step .step .last .1 .1 .1 .1 .1 .1 .0) (at-step .step .result) (at-step .step .ensures) (c .if2 .left) (at-step .step .kept .1 .1 .1 .1 .1 .0) (at-step .step .kept .1 .1 .1 .1 .1 .1 .0)
+    next g far (a .room) (a .rows .now) (a .counts .now) (a .max) ok _ (at-loop .loop .out-positions) (at-loop .loop .out-channels) (at-loop .loop .s) (at-loop .loop .place) (at-loop .loop .x) (at-loop .loop .inv) (at-test .if1 .taken) (at-place .next-place2 .result) (at-point .evaluate2 .result) (at-place .next-place2 .ensures) (prepared-point _ _ (at-start .pre .1) _ _ _ (at-point .evaluate2 .ensures) .0 ∙ at-number .point-at2 .ensures) (prepared-point _ _ (at-start .pre .1) _ _ _ (at-point .evaluate2 .ensures) .1) (at-step .step .last .1 .1 .1 .1 .1 .0) (at-step .step .last .1 .1 .1 .1 .1 .1 .0) (at-step .step .result) (at-step .step .ensures) (c .if2 .left) (at-step .step .kept .1 .1 .1 .1 .1 .0) (at-step .step .kept .1 .1 .1 .1 .1 .1 .0)
 
 emit-requires : tie.Need-emit-requires Inv-loop μ-loop
 emit-requires c κs = tt

@@ -2,7 +2,7 @@
 use mathlib.Core.Path.{sym}
 use mathlib.Core.List.{[]}
 use lib.Seq.{length-take-le}
-use Rattle.sampling.proofs.Tabled.{no-segments, filled-most, filled-segments}
+use Rattle.stops.proofs.Tables.{no-segments, filled-most, filled-segments}
 use borrow.Author.Needs.{needs}
 use Rattle.linearize.proofs.listing.thin_record.Statement.{statement}
 use Rattle.linearize.proofs.listing.thin_record.Tie as tie

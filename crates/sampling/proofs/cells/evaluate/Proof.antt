@@ -1,6 +1,6 @@
--- `evaluate` meets its contract: GIMP segments, a Catmull-Rom ramp by its table, or other stops. Assumes nothing.
+-- `evaluate` meets its contract: GIMP segments, or stops at the place of t. Assumes nothing.
 use denote.Ref.{now}
-use Rattle.sampling.proofs.Tabled.{by-gimp, by-stops, by-segments}
+use Rattle.sampling.proofs.Tabled.{by-gimp, by-stops}
 use borrow.Author.Needs.{needs}
 use Rattle.sampling.proofs.cells.evaluate.Statement.{statement}
 use Rattle.sampling.proofs.cells.evaluate.Tie as tie
@@ -13,30 +13,21 @@ colour-at-requires c κs = search needs
 
 returns : tie.Need-returns
 returns c =
-    let s = c .before .before .before .before .before .before in
-    by-gimp (s .args .kind) (now (s .args .positions)) (now (s .args .channels)) (now (s .args .codes)) (now (s .args .table)) (s .args .t) (c .before .before .is-gimp .ensures) (c .before .if1 .taken) (c .colour-at .ensures)
+    let asked = c .before .before in
+    let a = asked .before .before .before .before .args in
+    by-gimp (a .kind) (now (a .positions)) (now (a .channels)) (now (a .codes)) (now (a .table)) (a .t) (a .guess) (asked .is-gimp .ensures) (c .before .if1 .taken) (c .colour-at .ensures)
 
 find-place-requires : tie.Need-find-place-requires
 find-place-requires c κs = search needs
 
-is-catmull-rom-requires : tie.Need-is-catmull-rom-requires
-is-catmull-rom-requires c κs = search needs
-
-colour-in-requires : tie.Need-colour-in-requires
-colour-in-requires c κs = search needs
+placed-requires : tie.Need-placed-requires
+placed-requires c κs = search needs
 
 returns-2 : tie.Need-returns-2
 returns-2 c =
-    let s = c .before .before .before .before .before .before .before .before .before in
-    by-segments (s .args .kind) (now (s .args .positions)) (now (s .args .channels)) (now (s .args .codes)) (now (s .args .table)) (s .args .t) (c .before .before .before .find-place .ensures) (c .before .before .before .before .before .is-gimp .ensures) (c .before .before .before .before .if1 .left) (c .before .before .is-catmull-rom .ensures) (c .before .if2 .taken) (c .colour-in .ensures)
-
-colour-in-requires-2 : tie.Need-colour-in-requires-2
-colour-in-requires-2 c κs = search needs
-
-returns-3 : tie.Need-returns-3
-returns-3 c =
-    let s = c .before .before .before .before .before .before .before .before .before in
-    by-stops (s .args .kind) (now (s .args .positions)) (now (s .args .channels)) (now (s .args .codes)) (now (s .args .table)) (s .args .t) (c .before .before .before .find-place .ensures) (c .before .before .before .before .before .is-gimp .ensures) (c .before .before .before .before .if1 .left) (c .before .before .is-catmull-rom .ensures) (c .before .if2 .left) (c .colour-in2 .ensures)
+    let asked = c .before .before .before in
+    let a = asked .before .before .before .before .args in
+    by-stops (a .kind) (now (a .positions)) (now (a .channels)) (now (a .codes)) (now (a .table)) (a .t) (a .guess) (asked .is-gimp .ensures) (c .before .before .if1 .left) (c .before .find-place .ensures) (c .placed .ensures)
 
 pub evaluate-spec : {M : Type 1} → statement M
 evaluate-spec =
@@ -46,8 +37,5 @@ evaluate-spec =
     colour-at-requires
     returns
     find-place-requires
-    is-catmull-rom-requires
-    colour-in-requires
-    returns-2
-    colour-in-requires-2
-    returns-3)
+    placed-requires
+    returns-2)

@@ -41,7 +41,9 @@ part-row-start : tie.Need-part-row-start
 part-row-start c = search needs
 
 part-row-end : tie.Need-part-row-end
-part-row-end c = search needs
+part-row-end c =
+    let at-start = c .before .before .before .before .before .before .before .before in
+    omega (arith, at-start .pre .0 .0, at-start .pre .0 .1 .0)
 
 row-into-requires : tie.Need-row-into-requires
 row-into-requires c κs =

@@ -91,8 +91,8 @@ halve-returns-2 t c =
     let evaluated = c .before .before .before in
     let tested = evaluated .before .before .before in
     let at-start = tested .before .before .before .before .before in
-    let m = prepared-point _ _ (at-start .pre .1 .1 .ready) _ _ (evaluated .evaluate .ensures) in
-    none-kept _ _ _ _ _ _ _ (tested .if1 .left) (keeps-is _ _ _ _ _ _ _ _ _ (at-start .pre .1 .1) m (c .before .before .interpolate-linear .ensures) (c .before .stands-out .ensures) (not-true _ (c .if2 .taken)))
+    let m = prepared-point _ _ (at-start .pre .1 .1 .ready) _ _ _ (evaluated .evaluate .ensures) in
+    none-kept _ _ _ _ _ _ _ (tested .if1 .left) (keeps-is _ _ _ _ _ (evaluated .evaluate .result) _ _ _ (at-start .pre .1 .1) m (c .before .before .interpolate-linear .ensures) (c .before .stands-out .ensures) (not-true _ (c .if2 .taken)))
 
 halve-sub-n : (t : ℕ) → halve-lts.Need-sub-n (
   evaluate-reads.Asked,
@@ -121,7 +121,7 @@ halve-halve-requires t c κs =
     let tested = evaluated .before .before .before in
     let at-start = tested .before .before .before .before .before in
     let w = at-start .pre .1 .1 in
-    let m = prepared-point _ _ (at-start .pre .1 .1 .ready) _ _ (evaluated .evaluate .ensures) in
+    let m = prepared-point _ _ (at-start .pre .1 .1 .ready) _ _ _ (evaluated .evaluate .ensures) in
     (omega (arith, at-start .pre .0, tested .if1 .left), (omega (arith, pow-left (at-start .args .left) (tested .if1 .left), at-start .pre .1 .0), record { ready = w .ready; left = w .left; right = m .1 }))
 
 halve-mul-row : (t : ℕ) → halve-lts.Need-mul-row (
@@ -188,7 +188,7 @@ halve-halve-requires-2 t c κs =
     let at-start = tested .before .before .before .before .before in
     let evaluated = halved .before .before .before .before .before in
     let w = at-start .pre .1 .1 in
-    let m = prepared-point _ _ (at-start .pre .1 .1 .ready) _ _ (evaluated .evaluate .ensures) in
+    let m = prepared-point _ _ (at-start .pre .1 .1 .ready) _ _ _ (evaluated .evaluate .ensures) in
     (omega (arith, at-start .pre .0, tested .if1 .left), (simp length-set (omega (arith, halved .halve .kept .1 .1 .1 .1 .0, right-fits _ _ _ _ _ (at-start .args .q .t) _ (tested .if1 .left) (at-start .pre .1 .0) _ _ _ (halved .halve .ensures))), record { ready = w .ready; left = m .1; right = w .right }))
 
 halve-add-t24 : (t : ℕ) → halve-lts.Need-add-t24 (
@@ -256,8 +256,8 @@ halve-returns-3 t c =
     let tested = halved .before .before .before .before .before .before .before .before in
     let at-start = tested .before .before .before .before .before in
     let evaluated = halved .before .before .before .before .before in
-    let m = prepared-point _ _ (at-start .pre .1 .1 .ready) _ _ (evaluated .evaluate .ensures) in
-    let yes = keeps-is _ _ _ _ _ _ _ _ _ (at-start .pre .1 .1) m (halved .before .before .before .before .interpolate-linear .ensures) (halved .before .before .before .stands-out .ensures) (not-false _ (halved .before .before .if2 .left)) in
+    let m = prepared-point _ _ (at-start .pre .1 .1 .ready) _ _ _ (evaluated .evaluate .ensures) in
+    let yes = keeps-is _ _ _ _ _ (evaluated .evaluate .result) _ _ _ (at-start .pre .1 .1) m (halved .before .before .before .before .interpolate-linear .ensures) (halved .before .before .before .stands-out .ensures) (not-false _ (halved .before .before .if2 .left)) in
     both-halves _ _ _ _ _ _ _ (tested .if1 .left) (at-start .pre .1 .0) _ _ _ (halved .halve .ensures) _ _ (again .halve2 .ensures) (m .0) yes
 
 pub +halve-spec : {M : Type 1} → statement M

@@ -3,9 +3,9 @@ use Prim.Native.Nat.{_-_}
 use native.Mathlib.Omega.{arith}
 use borrow.Author.Needs.{scaled-fits}
 use lib.ListN.{length}
-use Rattle.sampling.proofs.Tabled.{Tabled, tabled-start, tabled-next, tabled}
-use Rattle.sampling.proofs.segments.fill.Statement.{statement}
-use Rattle.sampling.proofs.segments.fill.Tie as tie
+use Rattle.stops.proofs.Tables.{Tabled, tabled-start, tabled-next, tabled}
+use Rattle.stops.proofs.segments.fill.Statement.{statement}
+use Rattle.stops.proofs.segments.fill.Tie as tie
 
 abbrev Inv-loop : tie.InvT-loop
 Inv-loop channels n table₀ i₀ table i = Tabled channels n table₀ i table

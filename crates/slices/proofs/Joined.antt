@@ -8,7 +8,7 @@ use native.Mathlib.Numerals.{add-one}
 use native.Mathlib.Omega.{arith}
 use lib.ListN.{length, getD, length-append, List·getD-append}
 use lib.Seq.{getD-append-add}
-use Rattle.sampling.specs.Cells.{joined, summed}
+use Rattle.slices.specs.Joined.{joined, summed}
 
 pub length-joined : {A : Type 0} (f : ℕ → List A) (k m : ℕ) → ((j : ℕ) → j < m → length (f j) ≡ k) → (i : ℕ) → i ≤ m → length (joined f i) ≡ i * k
 unfolding joined

@@ -1,10 +1,10 @@
 -- `segment` meets its contract: out of the table, or worked out. Assumes nothing.
 use mathlib.Core.Path.{_∙_}
 use native.Mathlib.Omega.{arith}
-use Rattle.sampling.proofs.Tabled.{segment-there, segment-made}
+use Rattle.stops.proofs.Tables.{segment-there, segment-made}
 use borrow.Author.Needs.{needs}
-use Rattle.sampling.proofs.segments.segment.Statement.{statement}
-use Rattle.sampling.proofs.segments.segment.Tie as tie
+use Rattle.stops.proofs.segments.segment.Statement.{statement}
+use Rattle.stops.proofs.segments.segment.Tie as tie
 
 mul-result : tie.Need-mul-result
 mul-result c = search needs

@@ -1,0 +1,127 @@
+-- `pair_at` meets its contract: the pair that was read, mixed by its kind. Assumes nothing.
+use mathlib.Core.Path.{refl}
+use denote.Ref.{now}
+use lib.ListN.{length}
+use Rattle.stops.specs.Pair.{pairOf, colourIn}
+use Rattle.stops.specs.declared.Kind.the-variants.{Linear, Smoothstep}
+use Rattle.stops.proofs.Pairs.{by-kind, by-sharp, by-basis, by-pair}
+use borrow.Author.Needs.{needs}
+use Rattle.sampling.proofs.cells.pair_at.Statement.{statement}
+use Rattle.sampling.proofs.cells.pair_at.Tie as tie
+
+less-requires : tie.Need-less-requires
+less-requires c κs = search needs
+
+stop-requires : tie.Need-stop-requires
+stop-requires c κs = search needs
+
+stop-requires-2 : tie.Need-stop-requires-2
+stop-requires-2 c κs = search needs
+
+enum-told : tie.Need-enum-told
+enum-told c = search needs
+
+pair-colour-requires : tie.Need-pair-colour-requires
+pair-colour-requires c κs = search needs
+
+enum-told-2 : tie.Need-enum-told-2
+enum-told-2 c = search needs
+
+pair-colour-requires-2 : tie.Need-pair-colour-requires-2
+pair-colour-requires-2 c κs = search needs
+
+enum-told-3 : tie.Need-enum-told-3
+enum-told-3 c = search needs
+
+pair-colour-requires-3 : tie.Need-pair-colour-requires-3
+pair-colour-requires-3 c κs = search needs
+
+enum-told-4 : tie.Need-enum-told-4
+enum-told-4 c = search needs
+
+left-of-requires : tie.Need-left-of-requires
+left-of-requires c κs = search needs
+
+right-of-requires : tie.Need-right-of-requires
+right-of-requires c κs = search needs
+
+pair-colour-requires-4 : tie.Need-pair-colour-requires-4
+pair-colour-requires-4 c κs = search needs
+
+enum-told-5 : tie.Need-enum-told-5
+enum-told-5 c = search needs
+
+colour-in-requires : tie.Need-colour-in-requires
+colour-in-requires c κs = search needs
+
+enum-told-6 : tie.Need-enum-told-6
+enum-told-6 c = search needs
+
+colour-in-requires-2 : tie.Need-colour-in-requires-2
+colour-in-requires-2 c κs = search needs
+
+returns : tie.Need-returns
+unfolding pairOf
+returns c =
+    let second = c .before .before .before in
+    let first = second .before in
+    let a = first .before .before .before .before .args in
+    by-pair (a .kind) (now (a .positions)) (now (a .channels)) (a .t) (a .k) (first .before .less .ensures) (first .stop .ensures) (second .stop2 .ensures) (by-kind (now (a .channels)) (length (now (a .positions))) (a .k) _ _ (a .t) Linear (c .before .enum-told .given .1) (c .pair-colour .ensures))
+
+returns-2 : tie.Need-returns-2
+unfolding pairOf
+returns-2 c =
+    let second = c .before .before .before in
+    let first = second .before in
+    let a = first .before .before .before .before .args in
+    by-pair (a .kind) (now (a .positions)) (now (a .channels)) (a .t) (a .k) (first .before .less .ensures) (first .stop .ensures) (second .stop2 .ensures) (by-kind (now (a .channels)) (length (now (a .positions))) (a .k) _ _ (a .t) Smoothstep (c .before .enum-told2 .given .1) (c .pair-colour2 .ensures))
+
+returns-3 : tie.Need-returns-3
+returns-3 c =
+    let second = c .before .before .before in
+    let first = second .before in
+    let a = first .before .before .before .before .args in
+    by-pair (a .kind) (now (a .positions)) (now (a .channels)) (a .t) (a .k) (first .before .less .ensures) (first .stop .ensures) (second .stop2 .ensures) (by-sharp (now (a .channels)) (length (now (a .positions))) (a .k) _ _ (a .t) (c .before .enum-told3 .given .1) (first .before .less .ensures) (c .pair-colour3 .ensures))
+
+returns-4 : tie.Need-returns-4
+returns-4 c =
+    let second = c .before .before .before .before .before in
+    let first = second .before in
+    let a = first .before .before .before .before .args in
+    by-pair (a .kind) (now (a .positions)) (now (a .channels)) (a .t) (a .k) (first .before .less .ensures) (first .stop .ensures) (second .stop2 .ensures) (by-basis (now (a .channels)) (length (now (a .positions))) (a .k) _ _ (a .t) (c .before .before .left-of .ensures) (c .before .right-of .ensures) (c .before .before .before .enum-told4 .given .1) (c .pair-colour4 .ensures))
+
+returns-5 : tie.Need-returns-5
+unfolding colourIn
+returns-5 c = c .colour-in .ensures
+
+returns-6 : tie.Need-returns-6
+unfolding colourIn
+returns-6 c = c .colour-in2 .ensures
+
+pub pair-at-spec : {M : Type 1} → statement M
+pair-at-spec =
+    tie.close
+    (tie.spec
+    less-requires
+    stop-requires
+    stop-requires-2
+    enum-told
+    pair-colour-requires
+    enum-told-2
+    pair-colour-requires-2
+    enum-told-3
+    pair-colour-requires-3
+    enum-told-4
+    left-of-requires
+    right-of-requires
+    pair-colour-requires-4
+    enum-told-5
+    colour-in-requires
+    enum-told-6
+    colour-in-requires-2
+    returns
+    returns-2
+    returns-3
+    returns-4
+    returns-5
+    returns-6)

@@ -1,0 +1,49 @@
+-- `resample_tabled` meets its contract: the cells are sampled anew with a table of segments. Assumes nothing.
+use mathlib.Core.Path.{sym}
+use lib.Seq.{length-take-le}
+use Rattle.stops.proofs.Tables.{filled-most, filled-segments}
+use borrow.Author.Needs.{needs}
+use Rattle.sampling.proofs.resampling.resample_tabled.Statement.{statement}
+use Rattle.sampling.proofs.resampling.resample_tabled.Tie as tie
+
+fill-requires : tie.Need-fill-requires
+fill-requires c κs = search needs
+
+slice-reshare-prefix-table : tie.Need-slice-reshare-prefix-table
+slice-reshare-prefix-table c = search needs
+
+slice-aggregate-table : tie.Need-slice-aggregate-table
+slice-aggregate-table c =
+    let filled = c .before .before in
+    sym (length-take-le _ (filled .fill .last .1 .1 .0) (filled-most _ _ _ _ _ (filled .fill .ensures)))
+
+resample-each-requires : tie.Need-resample-each-requires
+resample-each-requires c κs =
+    let filled = c .before .before .before .before in
+    let at-start = filled .before .before .before .before .before .before .before in
+    (at-start .pre .0, record { fine = at-start .pre .1; segments = filled-segments _ _ _ _ _ (filled .fill .ensures) })
+
+same-length : tie.Need-same-length
+same-length c = search needs
+
+same-length-2 : tie.Need-same-length-2
+same-length-2 c = search needs
+
+same-length-3 : tie.Need-same-length-3
+same-length-3 c = search needs
+
+returns : tie.Need-returns
+returns c = search needs
+
+pub resample-tabled-spec : {M : Type 1} → statement M
+resample-tabled-spec =
+    tie.close
+    (tie.spec
+    fill-requires
+    slice-reshare-prefix-table
+    slice-aggregate-table
+    resample-each-requires
+    same-length
+    same-length-2
+    same-length-3
+    returns)
