@@ -8,11 +8,10 @@ use crate::gimp_texts::tidy_text;
 use crate::lists::MOST_POINTS;
 use crate::options::Options;
 use crate::oracle::{self, Boxed, Record};
-use crate::ordinary;
-use crate::ours::{self, Edit};
+use crate::ours;
 use crate::ramps::{Kind, Ramp, KINDS, MOST_SEGMENTS};
 use crate::random::Random;
-use crate::refresh::{changed, REFRESHED};
+use crate::typing;
 use std::hint::black_box;
 use std::path::Path;
 
@@ -36,7 +35,7 @@ pub fn run(options: &Options) {
         ("read", reading),
         ("flatten", flatten),
         ("growth", growth),
-        ("refresh", refresh),
+        ("refresh", typing::table),
     ];
     for (name, table) in tables {
         if options.name.as_ref().is_none_or(|wanted| wanted == name) {
@@ -51,12 +50,12 @@ fn beside(call: &str, other: &str, items: usize, ours: impl FnMut(), rust: impl 
     row(call, other, a / items as f64, b / items as f64);
 }
 
-fn row(call: &str, other: &str, ours: f64, rust: f64) {
+pub fn row(call: &str, other: &str, ours: f64, rust: f64) {
     println!("| {call} | {other} | {ours:.1} | {rust:.1} | {:.2} |", ours / rust);
 }
 
 /// Runs the two in turn, each long enough to be timed: the medians. Instructions are the same in every run.
-fn timed(repetitions: usize, mut ours: impl FnMut(), mut rust: impl FnMut()) -> (f64, f64) {
+pub fn timed(repetitions: usize, mut ours: impl FnMut(), mut rust: impl FnMut()) -> (f64, f64) {
     if let Some(output) = count::output() {
         return (count::instructions(&output, &mut ours), count::instructions(&output, &mut rust));
     }
@@ -87,11 +86,11 @@ fn nanoseconds(call: &mut impl FnMut(), turns: u32) -> f64 {
 }
 
 /// Keeps the compiler from leaving a call out.
-fn used<T>(value: T) {
+pub fn used<T>(value: T) {
     black_box(value);
 }
 
-fn median(mut times: Vec<f64>) -> f64 {
+pub fn median(mut times: Vec<f64>) -> f64 {
     times.sort_by(f64::total_cmp);
     times[times.len() / 2]
 }
@@ -257,65 +256,4 @@ fn flatten_beside(name: &str, ramp: &Ramp, threshold: f32, parts: usize) {
     let ours = || used(ours::flatten(ramp, threshold, &mut record, &mut out.0, &mut out.1));
     let rust = || used(oracle::linearize_only(&g, black_box(threshold)));
     beside(&call, "linearize", parts, ours, rust);
-}
-
-/// 64 evenly spaced stops, black and white in turn.
-fn striped(kind: Kind) -> Ramp {
-    const STOPS: usize = 64;
-    let positions = (0..STOPS).map(|i| i as f32 / (STOPS - 1) as f32).collect();
-    let channels = (0..STOPS).flat_map(|i| [(i % 2) as f32, (i % 2) as f32, (i % 2) as f32, 1.0]).collect();
-    Ramp { kind, positions, channels, codes: Vec::new() }
-}
-
-/// One inner stop to mid grey: the times of each inner stop by itself, then the medians over them.
-fn inner_edits(ramp: &Ramp, timed: impl FnMut(Edit) -> (f64, f64)) -> (f64, f64) {
-    let inner = 1..ramp.positions.len() - 1;
-    let times = inner.map(|stop| Edit { stop, colour: [0.5, 0.5, 0.5, 1.0] }).map(timed);
-    let (ours, others) = times.unzip();
-    (median(ours), median(others))
-}
-
-/// A refresh of a refreshed record does the same work again, so that it can be repeated.
-const REPEATED: usize = 5;
-const THRESHOLD: f32 = 0.007;
-
-fn refresh(_: &mut Random) {
-    for kind in REFRESHED {
-        refresh_alone(&striped(kind));
-    }
-    refresh_and_thin(&striped(Kind::Linear));
-}
-
-fn refresh_alone(ramp: &Ramp) {
-    let (mut record, mut spare) = (Record::empty(), Record::empty());
-    let (ours, whole) = inner_edits(ramp, |edit| {
-        let after = changed(ramp, &edit);
-        ours::sample(ramp, THRESHOLD, &mut record).expect("a ramp that is taken");
-        timed(
-            REPEATED,
-            || used(ours::refresh(ramp, &edit, THRESHOLD, &mut record)),
-            || used(ours::sample(&after, THRESHOLD, &mut spare)),
-        )
-    });
-    row(&format!("refresh alone, {}", ramp.kind.name()), "our own sampling", ours, whole);
-}
-
-/// Beside a fresh sampling and thinning without the refresh.
-fn refresh_and_thin(ramp: &Ramp) {
-    let (mut record, mut spare) = (Record::empty(), Record::empty());
-    let mut out = (vec![0.0; MOST_POINTS], vec![0.0; 4 * MOST_POINTS]);
-    let mut others = (vec![0.0; MOST_POINTS], vec![0.0; 4 * MOST_POINTS]);
-    let (ours, rust) = inner_edits(ramp, |edit| {
-        let after = changed(ramp, &edit);
-        ours::sample(ramp, THRESHOLD, &mut record).expect("a ramp that is taken");
-        let made = ours::refresh_list(ramp, &edit, THRESHOLD, &mut record, &mut out.0, &mut out.1);
-        let stops = ordinary::flatten(&after, THRESHOLD, &mut spare, &mut others.0, &mut others.1);
-        assert!(made.is_ok_and(|m| m.0 == stops) && out == others, "the ordinary Rust does the same job");
-        timed(
-            REPEATED,
-            || used(ours::refresh_list(ramp, &edit, THRESHOLD, &mut record, &mut out.0, &mut out.1)),
-            || used(ordinary::flatten(&after, THRESHOLD, &mut spare, &mut others.0, &mut others.1)),
-        )
-    });
-    row("refresh and thin, linear", "sampling and thinning in ordinary Rust", ours, rust);
 }

@@ -29,6 +29,7 @@ mod smallest;
 mod texts;
 mod tokens;
 mod torn;
+mod typing;
 
 use options::Options;
 use report::Tally;
@@ -42,6 +43,7 @@ const USAGE: &str = "compare COMMAND [N] [--seed S] [--case I]
   files FOLDER       the .ggr files in it, as compare/fetch gets them
   bench [TABLE]      times beside the Rust's: root token paint files read flatten refresh
   count [TABLE]      instructions in place of times, by valgrind's callgrind
+  typing             request (x): how much of a fresh flattening a keystroke is, and whether its two figures hold
   sample FOLDER      the stored answers of the program replay, as FOLDER/stdin and FOLDER/stdout";
 
 type Comparison = (&'static str, fn(&Options) -> Vec<Tally>, u64);
@@ -94,6 +96,7 @@ fn run(words: &[String]) -> Result<bool, String> {
             Ok(true)
         }
         "count" => count::run(rest),
+        "typing" => Ok(typing::run()),
         "differences" => {
             smallest::run();
             Ok(true)
