@@ -107,7 +107,7 @@ static void check_lines(ColorgradRead read)
     switch (read.refusal) {
     case 2: case 10: expect(read.line == 0, "a refusal with no line"); break;
     case 11: expect(read.line >= 1 && read.line <= 3, "the line of 11"); break;
-    case 12: case 16: expect(read.line >= 4 && read.line <= 259, "the line of a segment"); break;
+    case 12: case 16: case 18: expect(read.line >= 4 && read.line <= 259, "the line of a segment"); break;
     case 13: case 15: expect(read.line == 3, "line 3"); break;
     case 14: expect(read.line == 4, "line 4"); break;
     default: expect(false, "a refusal that reading does not have");
