@@ -3,7 +3,8 @@ use super::Rgba;
 use super::Stop;
 use super::utils;
 ghost use mathlib.Core.Path.{_≡_};
-ghost use Rattle.blend.specs.CatmullRom.{chord, tangent, cubic, coefficientsOf, segmentOf, cubicAt, segmentAt};
+ghost use Rattle.blend.specs.CatmullRom.{chord, tangent, cubic, segmentOf, cubicAt, segmentAt};
+ghost use Rattle.blend.specs.Chords.{chordsOf, coefficientsBy, segmentDrawn};
 ghost use Rattle.blend.specs.Pair.{catmullPair};
 
 // The source's `powf(.., 0.5)`.
@@ -35,28 +36,72 @@ fn cubic_of(v1: f32, v2: f32, m1: f32, m2: f32) -> [f32; 4]
     ]
 }
 
-fn coefficients(v0: f32, v1: f32, v2: f32, v3: f32) -> [f32; 4]
-    ensures { λ r. ⌜ r ≡ coefficientsOf v0 v1 v2 v3 ⌝ }
+// The chords of two neighbours, channel by channel.
+pub fn chords(p: Rgba, q: Rgba) -> Rgba
+    ensures { λ r. ⌜ r ≡ chordsOf p q ⌝ }
+{
+    Rgba {
+        r: chord_of(p.r, q.r),
+        g: chord_of(p.g, q.g),
+        b: chord_of(p.b, q.b),
+        a: chord_of(p.a, q.a),
+    }
+}
+
+fn coefficients(
+    v0: f32,
+    v1: f32,
+    v2: f32,
+    v3: f32,
+    before: f32,
+    within: f32,
+    after: f32,
+) -> [f32; 4]
+    ensures { λ r. ⌜ r ≡ coefficientsBy v0 v1 v2 v3 before within after ⌝ }
 {
     let t0 = 0.0;
-    let t1 = t0 + chord_of(v0, v1);
-    let t2 = t1 + chord_of(v1, v2);
-    let t3 = t2 + chord_of(v2, v3);
+    let t1 = t0 + before;
+    let t2 = t1 + within;
+    let t3 = t2 + after;
     let m1 = tangent_of(t2 - t1, v0, v1, v2, t0, t1, t2);
     let m2 = tangent_of(t2 - t1, v1, v2, v3, t1, t2, t3);
     cubic_of(v1, v2, m1, m2)
+}
+
+// A segment, with the chords between its four colours in hand. Neighbouring pairs share two of their three, and each is a root for
+// every channel: so one who draws segments in order works out a third of the roots.
+pub fn draw_segment(
+    p0: Rgba,
+    p1: Rgba,
+    p2: Rgba,
+    p3: Rgba,
+    before: Rgba,
+    within: Rgba,
+    after: Rgba,
+) -> [[f32; 4]; 4]
+    ensures { λ r. ⌜ r ≡ segmentDrawn p0 p1 p2 p3 before within after ⌝ }
+{
+    [
+        coefficients(p0.r, p1.r, p2.r, p3.r, before.r, within.r, after.r),
+        coefficients(p0.g, p1.g, p2.g, p3.g, before.g, within.g, after.g),
+        coefficients(p0.b, p1.b, p2.b, p3.b, before.b, within.b, after.b),
+        coefficients(p0.a, p1.a, p2.a, p3.a, before.a, within.a, after.a),
+    ]
 }
 
 // Four channels of four coefficients.
 pub fn segment(p0: Rgba, p1: Rgba, p2: Rgba, p3: Rgba) -> [[f32; 4]; 4]
     ensures { λ r. ⌜ r ≡ segmentOf p0 p1 p2 p3 ⌝ }
 {
-    [
-        coefficients(p0.r, p1.r, p2.r, p3.r),
-        coefficients(p0.g, p1.g, p2.g, p3.g),
-        coefficients(p0.b, p1.b, p2.b, p3.b),
-        coefficients(p0.a, p1.a, p2.a, p3.a),
-    ]
+    draw_segment(
+        p0,
+        p1,
+        p2,
+        p3,
+        chords(p0, p1),
+        chords(p1, p2),
+        chords(p2, p3),
+    )
 }
 
 fn cubic_at(s: [f32; 4], t: f32) -> f32

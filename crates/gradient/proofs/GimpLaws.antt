@@ -18,7 +18,7 @@ use Rattle.blend.specs.Finite.{allFinite}
 use Rattle.blend.specs.declared.Rgba.{Rgba}
 use Rattle.stops.specs.Stops.{colourAt}
 use Rattle.stops.specs.declared.Checked.the-variants.{Fine, Refused}
-use Rattle.gradient.specs.Gimp.{segments, leftAt, middleAt, rightAt, blendingAt, colouringAt, stepCode, sinusoidalCode, increasingCode, decreasingCode, inOrder, carried, carriedAt, allCarried, gimpShaped, gimpCheck, segmentFound, along, linearFactor, increasing, decreasing, bent, blended, gimpSegment, segmentColour, offDomain, gimpColour}
+use Rattle.gradient.specs.Gimp.{segments, leftAt, middleAt, rightAt, blendingAt, colouringAt, stepCode, sinusoidalCode, increasingCode, decreasingCode, inOrder, carried, carriedAt, allCarried, gimpShaped, gimpCheck, segmentFound, along, linearFactor, increasing, decreasing, bent, unwaved, waved, blended, gimpSegment, segmentColour, offDomain, gimpColour}
 use Rattle.gradient.specs.declared.gimp.Segment.{Segment}
 
 -- ---- a code past the end
@@ -112,26 +112,35 @@ module _ (k : ℕ) (f : Float) {z : Float} where
   unfolding bent
   bent-decreasing a b e = e ∙ simp (ne-eqb k increasingCode a, eq-eqb k decreasingCode b)
 
-  pub bent-wave : (k ≡ increasingCode → ⊥) → (k ≡ decreasingCode → ⊥) → k ≡ sinusoidalCode → z ≡ waveOf f → z ≡ bent k f
-  unfolding bent
-  bent-wave a b d e = e ∙ simp (ne-eqb k increasingCode a, ne-eqb k decreasingCode b, eq-eqb k sinusoidalCode d)
-
-pub bent-not : (k : ℕ) (f : Float) → (k ≡ increasingCode → ⊥) → (k ≡ decreasingCode → ⊥) → (k ≡ sinusoidalCode → ⊥) → f ≡ bent k f
+pub bent-not : (k : ℕ) (f : Float) → (k ≡ increasingCode → ⊥) → (k ≡ decreasingCode → ⊥) → f ≡ bent k f
 unfolding bent
-bent-not k f a b d = simp (ne-eqb k increasingCode a, ne-eqb k decreasingCode b, ne-eqb k sinusoidalCode d)
+bent-not k f a b = simp (ne-eqb k increasingCode a, ne-eqb k decreasingCode b)
 
 module _ (g : Segment) (pivot place : Float) where
-  pub step-right : g .blending ≡ stepCode → le pivot place ≡ true → g .rcolor ≡ blended g pivot place
-  unfolding blended
+  pub step-right : g .blending ≡ stepCode → le pivot place ≡ true → g .rcolor ≡ unwaved g pivot place
+  unfolding unwaved
   step-right a b = simp (eq-eqb (g .blending) stepCode a, b)
 
-  pub step-left : g .blending ≡ stepCode → le pivot place ≡ false → g .lcolor ≡ blended g pivot place
-  unfolding blended
+  pub step-left : g .blending ≡ stepCode → le pivot place ≡ false → g .lcolor ≡ unwaved g pivot place
+  unfolding unwaved
   step-left a b = simp (eq-eqb (g .blending) stepCode a, b)
 
-  pub mixed-at : (g .blending ≡ stepCode → ⊥) → {x y : Float} {z : Rgba} → x ≡ linearFactor pivot place → y ≡ bent (g .blending) x → z ≡ linear (g .lcolor) (g .rcolor) y → z ≡ blended g pivot place
-  unfolding blended
+  pub mixed-at : (g .blending ≡ stepCode → ⊥) → {x y : Float} {z : Rgba} → x ≡ linearFactor pivot place → y ≡ bent (g .blending) x → z ≡ linear (g .lcolor) (g .rcolor) y → z ≡ unwaved g pivot place
+  unfolding unwaved
   mixed-at a e h z = z ∙ ap (λ (w : Float). linear (g .lcolor) (g .rcolor) w) (h ∙ ap (λ (w : Float). bent (g .blending) w) e) ∙ simp (ne-eqb (g .blending) stepCode a)
+
+  pub waved-at : {x y : Float} {z : Rgba} → x ≡ linearFactor pivot place → y ≡ waveOf x → z ≡ linear (g .lcolor) (g .rcolor) y → z ≡ waved g pivot place
+  unfolding waved
+  waved-at e h z = z ∙ ap (λ (w : Float). linear (g .lcolor) (g .rcolor) w) (h ∙ ap waveOf e)
+
+  -- the one rule, by the blending
+  pub by-wave : {z : Rgba} → g .blending ≡ sinusoidalCode → z ≡ waved g pivot place → z ≡ blended g pivot place
+  unfolding blended
+  by-wave a z = z ∙ simp (eq-eqb (g .blending) sinusoidalCode a)
+
+  pub by-rest : {z : Rgba} → (g .blending ≡ sinusoidalCode → ⊥) → z ≡ unwaved g pivot place → z ≡ blended g pivot place
+  unfolding blended
+  by-rest a z = z ∙ simp (ne-eqb (g .blending) sinusoidalCode a)
 
 pub segment-coloured : (g : Segment) (t : Float) {pivot place : Float} {z : Rgba} → pivot ≡ along (g .left) (g .right) (g .middle) → place ≡ along (g .left) (g .right) t → z ≡ blended g pivot place → z ≡ segmentColour g t
 unfolding segmentColour

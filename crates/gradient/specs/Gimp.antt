@@ -138,20 +138,27 @@ increasing f = rootOf (f1 ⊖ (f ⊖ f1) ⊗ (f ⊖ f1))
 unfoldable pub decreasing : Float → Float
 decreasing f = f1 ⊖ rootOf (f1 ⊖ f ⊗ f)
 
--- sinusoidal is the table's wave, which clamps the factor first; a blending that is not carried is taken as linear
+-- of every blending but the sinusoidal one; one that is not carried is taken as linear
 unfoldable pub bent : ℕ → Float → Float
 bent blending f =
-    cond (eqb blending increasingCode) (increasing f)
-    (cond (eqb blending decreasingCode) (decreasing f) (cond (eqb blending sinusoidalCode) (waveOf f) f))
+    cond (eqb blending increasingCode) (increasing f) (cond (eqb blending decreasingCode) (decreasing f) f)
 
 -- ---- the colour
--- the one rule of blending: a segment's colour at a place, where `pivot` is the place of its middle. A step gives one of the two colours itself, and a colouring
--- that is not carried is taken as RGB
-unfoldable pub blended : Segment → Float → Float → Rgba
-blended g pivot place =
+-- a segment's colour at a place, where `pivot` is the place of its middle and the sine is not asked for. A step gives one of the two colours itself, and a
+-- colouring that is not carried is taken as RGB
+unfoldable pub unwaved : Segment → Float → Float → Rgba
+unwaved g pivot place =
     cond (eqb (g .blending) stepCode)
     (cond (le pivot place) (g .rcolor) (g .lcolor))
     (linear (g .lcolor) (g .rcolor) (bent (g .blending) (linearFactor pivot place)))
+
+-- the same of a sinusoidal one: by the table's wave, which clamps the factor first
+unfoldable pub waved : Segment → Float → Float → Rgba
+waved g pivot place = linear (g .lcolor) (g .rcolor) (waveOf (linearFactor pivot place))
+
+-- the one rule of blending
+unfoldable pub blended : Segment → Float → Float → Rgba
+blended g pivot place = cond (eqb (g .blending) sinusoidalCode) (waved g pivot place) (unwaved g pivot place)
 
 -- a segment at t, which need not lie in it
 unfoldable pub segmentColour : Segment → Float → Rgba

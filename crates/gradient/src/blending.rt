@@ -7,7 +7,7 @@ use crate::gimp::Segment;
 use blend::Rgba;
 use blend::utils;
 ghost use mathlib.Core.Path.{_≡_};
-ghost use Rattle.gradient.specs.Gimp.{along, linearFactor, increasing, decreasing, bent, blended, segmentColour};
+ghost use Rattle.gradient.specs.Gimp.{along, linearFactor, increasing, decreasing, bent, unwaved, waved, segmentColour};
 
 // 2^-23.
 const EPSILON: f32 = 0.00000011920928955078125;
@@ -50,6 +50,7 @@ fn spherical_decreasing(f: f32) -> f32
     1.0 - sqrt::root(1.0 - f * f)
 }
 
+// The factor of every blending but the sinusoidal one.
 fn bend(blending: u8, f: f32) -> f32
     ensures { λ r. ⌜ r ≡ bent blending f ⌝ }
 {
@@ -59,16 +60,14 @@ fn bend(blending: u8, f: f32) -> f32
     if blending == SPHERICAL_DECREASING {
         return spherical_decreasing(f);
     }
-    if blending == SINUSOIDAL {
-        return sine::wave(f);
-    }
     f
 }
 
-// The one rule of blending: the colour at a place of the segment. Both the place and the pivot, which is the place of the
-// middle, are counted from the left end, 0, to the right end, 1: painting works out the pivot once for many points.
+// The rule of blending where the sine is not asked for: the colour at a place of the segment. Both the place and the pivot,
+// which is the place of the middle, are counted from the left end, 0, to the right end, 1: painting works out the pivot once
+// for many points.
 pub fn blend(g: Segment, pivot: f32, place: f32) -> Rgba
-    ensures { λ r. ⌜ r ≡ blended g pivot place ⌝ }
+    ensures { λ r. ⌜ r ≡ unwaved g pivot place ⌝ }
 {
     if g.blending == STEP {
         if place >= pivot {
@@ -80,11 +79,23 @@ pub fn blend(g: Segment, pivot: f32, place: f32) -> Rgba
     utils::interpolate_linear(g.lcolor, g.rcolor, f)
 }
 
+// The same of a sinusoidal segment. It is asked for by name, at two places: a sine within `blend` would be compiled into every
+// point of every other segment.
+pub fn blend_wave(g: Segment, pivot: f32, place: f32) -> Rgba
+    ensures { λ r. ⌜ r ≡ waved g pivot place ⌝ }
+{
+    let f = sine::wave(calc_linear_factor(pivot, place));
+    utils::interpolate_linear(g.lcolor, g.rcolor, f)
+}
+
 // The colour of a segment at t, which need not lie in it.
 pub(crate) fn segment_colour(g: Segment, t: f32) -> Rgba
     ensures { λ r. ⌜ r ≡ segmentColour g t ⌝ }
 {
     let pivot = place_along(g.left, g.right, g.middle);
     let place = place_along(g.left, g.right, t);
+    if g.blending == SINUSOIDAL {
+        return blend_wave(g, pivot, place);
+    }
     blend(g, pivot, place)
 }

@@ -14,6 +14,7 @@ ghost use Rattle.refusals.specs.Limits.{mostSegments};
 ghost use Rattle.stops.specs.Answers.{Checks};
 ghost use Rattle.gradient.specs.Gimp.{segments, inOrder, carried, carriedAt, allCarried, gimpShaped, gimpCheck, segmentFound, gimpSegment, offDomain, gimpColour};
 pub use crate::blending::blend;
+pub use crate::blending::blend_wave;
 pub use crate::blending::place_along;
 
 // The codes carried: of blending, and of colouring.

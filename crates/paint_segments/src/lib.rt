@@ -11,7 +11,7 @@ ghost use lib.Seq.{sets};
 ghost use Rattle.blend.specs.Channels.{channelsOf};
 ghost use Rattle.stops.specs.Stops.{colourAt};
 ghost use Rattle.stops.specs.Lent.{old, new};
-ghost use Rattle.gradient.specs.Gimp.{segments, gimpSegment, gimpColour};
+ghost use Rattle.gradient.specs.Gimp.{segments, gimpSegment, blended, gimpColour};
 ghost use Rattle.paint_segments.specs.Over.{agree, paintedOver, segmentsOver};
 ghost use Rattle.paint_segments.specs.Within.{Cut, Fits, Orderly, strictlyInside, Peeked, Starts, Written};
 
@@ -83,6 +83,16 @@ fn is_strictly_inside(left: f32, right: f32, t: f32) -> bool
     false
 }
 
+// The colour at a place of a segment.
+fn shade(g: Segment, pivot: f32, place: f32) -> Rgba
+    ensures { λ r. ⌜ r ≡ blended g pivot place ⌝ }
+{
+    if g.blending == gimp::SINUSOIDAL {
+        return gimp::blend_wave(g, pivot, place);
+    }
+    gimp::blend(g, pivot, place)
+}
+
 // Paints from point `start`, whose segment is s, as far as the points before `end` lie in it. Gives the first that is
 // left. The place of the next point is worked out before the colour of this one, so that its division does not wait.
 fn paint_held(
@@ -107,7 +117,7 @@ fn paint_held(
     while on {
         let t = point_or(ts, i + 1, end, g.left);
         let ahead = gimp::place_along(g.left, g.right, t);
-        let c = gimp::blend(g, pivot, place);
+        let c = shade(g, pivot, place);
         put_colour(out, 4 * i, c);
         i += 1;
         place = ahead;

@@ -22,7 +22,7 @@ use Rattle.stops.specs.Place.{firstAt, placeOf}
 use Rattle.stops.specs.Pair.{beyond, leftOf, rightOf, pairOf, between, colourIn}
 use Rattle.stops.specs.declared.Kind.{Kind}
 use Rattle.stops.specs.declared.Kind.the-variants.{Linear, Smoothstep, Basis, CatmullRom, Gimp}
-use Rattle.gradient.specs.Gimp.{search, segmentFound, gimpSegment, along, linearFactor, bent, blended, segmentColour, offDomain, gimpColour}
+use Rattle.gradient.specs.Gimp.{search, segmentFound, gimpSegment, along, linearFactor, bent, unwaved, blended, segmentColour, offDomain, gimpColour}
 use Rattle.stops.specs.Lent.{rampOf}
 use Rattle.gradient.specs.Ramp.{colourOf}
 use Rattle.sharp_ramp.specs.Sharp.{sharpPositions}
@@ -44,7 +44,7 @@ reds (b ∷ bs) = ofBits binary32 b ∷ f0 ∷ f0 ∷ f1 ∷ reds bs
 
 -- the red at t of a ramp
 pub red : Kind → List ℕ → List ℕ → List ℕ → ℕ → ℕ
-unfolding colourOf colourIn between pairOf leftOf rightOf beyond linearPair smoothPair basisPair catmullPair placeOf firstAt linear smooth weightsOf weightedSum basis chord tangent cubic coefficientsOf segmentOf cubicAt segmentAt magnitudeOf rootOf gimpColour offDomain gimpSegment segmentColour segmentFound search along linearFactor bent blended ofBits toBits add sub mul div neg le lt isNan
+unfolding colourOf colourIn between pairOf leftOf rightOf beyond linearPair smoothPair basisPair catmullPair placeOf firstAt linear smooth weightsOf weightedSum basis chord tangent cubic coefficientsOf segmentOf cubicAt segmentAt magnitudeOf rootOf gimpColour offDomain gimpSegment segmentColour segmentFound search along linearFactor bent unwaved blended ofBits toBits add sub mul div neg le lt isNan
 red kind positions channels codes t = toBits binary32 (colourOf (rampOf kind (floats positions) (reds channels) codes) (ofBits binary32 t) .r)
 
 -- from black at 0 to red at 1

@@ -7,6 +7,8 @@ use Rattle.blend.proofs.smoothstep.pair_colour.Reads as of-smoothstep-pair
 use Rattle.blend.proofs.sharp.pair_colour.Reads as of-sharp-pair
 use Rattle.blend.proofs.basis.pair_colour.Reads as of-basis-pair
 use Rattle.blend.proofs.catmull_rom.pair_colour.Reads as of-catmull-rom-pair
+use Rattle.blend.proofs.catmull_rom.chords.Reads as of-chords
+use Rattle.blend.proofs.catmull_rom.draw_segment.Reads as of-draw-segment
 use Rattle.blend.proofs.catmull_rom.segment.Reads as of-segment
 use Rattle.blend.proofs.catmull_rom.segment_at.Reads as of-segment-at
 use Rattle.blend.proofs.utils.interpolate_linear.Reads as of-interpolate-linear
@@ -31,6 +33,12 @@ basis-pair κs a = coincide (λ r e w. w)
 
 pub catmull-rom-pair : (κs : Lfts 0) (a : _) → Coincide (of-catmull-rom-pair.Learnt κs a) answer
 catmull-rom-pair κs a = coincide (λ r e w. w)
+
+pub chords : (κs : Lfts 0) (a : _) → Coincide (of-chords.Learnt κs a) answer
+chords κs a = coincide (λ r e w. w)
+
+pub draw-segment : (κs : Lfts 0) (a : _) → Coincide (of-draw-segment.Learnt κs a) answer
+draw-segment κs a = coincide (λ r e w. w)
 
 pub segment : (κs : Lfts 0) (a : _) → Coincide (of-segment.Learnt κs a) answer
 segment κs a = coincide (λ r e w. w)

@@ -9,6 +9,7 @@ use Rattle.gradient.proofs.colour_at.Reads as of-colour-at
 use Rattle.gradient.proofs.gimp.find_segment.Reads as of-find-segment
 use Rattle.gradient.proofs.blending.place_along.Reads as of-place-along
 use Rattle.gradient.proofs.blending.blend.Reads as of-blend
+use Rattle.gradient.proofs.blending.blend_wave.Reads as of-blend-wave
 use Rattle.gradient.proofs.gimp.is_off_domain.Reads as of-is-off-domain
 use Rattle.gradient.proofs.gimp.is_carried.Reads as of-is-carried
 use Rattle.gradient.proofs.gimp.check.Reads as of-check-segments
@@ -43,6 +44,9 @@ place-along κs a = coincide (λ r e w. w)
 
 pub blend : (κs : Lfts 0) (a : _) → Coincide (of-blend.Learnt κs a) answer
 blend κs a = coincide (λ r e w. w)
+
+pub blend-wave : (κs : Lfts 0) (a : _) → Coincide (of-blend-wave.Learnt κs a) answer
+blend-wave κs a = coincide (λ r e w. w)
 
 pub is-off-domain : (κs : Lfts 0) (a : _) → Coincide (of-is-off-domain.Learnt κs a) answer
 is-off-domain κs a = coincide (λ r e w. w)

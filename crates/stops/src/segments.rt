@@ -1,16 +1,22 @@
 // Catmull-Rom segments worked out once for a call: those of the first pairs, as many as a table has room for.
 use crate::Kind;
+use crate::colour;
+use crate::left_of;
 use crate::less;
 use crate::near;
+use crate::right_of;
 use crate::stop;
 use blend::Rgba;
 use blend::catmull_rom;
 use blend::utils;
 ghost use mathlib.Core.Path.{_≡_};
+ghost use mathlib.Core.Bool.{cond};
+ghost use lib.Dec.{ltb};
 ghost use lib.ListN.{length};
+ghost use Rattle.blend.specs.Chords.{chordsOf};
 ghost use Rattle.stops.specs.Lent.{old, new};
-ghost use Rattle.stops.specs.Near.{segmentIn};
-ghost use Rattle.stops.specs.Segments.{isCatmullRom, FillsTable, segmentBy};
+ghost use Rattle.stops.specs.Near.{segmentFor, segmentIn};
+ghost use Rattle.stops.specs.Segments.{isCatmullRom, FillsTable, segmentBy, chordsAfter, Chords};
 ghost use Rattle.stops.specs.declared.Place.the-variants.{Between};
 
 // The pairs of a table on the stack: 16 KiB, and 2 KiB for ramps of few stops, since setting the larger one up takes longer than
@@ -32,16 +38,69 @@ pub fn is_catmull_rom(kind: Kind) -> bool
     }
 }
 
-// Writes the segments of the pairs of n stops, until the table is full. Gives how many there are.
+// The chords from stop k to the stop after it, or to the mirrored one.
+fn chords_after(channels: &[f32], n: usize, k: usize) -> Rgba
+    ensures { λ r. ⌜ r ≡ chordsAfter (old channels) n k ⌝ }
+{
+    let p = colour(channels, less(k));
+    let q = colour(channels, k);
+    catmull_rom::chords(q, right_of(channels, n, k, p, q))
+}
+
+// The chords before the pair k - 1, k: those of the pair before it, `last`, or to the mirrored stop.
+fn chords_before(k: usize, last: Rgba, left: Rgba, p: Rgba) -> Rgba
+    ensures { λ r. ⌜ r ≡ cond (ltb 1 k) last (chordsOf left p) ⌝ }
+{
+    if 1 < k {
+        return last;
+    }
+    catmull_rom::chords(left, p)
+}
+
+// The segment of the pair k - 1, k, with the chords of the pair before it, its own and those after it in hand.
+fn segment_next(
+    channels: &[f32],
+    n: usize,
+    k: usize,
+    last: Rgba,
+    within: Rgba,
+    after: Rgba,
+) -> [[f32; 4]; 4]
+    requires { ⌜ Chords (now channels) k last within × (after ≡ chordsAfter (now channels) n k) ⌝ }
+    ensures { λ r. ⌜ r ≡ segmentFor (old channels) n k ⌝ }
+{
+    let p = colour(channels, less(k));
+    let q = colour(channels, k);
+    let left = left_of(channels, k, p, q);
+    let right = right_of(channels, n, k, p, q);
+    catmull_rom::draw_segment(
+        left,
+        p,
+        q,
+        right,
+        chords_before(k, last, left, p),
+        within,
+        after,
+    )
+}
+
+// Writes the segments of the pairs of n stops, until the table is full. Gives how many there are. Each pair hands its chords on
+// to the next.
 pub fn fill(channels: &[f32], n: usize, table: &mut [[[f32; 4]; 4]]) -> usize
     ensures { λ r. ⌜ FillsTable (old channels) n (old table) (new table) r ⌝ }
 {
+    let first = colour(channels, 0);
+    let mut last = catmull_rom::chords(first, first);
+    let mut within = last;
     let mut i = 0;
     while i < table.len() {
         if n <= i {
             return i;
         }
-        table[i] = near::segment_for(channels, n, i);
+        let after = chords_after(channels, n, i);
+        table[i] = segment_next(channels, n, i, last, within, after);
+        last = within;
+        within = after;
         i += 1;
     }
     i

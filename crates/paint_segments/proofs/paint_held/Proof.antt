@@ -68,8 +68,8 @@ point-or-requires c κs =
 place-along-requires-3 : tie.Need-place-along-requires-3 Inv-loop μ-loop
 place-along-requires-3 c κs = search needs
 
-blend-requires : tie.Need-blend-requires Inv-loop μ-loop
-blend-requires c κs = search needs
+shade-requires : tie.Need-shade-requires Inv-loop μ-loop
+shade-requires c κs = search needs
 
 mul-put-colour : tie.Need-mul-put-colour Inv-loop μ-loop
 mul-put-colour c =
@@ -126,8 +126,8 @@ loop-again c =
       λ e. omega arith,
       λ o room e.
           p .put-colour .ensures
-          ∙ ap (λ (r : List Float). sets r (4 * i) (channelsOf (d .blend .result))) (inv .6 o room e)
-          ∙ colours-next (gimpColour ps cs ks) ts o room i here (shaded ps cs ks (s .args .s) (a .hold .ensures) ts i lies (m .place-along .ensures) (inv .4 (l .loop-test .taken)) (d .blend .ensures)),
+          ∙ ap (λ (r : List Float). sets r (4 * i) (channelsOf (d .shade .result))) (inv .6 o room e)
+          ∙ colours-next (gimpColour ps cs ks) ts o room i here (shaded ps cs ks (s .args .s) (a .hold .ensures) ts i lies (m .place-along .ensures) (inv .4 (l .loop-test .taken)) (d .shade .ensures)),
     )
 
 same-length : tie.Need-same-length Inv-loop μ-loop
@@ -151,7 +151,7 @@ paint-held-spec =
     add-point-or
     point-or-requires
     place-along-requires-3
-    blend-requires
+    shade-requires
     mul-put-colour
     put-colour-requires
     add-i

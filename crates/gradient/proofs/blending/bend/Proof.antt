@@ -1,5 +1,5 @@
 -- `blending::bend` meets its contract: by the blending, and what the factors ensure. Assumes nothing.
-use Rattle.gradient.proofs.GimpLaws.{bent-increasing, bent-decreasing, bent-wave, bent-not}
+use Rattle.gradient.proofs.GimpLaws.{bent-increasing, bent-decreasing, bent-not}
 use borrow.Author.Needs.{needs}
 use Rattle.gradient.proofs.blending.bend.Statement.{statement}
 use Rattle.gradient.proofs.blending.bend.Tie as tie
@@ -16,17 +16,8 @@ spherical-decreasing-requires c κs = search needs
 returns-2 : tie.Need-returns-2
 returns-2 c = let a = c .before .before .before .args in bent-decreasing (a .blending) (a .f) (c .before .before .if1 .left) (c .before .if2 .taken) (c .spherical-decreasing .ensures)
 
-wave-requires : tie.Need-wave-requires
-wave-requires c κs = search needs
-
 returns-3 : tie.Need-returns-3
-returns-3 c =
-    let w = c .before in
-    let a = w .before .before .before .args in
-    bent-wave (a .blending) (a .f) (w .before .before .if1 .left) (w .before .if2 .left) (w .if3 .taken) (c .wave .ensures)
-
-returns-4 : tie.Need-returns-4
-returns-4 c = let a = c .before .before .before .args in bent-not (a .blending) (a .f) (c .before .before .if1 .left) (c .before .if2 .left) (c .if3 .left)
+returns-3 c = let a = c .before .before .args in bent-not (a .blending) (a .f) (c .before .if1 .left) (c .if2 .left)
 
 pub bend-spec : {M : Type 1} → statement M
 bend-spec =
@@ -36,6 +27,4 @@ bend-spec =
     returns
     spherical-decreasing-requires
     returns-2
-    wave-requires
-    returns-3
-    returns-4)
+    returns-3)

@@ -1,5 +1,5 @@
 -- `blending::segment_colour` meets its contract: what the calls ensure, put together. Assumes nothing.
-use Rattle.gradient.proofs.GimpLaws.{segment-coloured}
+use Rattle.gradient.proofs.GimpLaws.{by-wave, by-rest, segment-coloured}
 use borrow.Author.Needs.{needs}
 use Rattle.gradient.proofs.blending.segment_colour.Statement.{statement}
 use Rattle.gradient.proofs.blending.segment_colour.Tie as tie
@@ -10,12 +10,31 @@ place-along-requires c κs = search needs
 place-along-requires-2 : tie.Need-place-along-requires-2
 place-along-requires-2 c κs = search needs
 
+blend-wave-requires : tie.Need-blend-wave-requires
+blend-wave-requires c κs = search needs
+
+returns : tie.Need-returns
+returns c =
+    let test = c .before in
+    let place = test .before .before in
+    segment-coloured _ _ (place .before .place-along .ensures) (place .place-along2 .ensures) (by-wave _ _ _ (test .if1 .taken) (c .blend-wave .ensures))
+
 blend-requires : tie.Need-blend-requires
 blend-requires c κs = search needs
 
-returns : tie.Need-returns
-returns c = segment-coloured _ _ (c .before .before .place-along .ensures) (c .before .place-along2 .ensures) (c .blend .ensures)
+returns-2 : tie.Need-returns-2
+returns-2 c =
+    let test = c .before in
+    let place = test .before .before in
+    segment-coloured _ _ (place .before .place-along .ensures) (place .place-along2 .ensures) (by-rest _ _ _ (test .if1 .left) (c .blend .ensures))
 
 pub segment-colour-spec : {M : Type 1} → statement M
 segment-colour-spec =
-    tie.close (tie.spec place-along-requires place-along-requires-2 blend-requires returns)
+    tie.close
+    (tie.spec
+    place-along-requires
+    place-along-requires-2
+    blend-wave-requires
+    returns
+    blend-requires
+    returns-2)

@@ -1,32 +1,50 @@
--- `fill` meets its contract: after i turns the first i segments are there. Assumes nothing.
-use Prim.Native.Nat.{_-_}
+-- `fill` meets its contract: after i turns the first i segments are there, and the next pair is handed its chords. Assumes nothing.
+use Prim.Native.Nat.{_+_, _-_, _<_}
 use native.Mathlib.Omega.{arith}
-use borrow.Author.Needs.{scaled-fits}
+use borrow.Author.Needs.{needs, scaled-fits}
 use lib.ListN.{length}
+use Rattle.stops.specs.Segments.{Chords}
+use Rattle.stops.proofs.Chording.{chords-first, chords-next}
 use Rattle.stops.proofs.Tables.{Tabled, tabled-start, tabled-next, tabled}
 use Rattle.stops.proofs.segments.fill.Statement.{statement}
 use Rattle.stops.proofs.segments.fill.Tie as tie
 
 abbrev Inv-loop : tie.InvT-loop
-Inv-loop channels n table₀ i₀ table i = Tabled channels n table₀ i table
+Inv-loop channels n table₀ last₀ within₀ i₀ table last within i = Tabled channels n table₀ i table × (i < n → Chords channels i last within)
 
 abbrev μ-loop : tie.MeasureT-loop
-μ-loop channels n table₀ i₀ table i = length table₀ - i
+μ-loop channels n table₀ last₀ within₀ i₀ table last within i = length table₀ - i
+
+colour-requires : tie.Need-colour-requires Inv-loop μ-loop
+colour-requires c κs = search needs
+
+chords-requires : tie.Need-chords-requires Inv-loop μ-loop
+chords-requires c κs = search needs
 
 loop-holds : tie.Need-loop-holds Inv-loop μ-loop
-loop-holds c = tabled-start _ _ _
+loop-holds c = (tabled-start _ _ _, λ h. chords-first _ (c .before .colour .ensures) (c .chords .ensures))
 
 same-length : tie.Need-same-length Inv-loop μ-loop
-same-length c = c .before .before .loop .inv .long
+same-length c = c .before .before .loop .inv .0 .long
 
 returns : tie.Need-returns Inv-loop μ-loop
-returns c = let l = c .before .before .loop in tabled _ _ _ (l .i) (l .table) (l .inv) (omega (arith, l .inv .pairs, c .if1 .taken, c .before .loop-test .taken, l .inv .long))
+returns c =
+    let l = c .before .before .loop in
+    tabled _ _ _ (l .i) (l .table) (l .inv .0) (omega (arith, l .inv .0 .pairs, c .if1 .taken, c .before .loop-test .taken, l .inv .0 .long))
 
-segment-for-requires : tie.Need-segment-for-requires Inv-loop μ-loop
-segment-for-requires c κs = tt
+chords-after-requires : tie.Need-chords-after-requires Inv-loop μ-loop
+chords-after-requires c κs = search needs
 
-mul-t5 : tie.Need-mul-t5 Inv-loop μ-loop
-mul-t5 c = scaled-fits (c .before .before .before .loop .i) (length (c .before .before .before .before .before .args .table .now)) 64 (omega arith) (c .before .before .before .before .before .good .1 .1 .0 .1)
+segment-next-requires : tie.Need-segment-next-requires Inv-loop μ-loop
+segment-next-requires c κs =
+    let test = c .before in
+    (test .before .before .loop .inv .1 (omega (arith, test .if1 .left)), c .chords-after .ensures)
+
+mul-t9 : tie.Need-mul-t9 Inv-loop μ-loop
+mul-t9 c =
+    let at-loop = c .before .before .before .before in
+    let at-start = at-loop .before .before .before .before in
+    scaled-fits (at-loop .loop .i) (length (at-start .args .table .now)) 64 (omega arith) (at-start .good .1 .1 .0 .1)
 
 slice-set-from-table : tie.Need-slice-set-from-table Inv-loop μ-loop
 slice-set-from-table c = omega arith
@@ -39,15 +57,25 @@ loop-less c = omega arith
 
 loop-again : tie.Need-loop-again Inv-loop μ-loop
 loop-again c =
-    let s = c .before .before .before .before .before in
-    let l = c .before .before .before .loop in
-    tabled-next (s .args .channels .now) (s .args .n) (s .args .table .now) (l .i) (l .table) (c .segment-for .result) (omega (arith, l .inv .long, c .before .before .loop-test .taken)) (omega (arith, c .before .if1 .left)) (c .segment-for .ensures) (l .inv)
+    let at-after = c .before in
+    let test = at-after .before in
+    let at-loop = test .before .before in
+    let at-start = at-loop .before .before .before .before in
+    let l = at-loop .loop in
+    let cs = at-start .args .channels .now in
+    let n = at-start .args .n in
+    let here : l .i < n = omega (arith, test .if1 .left) in (
+      tabled-next cs n (at-start .args .table .now) (l .i) (l .table) (c .segment-next .result) (omega (arith, l .inv .0 .long, test .before .loop-test .taken)) here (c .segment-next .ensures) (l .inv .0),
+      λ more. chords-next cs n (l .i) (l .inv .1 here) (at-after .chords-after .ensures) more,
+    )
 
 same-length-2 : tie.Need-same-length-2 Inv-loop μ-loop
-same-length-2 c = c .before .loop .inv .long
+same-length-2 c = c .before .loop .inv .0 .long
 
 returns-2 : tie.Need-returns-2 Inv-loop μ-loop
-returns-2 c = let l = c .before .loop in tabled _ _ _ (l .i) (l .table) (l .inv) (omega (arith, l .inv .pairs, l .inv .within, l .inv .long, c .loop-test .left))
+returns-2 c =
+    let l = c .before .loop in
+    tabled _ _ _ (l .i) (l .table) (l .inv .0) (omega (arith, l .inv .0 .pairs, l .inv .0 .within, l .inv .0 .long, c .loop-test .left))
 
 pub fill-spec : {M : Type 1} → statement M
 fill-spec =
@@ -55,11 +83,14 @@ fill-spec =
     (tie.spec
     Inv-loop
     μ-loop
+    colour-requires
+    chords-requires
     loop-holds
     same-length
     returns
-    segment-for-requires
-    mul-t5
+    chords-after-requires
+    segment-next-requires
+    mul-t9
     slice-set-from-table
     add-i
     loop-less
