@@ -386,6 +386,18 @@ static void check_list(ColorgradListed made, Desk desk, Ramp ramp)
     expect(places[n - 1] == colorgrad_domain(LENT_RAMP(ramp)).max, "the last stop is at max");
 }
 
+/* Channels up to the largest of which nothing overflows: request (xii). */
+static bool is_moderate(Ramp ramp)
+{
+    float most = ramp.kind == COLORGRAD_LINEAR ? 0x1.fffffep126f : 0x1.555554p125f;
+    if (ramp.kind > COLORGRAD_SHARP)
+        return false;
+    for (size_t i = 0; i < ramp.channels_length; i++)
+        if (!(ramp.channels[i] >= -most && ramp.channels[i] <= most))
+            return false;
+    return true;
+}
+
 static void fuzz_flatten(Bytes in)
 {
     Ramp ramp = ramp_of(&in);
@@ -408,6 +420,7 @@ static void fuzz_flatten(Bytes in)
     } else {
         ColorgradListed thinned = colorgrad_thin(LENT_RAMP(ramp), ramp.threshold, LENT_RECORD(twice), LENT_STOPS(twice));
         expect(made.refusal != 9, "no list of our own sampling falls");
+        expect(made.refusal != 8 || !is_moderate(ramp), "no colour of a moderate ramp overflows");
         check_record(desk);
         check_marks(desk, ramp, ramp.threshold);
         expect(sampled.refusal == 0 && sampled.evaluations <= 13716 && same_record(desk, twice), "sampled alike");

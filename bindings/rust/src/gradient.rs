@@ -5,7 +5,7 @@ use crate::lent::{self, Kind, MOST_SEGMENTS};
 use crate::{Color, List, ParseGgrError, Record, Refusal};
 
 /// What passed its check is not refused.
-fn taken<T>(answer: Result<T, Refusal>) -> T {
+pub(crate) fn taken<T>(answer: Result<T, Refusal>) -> T {
     match answer {
         Ok(value) => value,
         Err(refusal) => unreachable!("a ramp that passed its check: {refusal}"),
@@ -58,7 +58,9 @@ pub trait Gradient {
     }
 
     /// The ramp as a list of stops to be mixed linearly. A point is kept where its colour differs from the mix around it by
-    /// more than the threshold. Refused with 4 where the domain reaches beyond 1e38, 8 where a colour overflows.
+    /// more than the threshold. Refused with 4 where the domain reaches beyond 1e38, 8 where a colour overflows: never, on a
+    /// domain within 1e38, for a linear ramp with channels below 2^127 in size, or a smoothstep or sharp one with channels up
+    /// to a sixth of `f32::MAX`. [`Ordinary`](crate::Ordinary) has this call without a `Result`.
     ///
     /// ```
     /// use guineaplume::{Color, Gradient, LinearGradient, Refusal};

@@ -212,7 +212,8 @@ impl Ramp<'_> {
     }
 
     /// Fills a record and makes its list. Refusals 1 to 5 change nothing; after 7, 8, 9 the record is filled and `out` is
-    /// zero.
+    /// zero. With room for [`MOST_POINTS`] there is no 7; 9 is never given; 8 is not for linear ramps with channels below
+    /// 2^127 in size, nor for smoothstep and sharp ones with channels up to a sixth of `f32::MAX`.
     pub fn flatten(&self, threshold: f32, record: RecordMut<'_>, out: StopsMut<'_>) -> Result<Listed, Refusal> {
         listed(with_ramp!(
             colorgrad_flatten,

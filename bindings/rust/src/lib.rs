@@ -37,6 +37,7 @@ mod calls;
 mod color;
 mod gradient;
 pub mod lent;
+mod ordinary;
 mod record;
 mod refusal;
 
@@ -45,6 +46,7 @@ pub use gradient::{
     BasisGradient, CatmullRomGradient, GimpGradient, Gradient, LinearGradient, Refresh, SharpGradient,
     SmoothstepGradient,
 };
+pub use ordinary::Ordinary;
 pub use record::{List, Record};
 pub use refusal::{ParseGgrError, Refusal};
 

@@ -17,3 +17,5 @@ pub mod Rounding
 pub mod Midpoint
 pub mod Wholes
 pub mod Clamped
+pub mod Spans
+pub mod UnitSums

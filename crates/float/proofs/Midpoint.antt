@@ -55,7 +55,7 @@ module _ (x y z : Float) (fx : T (finite x)) (fy : T (finite y)) (fz : T (finite
       rounds-le (twice-rounds z fz) (add-rounds x y fx fy) (den-pos z) (mul-pos (den-pos x) (den-pos y)) (omega arith)
 
 -- ---- doubling and halving is the identity there
-same-value : (x y : Float) (s : Bool) (a c : ℕ) → 0 < c → HasValue x s a c → HasValue y s a c → T (le x y)
+pub same-value : (x y : Float) (s : Bool) (a c : ℕ) → 0 < c → HasValue x s a c → HasValue y s a c → T (le x y)
 unfolding le
 same-value nan y s a c C h k = absurd h
 same-value (inf t) y s a c C h k = absurd h
@@ -198,6 +198,9 @@ module _ (x y : Float) (wx : Within x) (wy : Within y) where
 
   pub lt-mid : (z : Float) → T (lt z x) → T (lt z y) → T (lt z (mid x y))
   lt-mid z h k = elim lies [ inl l ↦ order.lt-le-trans z x (mid x y) h (l .low) | inr l ↦ order.lt-le-trans z y (mid x y) k (l .low) ]
+
+  pub le-mid : (z : Float) → T (le z x) → T (le z y) → T (le z (mid x y))
+  le-mid z h k = elim lies [ inl l ↦ order.le-trans z x (mid x y) h (l .low) | inr l ↦ order.le-trans z y (mid x y) k (l .low) ]
 
   pub mid-within : Within (mid x y)
   mid-within = record { one = div-fits binary32 (x ⊕ y) f2; low = lt-mid (neg top) (wx .low) (wy .low); high = mid-lt top (wx .high) (wy .high) }

@@ -13,7 +13,7 @@ use Rattle.float.proofs.Order.{le-trans}
 use Rattle.float.proofs.SignedRound.{rounds-le, zero-rounds, neg-le, pro, con, le→linear, add-rounds, mul-rounds}
 
 -- ---- sums and products keep the order
-dens-pos : (x y : Float) → 0 < den x * den y
+pub dens-pos : (x y : Float) → 0 < den x * den y
 dens-pos x y = mul-pos (den-pos x) (den-pos y)
 
 -- of fractions
@@ -74,13 +74,13 @@ module _ (x y z w : Float) (fx : T (finite x)) (fy : T (finite y)) (fz : T (fini
       cx cy cz cw)
 
 -- ---- differences
-neg-finite : (x : Float) → T (finite x) → T (finite (neg x))
+pub neg-finite : (x : Float) → T (finite x) → T (finite (neg x))
 unfolding neg
 neg-finite nan p = absurd p
 neg-finite (inf s) p = absurd p
 neg-finite (fin s m e) p = tt
 
-neg-view : (x : Float) → (pro (neg x) ≡ con x) × (con (neg x) ≡ pro x) × (den (neg x) ≡ den x)
+pub neg-view : (x : Float) → (pro (neg x) ≡ con x) × (con (neg x) ≡ pro x) × (den (neg x) ≡ den x)
 unfolding neg
 neg-view nan = (refl, refl, refl)
 neg-view (inf s) = (refl, refl, refl)

@@ -1,0 +1,14 @@
+pub mod UnitBlend
+pub mod Blends
+pub mod Climbing
+pub mod Rising
+pub mod Unrefused
+pub mod Colours
+pub mod Everywhere
+pub mod Grid
+pub mod RightHalves
+pub mod DomainUnits
+pub mod LastCell
+pub mod Calls
+pub mod Classes
+pub mod Theorems
