@@ -39,6 +39,7 @@ mod gradient;
 pub mod lent;
 mod record;
 mod refusal;
+mod steps;
 
 pub use color::Color;
 pub use gradient::{
@@ -47,6 +48,7 @@ pub use gradient::{
 };
 pub use record::{List, Record};
 pub use refusal::{ParseGgrError, Refusal};
+pub use steps::{Handed, Place, Stops};
 
 /// What the tool `flatten` prints for an input.
 ///
