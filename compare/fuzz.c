@@ -398,6 +398,29 @@ static bool is_moderate(Ramp ramp)
     return true;
 }
 
+/* One stop at a time: the stops of the list, or those before the one that it refuses, and then nothing more. */
+static void check_steps(ColorgradListed whole, Desk desk, Ramp ramp)
+{
+    const float *places = items(desk.places), *colours = items(desk.colours);
+    ColorgradPlace place = {COLORGRAD_START, 0, 0};
+    ColorgradHanded handed = colorgrad_next_stop(LENT_RAMP(ramp), ramp.threshold, LENT_RECORD(desk), place);
+    size_t n = 0, evaluations = 0;
+    for (; handed.has_stop; n++) {
+        expect(handed.refusal == 0 && n < COLORGRAD_MOST_POINTS, "as many stops as there are points");
+        expect(whole.refusal != 0 || (n < whole.stops && handed.position == places[n] &&
+                                      memcmp(&handed.colour, colours + 4 * n, sizeof handed.colour) == 0), "the list's stop");
+        evaluations += handed.evaluations;
+        handed = colorgrad_next_stop(LENT_RAMP(ramp), ramp.threshold, LENT_RECORD(desk), handed.place);
+    }
+    if (whole.refusal == 0)
+        expect(handed.refusal == 0 && n == whole.stops && evaluations == whole.evaluations, "the whole list, in steps");
+    else
+        expect(handed.refusal == whole.refusal || whole.refusal == COLORGRAD_NO_ROOM, "the list's refusal, in steps");
+    expect(handed.evaluations == 0 && handed.place.state == COLORGRAD_ENDED, "the end");
+    handed = colorgrad_next_stop(LENT_RAMP(ramp), ramp.threshold, LENT_RECORD(desk), handed.place);
+    expect(!handed.has_stop && handed.refusal == 0 && handed.place.state == COLORGRAD_ENDED, "nothing more");
+}
+
 static void fuzz_flatten(Bytes in)
 {
     Ramp ramp = ramp_of(&in);
@@ -428,6 +451,7 @@ static void fuzz_flatten(Bytes in)
         expect(made.refusal != 0 || sampled.evaluations + thinned.evaluations == made.evaluations, "evaluations add");
         expect(memcmp(items(desk.places), items(twice.places), desk.places.bytes) == 0 &&
                memcmp(items(desk.colours), items(twice.colours), desk.colours.bytes) == 0, "one list");
+        check_steps(thinned, twice, ramp);
     }
     clear_desk(desk);
     clear_desk(twice);

@@ -221,6 +221,41 @@ ColorgradListed colorgrad_flatten(uint32_t kind, const float *positions, size_t 
                                   uint8_t *counts, size_t counts_length, uint32_t *marks, size_t marks_length,
                                   float *places, size_t places_length, float *colours, size_t colours_length);
 
+/* ---- a list one stop at a time, for a caller that has room for one */
+
+/* Where a caller is in a list: all that it keeps between two calls. A place that is all 0 is the start. Row and index count
+ * after a stop alone; any state above 1 is the end. */
+#define COLORGRAD_START 0u
+#define COLORGRAD_AFTER 1u
+#define COLORGRAD_ENDED 2u
+
+typedef struct {
+    uint32_t state;
+    uint32_t row;
+    uint32_t index;
+} ColorgradPlace;
+
+/* The refusal, or 0; whether there is a stop, and its position and colour, else 0; the evaluations of this step; and the
+ * place to go on from. With neither a refusal nor a stop nothing more comes. */
+typedef struct {
+    uint32_t refusal;
+    bool has_stop;
+    float position;
+    ColorgradRgba colour;
+    size_t evaluations;
+    ColorgradPlace place;
+} ColorgradHanded;
+
+/* Hands out the next stop of the list that colorgrad_thin would make, and writes nothing. From the start, each time with the
+ * place handed out before, these are all its stops, and their evaluations add up to its own. Refused with 1 to 5 or 20: the
+ * place stays as it was; a place outside the record's rows and counts is 5. Refused with 8 or 9, after the stops before the
+ * faulty one: nothing more comes. There is no 7. */
+ColorgradHanded colorgrad_next_stop(uint32_t kind, const float *positions, size_t positions_length,
+                                    const float *channels, size_t channels_length, const uint8_t *codes,
+                                    size_t codes_length, float threshold, const float *rows, size_t rows_length,
+                                    const uint8_t *counts, size_t counts_length, const uint32_t *marks,
+                                    size_t marks_length, ColorgradPlace place);
+
 /* The ramp as it was (any but sharp and GIMP), its record, and an edit: the colour that stop gets, counted from 0. Only the
  * cells that the edit touches are filled anew; the record then equals one of the changed ramp made afresh, and its words
  * stay. The ramp itself is not written. Refused with 1 to 6 or 20: the record stays as it was. */

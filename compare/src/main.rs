@@ -27,6 +27,7 @@ mod sample;
 mod sharp;
 mod sine;
 mod smallest;
+mod steps;
 mod texts;
 mod tokens;
 mod torn;
@@ -38,7 +39,7 @@ use std::path::Path;
 use std::process::ExitCode;
 
 const USAGE: &str = "compare COMMAND [N] [--seed S] [--case I]
-  roots tokens colours sine sharp texts counts torn lists refresh marks many promise   one comparison, of N inputs
+  roots tokens colours sine sharp texts counts torn lists refresh edits marks many promise   one comparison, of N inputs
   all [PERCENT]      every comparison, at its full size or at that part of it
   differences        the smallest inputs of docs/DIFFERENCES.md, with the Rust's answers and ours
   files FOLDER       the .ggr files in it, as compare/fetch gets them
@@ -50,7 +51,7 @@ const USAGE: &str = "compare COMMAND [N] [--seed S] [--case I]
 type Comparison = (&'static str, fn(&Options) -> Vec<Tally>, u64);
 
 /// Each comparison with its full size.
-const COMPARISONS: [Comparison; 13] = [
+const COMPARISONS: [Comparison; 14] = [
     ("roots", roots::run, 1 << 32),
     ("tokens", tokens::run, 100_000_000),
     ("colours", colours::run, 2_000_000),
@@ -64,6 +65,7 @@ const COMPARISONS: [Comparison; 13] = [
     ("marks", marks::run, 20_000),
     ("many", many::run, 4_000),
     ("promise", promised::run, 1_000_000),
+    ("steps", steps::run, 20_000),
 ];
 
 fn main() -> ExitCode {

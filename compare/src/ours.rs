@@ -49,6 +49,25 @@ struct ListMade {
     evaluations: usize,
 }
 
+/// Where a caller is in a list, as the library has it: 0 the start, 1 after a stop, 2 the end.
+#[derive(Clone, Copy, PartialEq, Debug)]
+#[repr(C)]
+pub struct Place {
+    pub state: u32,
+    pub row: u32,
+    pub index: u32,
+}
+
+#[repr(C)]
+struct StopHanded {
+    refusal: u32,
+    has_stop: bool,
+    position: f32,
+    colour: [f32; 4],
+    evaluations: usize,
+    place: Place,
+}
+
 extern "C" {
     fn colorgrad_root(x: f32) -> f32;
     fn colorgrad_token(text: *const u8, length: usize) -> TokenRead;
@@ -134,6 +153,23 @@ extern "C" {
         colours: *mut f32,
         colours_length: usize,
     ) -> ListMade;
+    fn colorgrad_next_stop(
+        kind: u32,
+        positions: *const f32,
+        positions_length: usize,
+        channels: *const f32,
+        channels_length: usize,
+        codes: *const u8,
+        codes_length: usize,
+        threshold: f32,
+        rows: *const f32,
+        rows_length: usize,
+        counts: *const u8,
+        counts_length: usize,
+        marks: *const u32,
+        marks_length: usize,
+        place: Place,
+    ) -> StopHanded;
     fn colorgrad_flatten(
         kind: u32,
         positions: *const f32,
@@ -361,6 +397,40 @@ pub fn thin(ramp: &Ramp, threshold: f32, record: &Record, places: &mut [f32], co
             colours.len(),
         )
     })
+}
+
+/// A stop, or none where nothing more comes; or the refusal.
+pub type Told = Result<Option<(f32, [f32; 4])>, u32>;
+
+/// What a step tells, its evaluations, and the place to go on from.
+pub type Handed = (Told, usize, Place);
+
+pub fn next_stop(ramp: &Ramp, threshold: f32, record: &Record, place: Place) -> Handed {
+    let (p, c, k) = (&ramp.positions, &ramp.channels, &ramp.codes);
+    let handed = unsafe {
+        colorgrad_next_stop(
+            ramp.kind.code(),
+            p.as_ptr(),
+            p.len(),
+            c.as_ptr(),
+            c.len(),
+            k.as_ptr(),
+            k.len(),
+            threshold,
+            record.rows.as_ptr(),
+            record.rows.len(),
+            record.counts.as_ptr(),
+            record.counts.len(),
+            record.marks.as_ptr(),
+            record.marks.len(),
+            place,
+        )
+    };
+    let told = match handed.refusal {
+        0 => Ok(handed.has_stop.then_some((handed.position, handed.colour))),
+        number => Err(number),
+    };
+    (told, handed.evaluations, handed.place)
 }
 
 pub fn flatten(ramp: &Ramp, threshold: f32, record: &mut Record, places: &mut [f32], colours: &mut [f32]) -> Listed {

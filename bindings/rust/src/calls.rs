@@ -41,6 +41,24 @@ pub(crate) struct ListMade {
     pub(crate) evaluations: usize,
 }
 
+#[derive(Clone, Copy)]
+#[repr(C)]
+pub(crate) struct PlainPlace {
+    pub(crate) state: u32,
+    pub(crate) row: u32,
+    pub(crate) index: u32,
+}
+
+#[repr(C)]
+pub(crate) struct StopHanded {
+    pub(crate) refusal: u32,
+    pub(crate) has_stop: bool,
+    pub(crate) position: f32,
+    pub(crate) color: Color,
+    pub(crate) evaluations: usize,
+    pub(crate) place: PlainPlace,
+}
+
 #[repr(C)]
 pub(crate) struct TokenRead {
     pub(crate) is_number: bool,
@@ -177,6 +195,23 @@ extern "C" {
         colors: FloatsOut,
         _: usize,
     ) -> ListMade;
+    pub(crate) fn colorgrad_next_stop(
+        kind: u32,
+        positions: Floats,
+        _: usize,
+        channels: Floats,
+        _: usize,
+        codes: Bytes,
+        _: usize,
+        threshold: f32,
+        rows: Floats,
+        _: usize,
+        counts: Bytes,
+        _: usize,
+        marks: Words,
+        _: usize,
+        place: PlainPlace,
+    ) -> StopHanded;
     pub(crate) fn colorgrad_refresh(
         kind: u32,
         positions: Floats,

@@ -2,7 +2,7 @@
 
 use crate::color::{flat, unflat};
 use crate::lent::{self, Kind, MOST_SEGMENTS};
-use crate::{Color, List, ParseGgrError, Record, Refusal};
+use crate::{Color, List, ParseGgrError, Record, Refusal, Stops};
 
 /// What passed its check is not refused.
 pub(crate) fn taken<T>(answer: Result<T, Refusal>) -> T {
@@ -94,6 +94,23 @@ pub trait Gradient {
     /// domain; 9 where it is of another ramp and falls.
     fn thin(&self, record: &Record) -> Result<List, Refusal> {
         List::made(|out| self.lent().thin(record.threshold(), record.lent(), out))
+    }
+
+    /// The same stops one at a time, with room for none of them: a list's stops, or those before a faulty one and its refusal.
+    ///
+    /// ```
+    /// use guineaplume::{Color, Gradient, Refusal, SmoothstepGradient};
+    ///
+    /// let colors = [Color::new(0.0, 0.0, 0.0, 1.0), Color::new(1.0, 1.0, 1.0, 1.0)];
+    /// let ramp = SmoothstepGradient::new(&[0.0, 1.0], &colors)?;
+    /// let record = ramp.sample(0.007)?;
+    /// let list = ramp.thin(&record)?;
+    /// let stops: Vec<_> = ramp.stops_of(&record).collect::<Result<_, _>>()?;
+    /// assert!(list.stops().eq(stops));
+    /// # Ok::<(), Refusal>(())
+    /// ```
+    fn stops_of<'a>(&'a self, record: &'a Record) -> Stops<'a> {
+        Stops::new(self.lent(), record.threshold(), record.lent())
     }
 }
 

@@ -120,7 +120,7 @@ pub struct Listed {
     pub evaluations: usize,
 }
 
-fn answer<T>(number: u32, value: T) -> Result<T, Refusal> {
+pub(crate) fn answer<T>(number: u32, value: T) -> Result<T, Refusal> {
     match number {
         0 => Ok(value),
         _ => Err(Refusal::from_number(number).expect("every refusal has a number")),

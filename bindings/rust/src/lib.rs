@@ -40,6 +40,7 @@ pub mod lent;
 mod ordinary;
 mod record;
 mod refusal;
+mod steps;
 
 pub use color::Color;
 pub use gradient::{
@@ -49,6 +50,7 @@ pub use gradient::{
 pub use ordinary::Ordinary;
 pub use record::{List, Record};
 pub use refusal::{ParseGgrError, Refusal};
+pub use steps::{Handed, Place, Stops};
 
 /// What the tool `flatten` prints for an input.
 ///

@@ -15,6 +15,9 @@ pub use linearize::flatten;
 pub use linearize::sample;
 pub use linearize::thin;
 
+// The same list one stop at a time, for a caller that has room for one.
+pub use next_stop::next_stop;
+
 // An editor's change of one colour: record and list come out as if made afresh from the changed ramp.
 pub use refresh::refresh;
 pub use refresh::refresh_list;

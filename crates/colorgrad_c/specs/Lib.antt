@@ -1,5 +1,6 @@
 pub mod Leaves
 pub mod Ramps
+pub mod Steps
 pub mod Gimp
 pub mod Lists
 pub mod Edits

@@ -16,7 +16,7 @@ use Rattle.stops.specs.Answers.{onFine}
 use Rattle.stops.specs.declared.Checked.{Checked}
 use Rattle.stops.specs.declared.Checked.the-variants as checked
 use Rattle.gradient.specs.Ramp.{maxOf, colourOf}
-use Rattle.linearize.specs.Places.{listOf}
+use Rattle.places.specs.Places.{listOf}
 use Rattle.sampling.specs.Lent.{Held}
 use Rattle.sampling.specs.Sampling.{farOf, heldCheck, sampleAnswer, fresh, freshEvaluations}
 use Rattle.linearize.specs.Desk.{answerBy, flattenEvaluations}
@@ -25,7 +25,7 @@ use Rattle.linearize.proofs.Records.{fresh-ready}
 use Rattle.sampling.proofs.Answers.{fresh-bound}
 use Rattle.linearize.proofs.Bounds.{list-bound}
 use Rattle.linearize.proofs.Calls.{kept-room}
-use Rattle.linearize.proofs.Following.{list-some, list-most}
+use Rattle.places.proofs.Following.{list-some, list-most}
 use Rattle.refresh.specs.Edit.{edited}
 use Rattle.refresh.specs.RefreshDesk.{refreshCheck}
 use Rattle.refresh.specs.declared.edit.Edit.{Edit}

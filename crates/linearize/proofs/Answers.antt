@@ -10,7 +10,7 @@ use Rattle.gradient.specs.Ramp.{maxOf, colourOf}
 use Rattle.sampling.specs.Lent.{Held}
 use Rattle.linearize.specs.Lent.{Output, outputOf}
 use Rattle.sampling.specs.Midpoints.{Far}
-use Rattle.linearize.specs.Places.{listOf}
+use Rattle.places.specs.Places.{listOf}
 use Rattle.linearize.specs.Desk.{listedOf, listAnswer, answerBy, withSampling, pointsIn, room, thinOutput}
 use Rattle.sampling.specs.Sampling.{farOf}
 use Rattle.records.specs.Fitness.{thinCheck}

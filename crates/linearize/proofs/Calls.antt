@@ -13,7 +13,7 @@ use Rattle.gradient.specs.Ramp.{minOf, maxOf, colourOf}
 use Rattle.sampling.specs.Lent.{Held}
 use Rattle.linearize.specs.Lent.{Output}
 use Rattle.sampling.specs.Cells.{rowsOf, countsOf}
-use Rattle.linearize.specs.Places.{listOf}
+use Rattle.places.specs.Places.{listOf}
 use Rattle.sampling.specs.Midpoints.{Gradient, Far}
 use Rattle.thinning.specs.Kept.{keptOf, stopRefusal, firstRefusal, refusalFrom, refusalOf, listEvaluations}
 use Rattle.sampling.specs.Sampling.{farOf, heldCheck, fresh, freshEvaluations}
@@ -24,7 +24,7 @@ use Rattle.linearize.specs.declared.Listed.{Listed}
 use Rattle.sampling.proofs.Bounds.{sampling-bound}
 use Rattle.linearize.proofs.Bounds.{list-bound}
 use Rattle.linearize.proofs.Records.{sampled-ready}
-use Rattle.linearize.proofs.Following.{list-some, list-most}
+use Rattle.places.proofs.Following.{list-some, list-most}
 use Rattle.linearize.proofs.Checks.{ready}
 use Rattle.thinning.proofs.Stops.{has-room}
 

@@ -5,6 +5,7 @@ use native.Mathlib.Omega.{arith}
 use mathlib.Core.List.{List}
 use lib.ListN.{length}
 use lib.Ieee.{Float}
+use Rattle.places.specs.Places.{Ready}
 use Rattle.stops.specs.declared.Checked.the-variants as checked
 use Rattle.stops.specs.Lent.{Ramp}
 use Rattle.sampling.specs.Lent.{Held}
@@ -12,7 +13,6 @@ use Rattle.sampling.proofs.Checks.{record-lengths}
 use Rattle.records.specs.Fitness.{countsCheck, thinCheck}
 use Rattle.records.proofs.Counting.{each-good, all-good, counts-pass}
 use Rattle.records.proofs.Passing.{sample-fine, counts-fine}
-use Rattle.linearize.specs.Inner.{Ready}
 
 pub ready : (ramp : Ramp) (asked : Float) (was : Held) → thinCheck ramp asked was ≡ checked.Fine → Ready (was .rows) (was .counts)
 ready ramp asked was h =

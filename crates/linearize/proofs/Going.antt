@@ -8,14 +8,14 @@ use lib.ListN.{length, drop, drop-of-length-le}
 use lib.Seq.{drop-cons}
 use lib.Ieee.{Float, nan}
 use Rattle.sampling.specs.Midpoints.{Gradient, Far}
-use Rattle.linearize.specs.Places.{listOf, firstPlace, nextPlace, pointAt, pointsBefore, InRecord}
+use Rattle.places.specs.Places.{listOf, firstPlace, nextPlace, pointAt, pointsBefore, InRecord, Ready}
 use Rattle.thinning.specs.Walk.{Run, run, emitRun, stepRun, Outcome, outcome}
 use Rattle.sampling.specs.Inner.{Coloured}
-use Rattle.linearize.specs.Inner.{Ready, Started, Thinned}
-use Rattle.linearize.specs.declared.RowPlace.{RowPlace}
+use Rattle.linearize.specs.Inner.{Started, Thinned}
+use Rattle.places.specs.declared.RowPlace.{RowPlace}
 use Rattle.sampling.specs.declared.Point.{Point}
 use Rattle.thinning.specs.declared.Progress.{Progress}
-use Rattle.linearize.proofs.Following.{second-within, second-before, list-most, point-is, before-next, next-within, more-follow, before-end}
+use Rattle.places.proofs.Following.{second-within, second-before, list-most, point-is, before-next, next-within, more-follow, before-end}
 use Rattle.thinning.proofs.Walks.{Emitted, emitted-as, Stepped, stepped, last-stop}
 
 module _ (g : Gradient) (far : Far) (room : ℕ) (rows : List Float) (counts : List ℕ) (max : Float) (r₀ : Run) where

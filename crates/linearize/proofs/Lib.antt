@@ -2,7 +2,6 @@
 pub mod Records
 pub mod Bounds
 pub mod Checks
-pub mod Following
 pub mod Going
 pub mod Lists
 pub mod Answers

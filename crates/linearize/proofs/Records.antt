@@ -1,6 +1,7 @@
 -- The record of a sampling may be thinned. Assumes nothing.
 use mathlib.Core.Path.{_≡_}
 use lib.Ieee.{Float}
+use Rattle.places.specs.Places.{Ready}
 use Rattle.stops.specs.Lent.{Ramp}
 use Rattle.gradient.specs.Ramp.{minOf, maxOf, colourOf}
 use Rattle.sampling.specs.Lent.{Held}
@@ -9,7 +10,6 @@ use Rattle.sampling.specs.Cells.{rowsOf, countsOf}
 use Rattle.sampling.specs.Sampling.{farOf, fresh}
 use Rattle.sampling.proofs.Rows.{cell-count-some, cell-count-most}
 use Rattle.sampling.proofs.Filling.{rows-length, counts-length, count-at}
-use Rattle.linearize.specs.Inner.{Ready}
 
 module _ (g : Gradient) (far : Far) (lo hi : Float) where
   pub sampled-ready : Ready (rowsOf g far lo hi) (countsOf g far lo hi)

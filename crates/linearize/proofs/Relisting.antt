@@ -32,24 +32,19 @@ use Rattle.sampling.proofs.Renewing.{anew-length, none-held, none-evaluations}
 use Rattle.sampling.proofs.Bounds.{resampling-bound}
 use Rattle.sampling.proofs.Answers.{resampling-refused, Again}
 use Rattle.linearize.specs.Lent.{Output}
-use Rattle.linearize.specs.Places.{listOf}
+use Rattle.places.specs.Places.{listOf, Ready}
 use Rattle.thinning.specs.Kept.{keptOf, refusalOf, listEvaluations}
 use Rattle.linearize.specs.Desk.{evaluationsOfListed, answerBy, withSampling, listAnswer, pointsIn, room, written, flattenEvaluations, flattenOutput}
-use Rattle.linearize.specs.Inner.{Ready, ListMade}
+use Rattle.linearize.specs.Inner.{ListMade}
 use Rattle.linearize.specs.Promises.{Flattens}
 use Rattle.linearize.specs.Relist.{countFits, countsFit, keptGood, relistCheck, relistPoints, relistHeld, relistOutput, Relists}
 use Rattle.linearize.specs.declared.Listed.{Listed}
 use Rattle.linearize.specs.declared.Listed.the-variants as listed
 use Rattle.linearize.proofs.Bounds.{answer-bound}
-use Rattle.linearize.proofs.Following.{list-some, list-most}
+use Rattle.places.proofs.Following.{list-some, list-most}
 use Rattle.linearize.proofs.Answers.{Lists, tells, added, both}
 
 -- ---- the counts of the cells kept
-pub past-counts : (l : List ℕ) (i : ℕ) → length l ≤ i → 0 ≡ getD l i 0
-past-counts [] i h = refl
-past-counts (x ∷ l) zero h = absurd (omega arith)
-past-counts (x ∷ l) (suc i) h = past-counts l i (omega arith)
-
 module _ (n : ℕ) where
   pub not-kept : (k : Bool) → k ≡ false → true ≡ countFits k n
   unfolding countFits

@@ -12,7 +12,7 @@ use Rattle.sampling.specs.Midpoints.{Gradient, Far}
 use Rattle.sampling.specs.Sampling.{heldCheck, farOf, fresh, freshEvaluations}
 use Rattle.records.specs.Fitness.{thinCheck}
 use Rattle.linearize.specs.Lent.{Output, outputOf}
-use Rattle.linearize.specs.Places.{listOf}
+use Rattle.places.specs.Places.{listOf}
 use Rattle.thinning.specs.Counts.{sumOf}
 use Rattle.thinning.specs.Kept.{keptOf, refusalOf, roomOf, positionsWritten, channelsWritten, listEvaluations}
 use Rattle.linearize.specs.declared.Listed.{Listed}

@@ -10,20 +10,13 @@ use Rattle.difference.specs.Difference.{exceeds}
 use Rattle.sampling.specs.Constants.{cells, rowLength, recordLength}
 use Rattle.sampling.specs.Midpoints.{Gradient, Far}
 use Rattle.sampling.specs.Inner.{Coloured}
-use Rattle.linearize.specs.Places.{listOf}
+use Rattle.places.specs.Places.{listOf}
 use Rattle.thinning.specs.Kept.{positionsWritten, channelsWritten}
 use Rattle.linearize.specs.Lent.{Output}
 use Rattle.thinning.specs.Walk.{Run, run, Outcome, Ends, outcome}
 use Rattle.linearize.specs.Desk.{listAnswer, room}
 use Rattle.thinning.specs.declared.Progress.{Progress}
 use Rattle.linearize.specs.declared.Listed.{Listed}
-
--- a record that may be thinned
-pub record Ready (rows : List Float) (counts : List ℕ) : Type 0 where
-  pub long : length rows ≡ recordLength
-  pub many : length counts ≡ cells
-  pub some : (i : ℕ) → i < cells → 1 ≤ getD counts i 0
-  pub most : (i : ℕ) → i < cells → getD counts i 0 ≤ rowLength
 
 -- thinning may start: the first stop is written
 pub record Started (g : Gradient) (room : ℕ) (s : Progress) : Type 0 where

@@ -1,5 +1,4 @@
 pub mod Lent
-pub mod Places
 pub mod Desk
 pub mod Inner
 pub mod Promises

@@ -1,24 +1,15 @@
 // The counts of cells that are kept: what a list after a resampling asks of them.
 use crate::Listed;
+use places::count_at;
 use refusals::BAD_RECORD;
 use sampling::Sampler;
 use stops::Checked;
 ghost use mathlib.Core.Path.{_≡_};
-ghost use lib.ListN.{getD};
 ghost use Rattle.refusals.specs.Refusals.{badRecord};
 ghost use Rattle.stops.specs.Answers.{onFine};
 ghost use Rattle.stops.specs.Lent.{old};
 ghost use Rattle.linearize.specs.Relist.{countFits, keptGood};
 ghost use Rattle.linearize.specs.declared.Listed.the-variants as listed;
-
-fn count_at(counts: &[u8], i: usize) -> usize
-    ensures { λ r. ⌜ r ≡ getD (old counts) i 0 ⌝ }
-{
-    if i < counts.len() {
-        return counts[i] as usize;
-    }
-    0
-}
 
 // The count of a kept cell is 1 to 128.
 fn count_fits(kept: bool, n: usize) -> bool

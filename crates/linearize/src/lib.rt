@@ -28,12 +28,6 @@ pub enum Listed {
     Refused(u8),
 }
 
-// A place in a record: a row and an index in it. Max stands at the start of the row after the last.
-pub(crate) struct RowPlace {
-    pub(crate) row: usize,
-    pub(crate) index: usize,
-}
-
 // Thins a record to stops in the lent outputs. Refusals 1 to 5 and 20 leave the outputs as they were, 7 to 9 set them to zero.
 pub fn thin(
     kind: Kind,

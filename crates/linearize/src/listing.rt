@@ -1,6 +1,8 @@
 // Thinning: the points of a record one after the other, each kept or not, and the stops written out.
 use crate::Listed;
-use crate::RowPlace;
+use places::RowPlace;
+use places::next_place;
+use places::point_at;
 use sampling::Sampler;
 use sampling::cells::evaluate;
 use slices::zero_from;
@@ -11,45 +13,18 @@ use thinning::emit;
 use thinning::room_of;
 use thinning::step;
 ghost use mathlib.Core.Path.{_≡_};
-ghost use Prim.Native.Nat.{_+_, _*_, _≤_, _<_};
+ghost use Prim.Native.Nat.{_+_, _*_, _≤_};
 ghost use lib.ListN.{length};
 ghost use Rattle.gradient.specs.Ramp.{checkOf, colourOf};
-ghost use Rattle.sampling.specs.Constants.{cells, rowLength, recordLength};
-ghost use Rattle.linearize.specs.Places.{nextPlace, pointAt};
+ghost use Rattle.sampling.specs.Constants.{recordLength};
+ghost use Rattle.places.specs.Places.{Ready};
 ghost use Rattle.thinning.specs.Kept.{writtenOf};
 ghost use Rattle.linearize.specs.Desk.{listedOf};
 ghost use Rattle.sampling.specs.Inner.{Prepared};
 ghost use Rattle.stops.specs.declared.Checked.the-variants.{Fine};
-ghost use Rattle.linearize.specs.Inner.{Ready, Started, points, MakesList, ThinsRest};
+ghost use Rattle.linearize.specs.Inner.{Started, points, MakesList, ThinsRest};
 ghost use Rattle.linearize.specs.Lent.{lentOutput};
 ghost use Rattle.stops.specs.Lent.{rampIn, lentRamp, old, new};
-
-fn next_place(counts: &[u8], place: RowPlace) -> RowPlace
-    requires { ⌜ (length (now counts) ≡ cells) × ((place .row < cells) × (place .index < rowLength)) ⌝ }
-    ensures { λ r. ⌜ r ≡ nextPlace (old counts) place ⌝ }
-{
-    let row = place.row;
-    let index = place.index + 1;
-    if index < counts[row] as usize {
-        return RowPlace { row, index };
-    }
-    RowPlace {
-        row: row + 1,
-        index: 0,
-    }
-}
-
-fn point_at(rows: &[f32], max: f32, place: RowPlace) -> f32
-    requires { ⌜ (length (now rows) ≡ recordLength) × (place .index < rowLength) ⌝ }
-    ensures { λ r. ⌜ r ≡ pointAt (old rows) max place ⌝ }
-{
-    let row = place.row;
-    if row < Sampler::CELLS {
-        let at = row * Sampler::ROW + place.index;
-        return rows[at];
-    }
-    max
-}
 
 // Thins the points after the first, from place to place; the last is always kept.
 fn thin_points(

@@ -41,7 +41,7 @@ use Rattle.linearize.specs.declared.Listed.the-variants as listed
 use Rattle.linearize.proofs.Bounds.{stops-bound, list-bound}
 use Rattle.linearize.proofs.Calls.{flatten-most}
 use Rattle.linearize.proofs.Records.{sampled-ready}
-use Rattle.linearize.proofs.Following.{list-some, list-most}
+use Rattle.places.proofs.Following.{list-some, list-most}
 use Rattle.refresh.specs.AfterEdit.{Shaped}
 use Rattle.ordinary.specs.Ordinary.{FiniteOnDomain, NeverRefused}
 use Rattle.ordinary.proofs.Climbing.{Climbs, from-lower, item-low, item-high, in-order, kept-climb}

@@ -25,7 +25,7 @@ use Rattle.sampling.specs.Constants.{cells, depth, farthest}
 use Rattle.sampling.specs.Midpoints.{Gradient, Far, halves}
 use Rattle.sampling.specs.Cells.{edgeOf, pointsOf, rowOf, cellRow, cellCount, rowsOf, countsOf}
 use Rattle.sampling.proofs.Rows.{cell-count-most}
-use Rattle.linearize.specs.Places.{rowPoints, listOf}
+use Rattle.places.specs.Places.{rowPoints, listOf}
 use Rattle.reach.specs.KeptCells.{isDomain}
 use Rattle.reach.proofs.Domains.{end-within}
 use Rattle.refresh.proofs.Agree.{row-at, count-at}

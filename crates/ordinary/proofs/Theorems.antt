@@ -25,7 +25,7 @@ use Rattle.sampling.specs.declared.Sampled.{Sampled}
 use Rattle.sampling.specs.declared.Sampled.the-variants as sampled
 use Rattle.thinning.specs.Kept.{refusalOf}
 use Rattle.linearize.specs.Lent.{Output}
-use Rattle.linearize.specs.Places.{listOf}
+use Rattle.places.specs.Places.{listOf}
 use Rattle.linearize.specs.Desk.{numberOfListed, numberBy, pointsIn, room}
 use Rattle.linearize.specs.Promises.{Thins, Flattens}
 use Rattle.linearize.specs.declared.Listed.{Listed}

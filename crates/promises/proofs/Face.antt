@@ -27,6 +27,7 @@ use Rattle.colorgrad_c.proofs.tool.colorgrad_desk.Reads as of-desk
 use Rattle.colorgrad_c.proofs.lists.colorgrad_sample.Reads as of-sample
 use Rattle.colorgrad_c.proofs.lists.colorgrad_thin.Reads as of-thin
 use Rattle.colorgrad_c.proofs.lists.colorgrad_flatten.Reads as of-flatten
+use Rattle.colorgrad_c.proofs.steps.colorgrad_next_stop.Reads as of-next-stop
 use Rattle.colorgrad_c.proofs.edits.colorgrad_refresh.Reads as of-refresh
 use Rattle.colorgrad_c.proofs.edits.colorgrad_refresh_list.Reads as of-refresh-list
 
@@ -119,3 +120,6 @@ domain κs a = by-code-alone (a .0) (λ kind. coincide (λ r e w. w)) (coincide 
 
 pub at : (κs : Lfts 3) (a : _) → Coincide (of-at.Learnt κs a) answer
 at κs a = by-code-alone (a .0) (λ kind. coincide (λ r e w. w .answer)) (coincide (λ r e w. w))
+
+pub next-stop : (κs : Lfts 6) (a : _) → Coincide (of-next-stop.Learnt κs a) answer
+next-stop κs a = by-code-alone (a .0) (λ kind. coincide (λ r e w. w .handed)) (coincide (λ r e w. w))

@@ -18,7 +18,9 @@ pub mod SharpRamp
 pub mod Ggr
 pub mod Sampling
 pub mod Thinning
+pub mod Places
 pub mod Linearize
+pub mod NextStop
 pub mod Reach
 pub mod Refresh
 pub mod Paint

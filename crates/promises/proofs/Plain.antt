@@ -12,6 +12,8 @@ use Rattle.plain.proofs.lists.sampled_shown.Reads as of-sampled-shown
 use Rattle.plain.proofs.lists.listed_shown.Reads as of-listed-shown
 use Rattle.plain.proofs.lists.refreshed_shown.Reads as of-refreshed-shown
 use Rattle.plain.proofs.name.write_name.Reads as of-write-name
+use Rattle.plain.proofs.steps.place_from.Reads as of-place-from
+use Rattle.plain.proofs.steps.handed_shown.Reads as of-handed-shown
 
 pub kind-of : (κs : Lfts 0) (a : _) → Coincide (of-kind-of.Learnt κs a) answer
 kind-of κs a = coincide (λ r e w. w)
@@ -39,6 +41,12 @@ listed-shown κs a = coincide (λ r e w. w)
 
 pub refreshed-shown : (κs : Lfts 0) (a : _) → Coincide (of-refreshed-shown.Learnt κs a) answer
 refreshed-shown κs a = coincide (λ r e w. w)
+
+pub place-from : (κs : Lfts 0) (a : _) → Coincide (of-place-from.Learnt κs a) answer
+place-from κs a = coincide (λ r e w. w)
+
+pub handed-shown : (κs : Lfts 0) (a : _) → Coincide (of-handed-shown.Learnt κs a) answer
+handed-shown κs a = coincide (λ r e w. w)
 
 -- with the lent output
 pub write-name : (κs : Lfts 2) (a : _) → Coincide (of-write-name.Learnt κs a) (λ r e. r with now (e .1 .0))

@@ -8,6 +8,8 @@ use Rattle.thinning.proofs.sum.Reads as of-sum
 use Rattle.thinning.proofs.room_of.Reads as of-room-of
 use Rattle.thinning.proofs.emit.Reads as of-emit
 use Rattle.thinning.proofs.step.Reads as of-step
+use Rattle.thinning.proofs.weigh.Reads as of-weigh
+use Rattle.thinning.proofs.stop_refusal.Reads as of-stop-refusal
 
 -- the parts of a run
 progress-of : {a b : Run} → a ≡ b → a .progress ≡ b .progress
@@ -24,6 +26,12 @@ sum κs a = coincide (λ r e w. w)
 
 pub room-of : (κs : Lfts 0) (a : _) → Coincide (of-room-of.Learnt κs a) answer
 room-of κs a = coincide (λ r e w. w)
+
+pub stop-refusal : (κs : Lfts 0) (a : _) → Coincide (of-stop-refusal.Learnt κs a) answer
+stop-refusal κs a = coincide (λ r e w. w)
+
+pub weigh : (κs : Lfts 0) (a : _) → Coincide (of-weigh.Learnt κs a) answer
+weigh κs a = coincide (λ r e w. w)
 
 -- the progress and both outputs
 pub emit : (κs : Lfts 2) (a : _) → Coincide (of-emit.Learnt κs a) (λ r e. r with now (e .1 .1 .1 .0) with now (e .1 .1 .1 .1 .0))

@@ -7,6 +7,7 @@ use Prim.Native.Nat.{ℕ, zero, suc, _+_, _*_, _≤_, _<_}
 use native.Mathlib.Omega.{arith}
 use lib.ListN.{length, take, drop, getD}
 use lib.Ieee.{Float}
+use Rattle.places.specs.Places.{Ready}
 use Rattle.sampling.specs.Constants.{cells, rowLength, recordLength}
 use Rattle.sampling.specs.Midpoints.{Gradient, Far}
 use Rattle.slices.specs.Joined.{summed}
@@ -15,7 +16,6 @@ use Rattle.sampling.specs.Anew.{anewRow, anewCount, anewTries, anewRows, anewCo
 use Rattle.sampling.proofs.Rows.{cell-count-some, cell-count-most}
 use Rattle.slices.proofs.Joined.{length-joined, single}
 use Rattle.sampling.proofs.Renewing.{anew-length, row-kept}
-use Rattle.linearize.specs.Inner.{Ready}
 use Rattle.refresh.proofs.Agree.{joined-same, joined-cell}
 
 module _ (g : Gradient) (far : Far) (keep : ℕ → Bool) (lo hi : Float) (rows : List Float) (counts : List ℕ) where

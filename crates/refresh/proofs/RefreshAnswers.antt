@@ -17,18 +17,17 @@ use Rattle.sampling.specs.Lent.{Held}
 use Rattle.sampling.specs.Sampling.{farOf, heldCheck}
 use Rattle.sampling.specs.declared.Sampled.{Sampled}
 use Rattle.sampling.proofs.Bounds.{summed-most}
-use Rattle.linearize.specs.Places.{listOf}
+use Rattle.places.specs.Places.{listOf, Ready}
 use Rattle.thinning.specs.Kept.{refusalOf, listEvaluations}
 use Rattle.linearize.specs.Lent.{Output}
 use Rattle.linearize.specs.Desk.{evaluationsOfListed, valueBy, pointsIn, room}
-use Rattle.linearize.specs.Inner.{Ready}
 use Rattle.linearize.specs.declared.Listed.{Listed}
 use Rattle.linearize.specs.declared.Listed.the-variants as listed
 use Rattle.sampling.proofs.Words.{same-held}
 use Rattle.linearize.proofs.Checks.{ready}
 use Rattle.linearize.proofs.Answers.{tells}
 use Rattle.linearize.proofs.Bounds.{list-bound}
-use Rattle.linearize.proofs.Following.{list-some, list-most}
+use Rattle.places.proofs.Following.{list-some, list-most}
 use Rattle.reach.specs.KeptCells.{keptCells}
 use Rattle.refresh.specs.Edit.{edited}
 use Rattle.linearize.specs.Relist.{countFits, countsFit, relistCheck, relistHeld, relistOutput, Relists}

@@ -14,43 +14,51 @@ use Rattle.blend.specs.Blend.{linear}
 use Rattle.blend.specs.declared.Rgba.{Rgba}
 use Rattle.sampling.specs.Midpoints.{Gradient, Far}
 use Rattle.thinning.specs.Counts.{mostCount, sumOf}
-use Rattle.thinning.specs.Kept.{nearOf, stays, thinned, weighed, stopRefusal, firstRefusal, refusalFrom}
+use Rattle.thinning.specs.Kept.{nearOf, stays, weighs, thinned, weighed, stopRefusal, firstRefusal, refusalFrom}
 use Rattle.blend.specs.Channels.{channelsOf, coloursOf}
-use Rattle.thinning.specs.Walk.{Run, run, emitBy, emitRun, onceMore, stepRun, Outcome, reached, comesTo, outcome, Ends}
+use Rattle.thinning.specs.Walk.{Run, run, emitBy, emitRun, weighOf, moreRun, stepBy, stepRun, Outcome, reached, comesTo, outcome, Ends}
 use Rattle.sampling.specs.Inner.{Coloured}
 use Rattle.sampling.specs.declared.Point.{Point}
+use Rattle.thinning.specs.declared.Weighed.{Weighed}
 use Rattle.slices.proofs.Stores.{sets-append}
 use Rattle.thinning.proofs.Stops.{has-room}
 
 -- the points kept and weighed, by the fate of the first
 module _ (g : Gradient) (far : Far) (last x y : Float) (rest : List Float) where
-  module _ (h : nearOf last x ≡ true) where
-    pub skipped : thinned g far last (x ∷ y ∷ rest) ≡ thinned g far last (y ∷ rest)
-    unfolding thinned stays
-    skipped = simp h
+  module _ (h : stays g far last x y ≡ false) where
+    pub passed : thinned g far last (x ∷ y ∷ rest) ≡ thinned g far last (y ∷ rest)
+    unfolding thinned
+    passed = rw h
 
-    pub skipped-weighed : weighed g far last (x ∷ y ∷ rest) ≡ weighed g far last (y ∷ rest)
-    unfolding weighed stays
-    skipped-weighed = simp h (omega arith)
+    pub passed-weighed : weighed g far last (x ∷ y ∷ rest) ≡ weighs last x + weighed g far last (y ∷ rest)
+    unfolding weighed
+    passed-weighed = rw h
 
-  module _ (h : nearOf last x ≡ false) where
-    module _ (k : far (g x) (linear (g last) (g y) ((x ⊖ last) ⊘ (y ⊖ last))) ≡ false) where
-      pub dropped : thinned g far last (x ∷ y ∷ rest) ≡ thinned g far last (y ∷ rest)
-      unfolding thinned stays
-      dropped = simp (h, k)
+  module _ (h : stays g far last x y ≡ true) where
+    pub kept : thinned g far last (x ∷ y ∷ rest) ≡ x ∷ thinned g far x (y ∷ rest)
+    unfolding thinned
+    kept = rw h
 
-      pub dropped-weighed : weighed g far last (x ∷ y ∷ rest) ≡ 1 + weighed g far last (y ∷ rest)
-      unfolding weighed stays
-      dropped-weighed = simp (h, k)
+    pub kept-weighed : weighed g far last (x ∷ y ∷ rest) ≡ weighs last x + weighed g far x (y ∷ rest)
+    unfolding weighed
+    kept-weighed = rw h
 
-    module _ (k : far (g x) (linear (g last) (g y) ((x ⊖ last) ⊘ (y ⊖ last))) ≡ true) where
-      pub kept : thinned g far last (x ∷ y ∷ rest) ≡ x ∷ thinned g far x (y ∷ rest)
-      unfolding thinned stays
-      kept = simp (h, k)
+-- weighing points that carry their colours is the definition's
+module _ (g : Gradient) (far : Far) (last x y : Point) (cl : Coloured g last) (cx : Coloured g x) (cy : Coloured g y) where
+  pub weigh-keeps : weighOf far last x y .kept ≡ stays g far (last .t) (x .t) (y .t)
+  unfolding weighOf stays
+  weigh-keeps = rw (cl, cx, cy)
 
-      pub kept-weighed : weighed g far last (x ∷ y ∷ rest) ≡ 1 + weighed g far x (y ∷ rest)
-      unfolding weighed stays
-      kept-weighed = simp (h, k)
+  pub weigh-counts : weighOf far last x y .tried ≡ weighs (last .t) (x .t)
+  unfolding weighOf
+  weigh-counts = refl
+
+pub weighs-one : (last x : Float) → weighs last x ≤ 1
+weighs-one last x = by (nearOf last x)
+  where
+    by : (b : Bool) → cond b 0 1 ≤ 1
+    by true = omega arith
+    by false = omega arith
 
 -- ---- a step of the code is a step of the definition
 
@@ -66,29 +74,28 @@ pub emitted-run : (room : ℕ) (r : Run) (p : Point) (ps cs : List Float) → st
 unfolding emitRun
 emitted-run room r p ps cs e f h = rw (e, f, h)
 
--- the test on the mix in hand is the definition's
-pub far-by : (far : Far) (c m n : Rgba) (b r : Bool) → m ≡ n → r ≡ far c m → r ≡ b → far c n ≡ b
-far-by far c m n b r e f h = rw (← e, ← f) h
+-- a point weighed, by the tests that led there
+module _ (far : Far) (last x y : Point) {d : Bool} (n : d ≡ nearOf (last .t) (x .t)) where
+  pub weigh-skips : d ≡ true → record { kept = false; tried = 0 } ≡ weighOf far last x y
+  unfolding weighOf
+  weigh-skips h = rw (← n, h)
 
-module _ (far : Far) (room : ℕ) (r : Run) (x y : Point) where
-  pub skipped-run : nearOf (r .progress .last .t) (x .t) ≡ true → r ≡ stepRun far room r x y
+  pub weigh-tries : {b : Bool} {m : Rgba} → d ≡ false → m ≡ linear (last .colour) (y .colour) ((x .t ⊖ last .t) ⊘ (y .t ⊖ last .t)) → b ≡ far (x .colour) m
+      → record { kept = b; tried = 1 } ≡ weighOf far last x y
+  unfolding weighOf
+  weigh-tries h e f = rw (← n, h, f, e)
+
+module _ (far : Far) (room : ℕ) (r : Run) (x y : Point) {w : Weighed} {n : ℕ} (h : w ≡ weighOf far (r .progress .last) x y) (e : n ≡ sumOf (r .progress .tried) (w .tried)) where
+  abbrev pub weighing : Run
+  weighing = run (record { last = r .progress .last; stops = r .progress .stops; tried = n; refusal = r .progress .refusal }) (r .places) (r .colours)
+
+  pub passed-run : w .kept ≡ false → weighing ≡ stepRun far room r x y
   unfolding stepRun
-  skipped-run h = simp h
+  passed-run k = rw (← h, k, e)
 
-  -- n points are weighed with this one
-  module _ (h : nearOf (r .progress .last .t) (x .t) ≡ false) (n : ℕ) (e : n ≡ sumOf (r .progress .tried) 1) where
-    abbrev pub weighing : Run
-    weighing = run (record { last = r .progress .last; stops = r .progress .stops; tried = n; refusal = r .progress .refusal }) (r .places) (r .colours)
-
-    pub dropped-run : far (x .colour) (linear (r .progress .last .colour) (y .colour) ((x .t ⊖ r .progress .last .t) ⊘ (y .t ⊖ r .progress .last .t))) ≡ false
-        → weighing ≡ stepRun far room r x y
-    unfolding stepRun
-    dropped-run k = rw (h, k, e)
-
-    pub kept-run : far (x .colour) (linear (r .progress .last .colour) (y .colour) ((x .t ⊖ r .progress .last .t) ⊘ (y .t ⊖ r .progress .last .t))) ≡ true
-        → emitRun room weighing x ≡ stepRun far room r x y
-    unfolding stepRun
-    kept-run k = rw (h, k, e)
+  pub kept-run : w .kept ≡ true → emitRun room weighing x ≡ stepRun far room r x y
+  unfolding stepRun
+  kept-run k = rw (← h, k, e)
 
 -- ---- what the whole comes to
 
@@ -156,77 +163,58 @@ module _ (g : Gradient) (far : Far) (room : ℕ) where
     pub tried : r′ .progress .tried ≤ r .progress .tried + 1
     pub fitting : r .progress .stops ≤ room → r′ .progress .stops ≤ room
 
-  -- one point more weighed
-  more : (r : Run) (ks : List Float) (n : ℕ) → r .progress .tried < mostCount → comesTo g room (run (onceMore (r .progress)) (r .places) (r .colours)) ks n ≡ comesTo g room r ks (1 + n)
+  -- n points more weighed
+  more : (r : Run) (n : ℕ) (ks : List Float) (m : ℕ) → n ≤ 1 → r .progress .tried < mostCount → comesTo g room (moreRun n r) ks m ≡ comesTo g room r ks (n + m)
   unfolding comesTo
-  more r ks n few = let e : sumOf (r .progress .tried) 1 + n ≡ r .progress .tried + (1 + n) = omega arith in rw e
+  more r n ks m one few = let e : sumOf (r .progress .tried) n + m ≡ r .progress .tried + (n + m) = omega arith in rw e
 
   module _ (r : Run) (x y : Point) (cl : Coloured g (r .progress .last)) (cx : Coloured g x) (cy : Coloured g y) (on : r .progress .refusal ≡ 0) (few : r .progress .tried < mostCount) where
     abbrev l : Float
     l = r .progress .last .t
 
     abbrev r1 : Run
-    r1 = run (onceMore (r .progress)) (r .places) (r .colours)
+    r1 = moreRun (weighs l (x .t)) r
 
-    skip-step : nearOf l (x .t) ≡ true → Stepped r x y r
+    pass-step : stays g far l (x .t) (y .t) ≡ false → Stepped r x y r1
     unfolding outcome
-    skip-step h =
+    pass-step h =
         record {
           refused = λ nz rest. absurd (nz on);
-          same = λ z rest. rw (skipped g far l (x .t) (y .t) rest h, skipped-weighed g far l (x .t) (y .t) rest h);
+          same = λ z rest. more r (weighs l (x .t)) (thinned g far l (y .t ∷ rest)) (weighed g far l (y .t ∷ rest)) (weighs-one l (x .t)) few ∙ rw (passed g far l (x .t) (y .t) rest h, passed-weighed g far l (x .t) (y .t) rest h);
           coloured = λ z. cl;
-          tried = omega arith;
+          tried = omega (arith, weighs-one l (x .t));
           fitting = λ w. w;
         }
 
-    drop-step : nearOf l (x .t) ≡ false → far (g (x .t)) (linear (g l) (g (y .t)) ((x .t ⊖ l) ⊘ (y .t ⊖ l))) ≡ false → Stepped r x y r1
+    keep-step : stays g far l (x .t) (y .t) ≡ true → (r′ : Run) → Emitted g room r1 x r′ → Stepped r x y r′
     unfolding outcome
-    drop-step h k =
-        record {
-          refused = λ nz rest. absurd (nz on);
-          same = λ z rest. more r (thinned g far l (y .t ∷ rest)) (weighed g far l (y .t ∷ rest)) few ∙ rw (dropped g far l (x .t) (y .t) rest h k, dropped-weighed g far l (x .t) (y .t) rest h k);
-          coloured = λ z. cl;
-          tried = omega arith;
-          fitting = λ w. w;
-        }
-
-    keep-step : nearOf l (x .t) ≡ false → far (g (x .t)) (linear (g l) (g (y .t)) ((x .t ⊖ l) ⊘ (y .t ⊖ l))) ≡ true
-        → (r′ : Run) → Emitted g room r1 x r′ → Stepped r x y r′
-    unfolding outcome
-    keep-step h k r′ w =
+    keep-step h r′ w =
         record {
           refused = λ nz rest. w .refused nz (thinned g far (x .t) (y .t ∷ rest)) (weighed g far (x .t) (y .t ∷ rest)) ∙ ap (λ (o : Outcome). o .refusal) (whole rest);
           same =
               λ z rest. ap (λ (p : Point). comesTo g room r′ (thinned g far (p .t) (y .t ∷ rest)) (weighed g far (p .t) (y .t ∷ rest))) (w .last z)
               ∙ (w .done z (thinned g far (x .t) (y .t ∷ rest)) (weighed g far (x .t) (y .t ∷ rest)) ∙ whole rest);
           coloured = w .coloured;
-          tried = omega (arith, w .tried);
+          tried = omega (arith, w .tried, weighs-one l (x .t));
           fitting = w .fitting;
         }
       where
         whole : (rest : List Float) → comesTo g room r1 (x .t ∷ thinned g far (x .t) (y .t ∷ rest)) (weighed g far (x .t) (y .t ∷ rest))
             ≡ comesTo g room r (thinned g far l (x .t ∷ y .t ∷ rest)) (weighed g far l (x .t ∷ y .t ∷ rest))
         whole rest =
-            more r (x .t ∷ thinned g far (x .t) (y .t ∷ rest)) (weighed g far (x .t) (y .t ∷ rest)) few
-            ∙ rw (kept g far l (x .t) (y .t) rest h k, kept-weighed g far l (x .t) (y .t) rest h k)
+            more r (weighs l (x .t)) (x .t ∷ thinned g far (x .t) (y .t ∷ rest)) (weighed g far (x .t) (y .t ∷ rest)) (weighs-one l (x .t)) few
+            ∙ rw (kept g far l (x .t) (y .t) rest h, kept-weighed g far l (x .t) (y .t) rest h)
 
     pub stepped : Stepped r x y (stepRun far room r x y)
     unfolding stepRun
-    stepped = by (nearOf l (x .t)) refl
+    stepped = by (weighOf far (r .progress .last) x y) (weigh-keeps g far (r .progress .last) x y cl cx cy) (weigh-counts g far (r .progress .last) x y cl cx cy)
       where
-        colours : (b : Bool) → far (x .colour) (linear (r .progress .last .colour) (y .colour) ((x .t ⊖ l) ⊘ (y .t ⊖ l))) ≡ b
-            → far (g (x .t)) (linear (g l) (g (y .t)) ((x .t ⊖ l) ⊘ (y .t ⊖ l))) ≡ b
-        colours b e = rw (← cx, ← cl, ← cy) e
+        test : (b : Bool) → stays g far l (x .t) (y .t) ≡ b → Stepped r x y (cond b (emitRun room r1 x) r1)
+        test true h = keep-step h (emitRun room r1 x) (emitted g room r1 x cx)
+        test false h = pass-step h
 
-        test : (b : Bool) → far (x .colour) (linear (r .progress .last .colour) (y .colour) ((x .t ⊖ l) ⊘ (y .t ⊖ l))) ≡ b → nearOf l (x .t) ≡ false
-            → Stepped r x y (cond b (emitRun room r1 x) r1)
-        test true e h = keep-step h (colours true e) (emitRun room r1 x) (emitted g room r1 x cx)
-        test false e h = drop-step h (colours false e)
-
-        by : (b : Bool) → nearOf l (x .t) ≡ b
-            → Stepped r x y (cond b r (cond (far (x .colour) (linear (r .progress .last .colour) (y .colour) ((x .t ⊖ l) ⊘ (y .t ⊖ l)))) (emitRun room r1 x) r1))
-        by true h = skip-step h
-        by false h = test (far (x .colour) (linear (r .progress .last .colour) (y .colour) ((x .t ⊖ l) ⊘ (y .t ⊖ l)))) refl h
+        by : (w : Weighed) → w .kept ≡ stays g far l (x .t) (y .t) → w .tried ≡ weighs l (x .t) → Stepped r x y (stepBy w room r x)
+        by w k n = rw (k, n) (test (stays g far l (x .t) (y .t)) refl)
 
   -- the last point is a stop, and then nothing follows
   pub last-stop : (r r′ : Run) (x : Point) → Emitted g room r x r′ → Ends (outcome g far room r (x .t ∷ [])) r′

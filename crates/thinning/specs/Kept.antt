@@ -24,6 +24,10 @@ nearOf last x = lt (magnitudeOf (last ⊖ x)) epsilon
 unfoldable pub stays : Gradient → Far → Float → Float → Float → Bool
 stays g far last x next = not (nearOf last x) && far (g x) (linear (g last) (g next) ((x ⊖ last) ⊘ (next ⊖ last)))
 
+-- 1 for a point that is thinned and not skipped
+abbrev pub weighs : Float → Float → ℕ
+weighs last x = cond (nearOf last x) 0 1
+
 -- the points kept after the one kept last; the very last point is always kept
 unfoldable pub thinned : Gradient → Far → Float → List Float → List Float
 thinned g far last [] = []
@@ -36,7 +40,7 @@ unfoldable pub weighed : Gradient → Far → Float → List Float → ℕ
 weighed g far last [] = 0
 weighed g far last (x ∷ []) = 0
 weighed g far last (x ∷ y ∷ rest) =
-    cond (nearOf last x) 0 1 + weighed g far (cond (stays g far last x y) x last) (y ∷ rest)
+    weighs last x + weighed g far (cond (stays g far last x y) x last) (y ∷ rest)
 
 -- the same of a whole list: the first point is always kept
 unfoldable pub keptOf : Gradient → Far → List Float → List Float

@@ -1,6 +1,6 @@
 -- Thinning step by step: the progress made and what the two outputs hold so far, and what the whole list comes to.
 use mathlib.Core.Path.{_≡_}
-use mathlib.Core.Bool.{cond}
+use mathlib.Core.Bool.{cond, not, _&&_}
 use mathlib.Core.List.{List}
 use Prim.Native.Nat.{ℕ, zero, suc, _+_, _*_}
 use lib.ListN.{length, set}
@@ -11,10 +11,11 @@ use Rattle.blend.specs.Blend.{linear}
 use Rattle.sampling.specs.Midpoints.{Gradient, Far}
 use Rattle.stops.specs.Lent.{Lent, old, new}
 use Rattle.thinning.specs.Counts.{sumOf}
-use Rattle.thinning.specs.Kept.{nearOf, thinned, weighed, stopRefusal, refusalFrom}
+use Rattle.thinning.specs.Kept.{nearOf, weighs, thinned, weighed, stopRefusal, refusalFrom}
 use Rattle.blend.specs.Channels.{channelsOf, coloursOf}
 use Rattle.sampling.specs.declared.Point.{Point}
 use Rattle.thinning.specs.declared.Progress.{Progress}
+use Rattle.thinning.specs.declared.Weighed.{Weighed}
 
 pub record Run : Type 0 where
   pub progress : Progress
@@ -49,17 +50,25 @@ emitBy (suc k) r p =
 unfoldable pub emitRun : ℕ → Run → Point → Run
 emitRun room r p = emitBy (stopRefusal room (r .progress .stops) (r .progress .last .t) (p .t) (p .colour)) r p
 
--- one point more weighed
-abbrev pub onceMore : Progress → Progress
-onceMore s = record { last = s .last; stops = s .stops; tried = sumOf (s .tried) 1; refusal = s .refusal }
+-- what weighing x comes to, of points that carry their colours: it is kept by `stays`, and counts by `weighs`
+unfoldable pub weighOf : Far → Point → Point → Point → Weighed
+weighOf far last x next =
+    record {
+      kept = not (nearOf (last .t) (x .t)) && far (x .colour) (linear (last .colour) (next .colour) ((x .t ⊖ last .t) ⊘ (next .t ⊖ last .t)));
+      tried = weighs (last .t) (x .t);
+    }
 
--- x is skipped, dropped or kept
+-- n points more weighed
+abbrev pub moreRun : ℕ → Run → Run
+moreRun n r =
+    run (record { last = r .progress .last; stops = r .progress .stops; tried = sumOf (r .progress .tried) n; refusal = r .progress .refusal }) (r .places) (r .colours)
+
+-- x is weighed, and kept or not
+abbrev pub stepBy : Weighed → ℕ → Run → Point → Run
+stepBy w room r x = cond (w .kept) (emitRun room (moreRun (w .tried) r) x) (moreRun (w .tried) r)
+
 unfoldable pub stepRun : Far → ℕ → Run → Point → Point → Run
-stepRun far room r x next =
-    cond (nearOf (r .progress .last .t) (x .t)) r
-    (cond (far (x .colour) (linear (r .progress .last .colour) (next .colour) ((x .t ⊖ r .progress .last .t) ⊘ (next .t ⊖ r .progress .last .t))))
-    (emitRun room (run (onceMore (r .progress)) (r .places) (r .colours)) x)
-    (run (onceMore (r .progress)) (r .places) (r .colours)))
+stepRun far room r x next = stepBy (weighOf far (r .progress .last) x next) room r x
 
 pub record Outcome : Type 0 where
   pub refusal : ℕ

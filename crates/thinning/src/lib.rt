@@ -17,7 +17,7 @@ ghost use Rattle.difference.specs.Difference.{exceeds};
 ghost use Rattle.stops.specs.Lent.{old, new};
 ghost use Rattle.thinning.specs.Counts.{sumOf};
 ghost use Rattle.thinning.specs.Kept.{nearOf, stopRefusal};
-ghost use Rattle.thinning.specs.Walk.{runWas, runIs, emitRun, stepRun};
+ghost use Rattle.thinning.specs.Walk.{weighOf, runWas, runIs, emitRun, stepRun};
 
 // The last point kept, how many stops were written and how many points weighed, and the refusal (0 for none).
 pub struct Progress {
@@ -25,6 +25,12 @@ pub struct Progress {
     pub stops: usize,
     pub tried: usize,
     pub refusal: u8,
+}
+
+// What weighing a point comes to: whether it is kept, and 1 unless it is skipped.
+pub struct Weighed {
+    pub kept: bool,
+    pub tried: usize,
 }
 
 // The largest count.
@@ -59,7 +65,7 @@ fn near(last: f32, x: f32) -> bool
 }
 
 // 7, 8, 9, or 0 where the stop may be written.
-fn stop_refusal(room: usize, n: usize, last: f32, t: f32, c: Rgba) -> u8
+pub fn stop_refusal(room: usize, n: usize, last: f32, t: f32, c: Rgba) -> u8
     ensures { λ r. ⌜ r ≡ stopRefusal room n last t c ⌝ }
 {
     if room <= n {
@@ -117,7 +123,25 @@ pub fn emit(
     }
 }
 
-// Weighs x between the last point kept and the next: it is skipped, dropped or kept.
+// Weighs x between the last point kept and the next: it is skipped, dropped or kept. A list made whole and one handed out a
+// stop at a time both weigh by this.
+pub fn weigh(cutoff: f32, last: Point, x: Point, next: Point) -> Weighed
+    ensures { λ r. ⌜ r ≡ weighOf (exceeds cutoff) last x next ⌝ }
+{
+    if near(last.t, x.t) {
+        return Weighed {
+            kept: false,
+            tried: 0,
+        };
+    }
+    let foretold = interpolate_linear(last.colour, next.colour, (x.t - last.t) / (next.t - last.t));
+    Weighed {
+        kept: stands_out(cutoff, x.colour, foretold),
+        tried: 1,
+    }
+}
+
+// A step of a list that is made whole: x is weighed, and written where it is kept.
 pub fn step(
     cutoff: f32,
     room: usize,
@@ -130,17 +154,14 @@ pub fn step(
     ensures { λ r. ⌜ runIs r «out_positions» «out_channels» ≡ stepRun (exceeds cutoff) room (runWas s «out_positions» «out_channels») x next ⌝ }
 {
     let kept = s.last;
-    if near(kept.t, x.t) {
-        return s;
-    }
+    let w = weigh(cutoff, kept, x, next);
     let weighed = Progress {
         last: kept,
         stops: s.stops,
-        tried: sum(s.tried, 1),
+        tried: sum(s.tried, w.tried),
         refusal: s.refusal,
     };
-    let foretold = interpolate_linear(kept.colour, next.colour, (x.t - kept.t) / (next.t - kept.t));
-    if !stands_out(cutoff, x.colour, foretold) {
+    if !w.kept {
         return weighed;
     }
     emit(room, weighed, x, out_positions, out_channels)

@@ -5,10 +5,10 @@ use Rattle.sampling.proofs.Tabled.{prepared-point}
 use Rattle.stops.specs.Lent.{rampIn}
 use Rattle.gradient.specs.Ramp.{colourOf}
 use Rattle.difference.specs.Difference.{exceeds}
-use Rattle.linearize.specs.Places.{listOf}
+use Rattle.places.specs.Places.{listOf}
 use Rattle.thinning.specs.Walk.{run}
 use Rattle.thinning.proofs.Walks.{emitted-as}
-use Rattle.linearize.proofs.Following.{list-head}
+use Rattle.places.proofs.Following.{list-head}
 use Rattle.linearize.proofs.Lists.{starting, first-refused, then-thinned, made-list}
 use borrow.Author.Needs.{needs}
 use Rattle.linearize.proofs.listing.thin_each.Statement.{statement}

@@ -7,9 +7,9 @@ use lib.ListN.{length}
 use Rattle.stops.specs.Lent.{rampOf, rampIn}
 use Rattle.gradient.specs.Ramp.{colourOf}
 use Rattle.difference.specs.Difference.{exceeds}
-use Rattle.linearize.specs.Places.{listOf, pointsBefore}
+use Rattle.places.specs.Places.{listOf, pointsBefore}
 use Rattle.thinning.specs.Walk.{run}
-use Rattle.linearize.proofs.Following.{second-within, within-index, before-next, next-within, more-follow, list-most}
+use Rattle.places.proofs.Following.{before-next, more-follow}
 use Rattle.linearize.proofs.Going.{Going, started, next, stopped, ended}
 use Rattle.linearize.proofs.listing.thin_points.Statement.{statement}
 use Rattle.linearize.proofs.listing.thin_points.Tie as tie
@@ -23,16 +23,10 @@ abbrev μ-loop : tie.MeasureT-loop
     length (listOf rows counts max) - pointsBefore counts place
 
 next-place-requires : tie.Need-next-place-requires Inv-loop μ-loop
-next-place-requires c κs =
-    let at-start = c .before .before .before .before .before .before .before in
-    (at-start .pre .0 .0 .many, (omega arith, omega arith))
+next-place-requires c κs = tt
 
 point-at-requires : tie.Need-point-at-requires Inv-loop μ-loop
-point-at-requires c κs =
-    let at-start = c .before .before .before .before .before .before .before .before in
-    let a = at-start .args in
-    let ok = at-start .pre .0 .0 in
-    (ok .long, within-index (a .rows .now) (a .counts .now) (a .max) ok (c .next-place .result) (rw (c .next-place .ensures) (second-within (a .rows .now) (a .counts .now) (a .max) ok)))
+point-at-requires c κs = tt
 
 evaluate-requires : tie.Need-evaluate-requires Inv-loop μ-loop
 evaluate-requires c κs = tt
@@ -49,23 +43,10 @@ loop-holds c =
     started g far (a .room) (a .rows .now) (a .counts .now) (a .max) ok (a .start) (a .out-positions .now) (a .out-channels .now) (at-place .next-place .result) (c .evaluate .result) (at-start .pre .0 .1) (at-place .next-place .ensures) (prepared-point _ _ (at-start .pre .1) _ _ _ (c .evaluate .ensures) .0 ∙ at-number .point-at .ensures) (prepared-point _ _ (at-start .pre .1) _ _ _ (c .evaluate .ensures) .1)
 
 next-place-requires-2 : tie.Need-next-place-requires-2 Inv-loop μ-loop
-next-place-requires-2 c κs =
-    let at-loop = c .before .before in
-    let at-first = at-loop .before in
-    let at-start = at-first .before .before .before .before .before .before .before .before .before .before in
-    let a = at-start .args in
-    let ok = at-start .pre .0 .0 in
-    (ok .many, (c .if1 .taken, within-index (a .rows .now) (a .counts .now) (a .max) ok (at-loop .loop .place) (at-loop .loop .inv .within)))
+next-place-requires-2 c κs = tt
 
 point-at-requires-2 : tie.Need-point-at-requires-2 Inv-loop μ-loop
-point-at-requires-2 c κs =
-    let at-test = c .before in
-    let at-loop = at-test .before .before in
-    let at-first = at-loop .before in
-    let at-start = at-first .before .before .before .before .before .before .before .before .before .before in
-    let a = at-start .args in
-    let ok = at-start .pre .0 .0 in
-    (ok .long, within-index (a .rows .now) (a .counts .now) (a .max) ok (c .next-place2 .result) (rw (c .next-place2 .ensures) (next-within (a .rows .now) (a .counts .now) (a .max) ok (at-loop .loop .place) (at-loop .loop .inv .within) (at-test .if1 .taken))))
+point-at-requires-2 c κs = tt
 
 evaluate-requires-2 : tie.Need-evaluate-requires-2 Inv-loop μ-loop
 evaluate-requires-2 c κs = tt

@@ -1,9 +1,9 @@
 -- `count_at` meets its contract: the count, or 0 past the end. Assumes nothing.
 use native.Mathlib.Omega.{arith}
-use Rattle.linearize.proofs.Relisting.{past-counts}
+use Rattle.places.proofs.Following.{past-counts}
 use borrow.Author.Needs.{needs}
-use Rattle.linearize.proofs.kept.count_at.Statement.{statement}
-use Rattle.linearize.proofs.kept.count_at.Tie as tie
+use Rattle.places.proofs.count_at.Statement.{statement}
+use Rattle.places.proofs.count_at.Tie as tie
 
 shared-slice-read-result : tie.Need-shared-slice-read-result
 shared-slice-read-result c = search needs

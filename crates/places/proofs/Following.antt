@@ -1,35 +1,70 @@
 -- The points of a record, place after place: the list is what one gets by following them. Assumes nothing.
-use mathlib.Core.Path.{_≡_, refl, _∙_}
+use mathlib.Core.Path.{_≡_, refl, sym, _∙_}
 use mathlib.Core.Bool.{Bool, true, false}
 use mathlib.Core.List.{List, [], _∷_}
-use Prim.Native.Nat.{ℕ, zero, suc, _+_, _*_, _≤_, _<_}
+use Prim.Native.Nat.{ℕ, zero, suc, _+_, _-_, _*_, _≤_, _<_, min}
 use native.Mathlib.Numerals.{add-one}
 use native.Mathlib.Omega.{arith}
 use borrow.Author.Tests.{lt-ltb, le-ltb, ltb-true, ltb-false}
 use lib.Dec.{ltb}
-use lib.ListN.{length, take, drop, getD, length-append, length-drop, List·getD-append}
+use lib.ListN.{length, take, drop, getD, length-append, length-drop, List·getD-append, List·getD-eq-default}
 use lib.Seq.{length-take-le, getD-append-add, getD-take, getD-drop, drop-cons, take-length}
 use lib.Ieee.{Float, nan}
 use Rattle.slices.specs.Joined.{joined, summed}
-use Rattle.linearize.specs.Places.{rowPoints, listOf, firstPlace, nextPlace, pointAt, follow, pointsBefore, InRecord}
-use Rattle.linearize.specs.Inner.{Ready}
-use Rattle.linearize.specs.declared.RowPlace.{RowPlace}
+use Rattle.places.specs.Places.{rowPoints, listOf, firstPlace, nextPlace, pointAt, follow, pointsBefore, InRecord, Ready}
+use Rattle.places.specs.declared.RowPlace.{RowPlace}
 use Rattle.slices.proofs.Joined.{length-summed, summed-mono, item}
 
+-- ---- the count of a row
+pub past-counts : (l : List ℕ) (i : ℕ) → length l ≤ i → 0 ≡ getD l i 0
+past-counts [] i h = refl
+past-counts (x ∷ l) zero h = absurd (omega arith)
+past-counts (x ∷ l) (suc i) h = past-counts l i (omega arith)
+
 -- ---- the next place
+
+-- one more index stands in a row of n points
+pub none-on : (n index : ℕ) → n ≡ 0 → false ≡ ltb (index + 1) n
+none-on n index e = sym (le-ltb (index + 1) n (omega arith))
+
+pub some-on : (n index : ℕ) → (n ≡ 0 → ⊥) → ltb index (n - 1) ≡ ltb (index + 1) n
+some-on n index nz = by (ltb index (n - 1)) refl
+  where
+    some : 1 ≤ n
+    some = omega (arith, nz)
+
+    by : (b : Bool) → ltb index (n - 1) ≡ b → b ≡ ltb (index + 1) n
+    by true e = sym (lt-ltb (index + 1) n (omega (arith, some, ltb-true index (n - 1) e)))
+    by false e = sym (le-ltb (index + 1) n (omega (arith, some, ltb-false index (n - 1) e)))
+
+-- the test of a row of n points, which are m
+module _ {b : Bool} (index n m : ℕ) (e : n ≡ m) (h : b ≡ ltb (index + 1) n) where
+  pub row-on : b ≡ true → index + 1 < m
+  row-on k = omega (arith, e, ltb-true (index + 1) n (sym h ∙ k))
+
+  pub row-done : b ≡ false → m ≤ index + 1
+  row-done k = omega (arith, e, ltb-false (index + 1) n (sym h ∙ k))
 
 module _ (counts : List ℕ) (p : RowPlace) where
   pub same-row : p .index + 1 < getD counts (p .row) 0 → record { row = p .row; index = p .index + 1 } ≡ nextPlace counts p
   unfolding nextPlace
   same-row h = simp (lt-ltb (p .index + 1) (getD counts (p .row) 0) h)
 
-  pub next-row : getD counts (p .row) 0 ≤ p .index + 1 → record { row = p .row + 1; index = 0 } ≡ nextPlace counts p
-  unfolding nextPlace
-  next-row h = simp (le-ltb (p .index + 1) (getD counts (p .row) 0) h)
+  module _ (h : getD counts (p .row) 0 ≤ p .index + 1) where
+    pub next-row : p .row < 36 → record { row = p .row + 1; index = 0 } ≡ nextPlace counts p
+    unfolding nextPlace
+    next-row k = let e : min (p .row + 1) 36 ≡ p .row + 1 = omega arith in rw (le-ltb (p .index + 1) (getD counts (p .row) 0) h, e)
+
+    pub past-rows : 36 ≤ p .row → record { row = 36; index = 0 } ≡ nextPlace counts p
+    unfolding nextPlace
+    past-rows k = let e : min (p .row + 1) 36 ≡ 36 = omega arith in rw (le-ltb (p .index + 1) (getD counts (p .row) 0) h, e)
 
 pub point-in : (rows : List Float) (max : Float) (p : RowPlace) → p .row < 36 → getD rows (p .row * 128 + p .index) nan ≡ pointAt rows max p
 unfolding pointAt
 point-in rows max p h = simp (lt-ltb (p .row) 36 h)
+
+pub point-past : (rows : List Float) (max : Float) (p : RowPlace) → p .row < 36 → length rows ≤ p .index → nan ≡ pointAt rows max p
+point-past rows max p h k = sym (List·getD-eq-default rows nan {n = p .row * 128 + p .index} (omega arith)) ∙ point-in rows max p h
 
 pub point-end : (rows : List Float) (max : Float) (p : RowPlace) → 36 ≤ p .row → max ≡ pointAt rows max p
 unfolding pointAt
@@ -114,7 +149,7 @@ module _ (rows : List Float) (counts : List ℕ) (max : Float) (ok : Ready rows 
           by true e = rw (← same-row counts p (ltb-true (p .index + 1) (countAt (p .row)) e)) (omega arith)
           by false e =
               let f = ltb-false (p .index + 1) (countAt (p .row)) e in
-              rw (← next-row counts p f, add-one) (omega (arith, w .in-row h))
+              rw (← next-row counts p f h, add-one) (omega (arith, w .in-row h))
 
       pub next-within : InRecord counts (nextPlace counts p)
       next-within = by (ltb (p .index + 1) (countAt (p .row))) refl
@@ -124,7 +159,7 @@ module _ (rows : List Float) (counts : List ℕ) (max : Float) (ok : Ready rows 
               let f = ltb-true (p .index + 1) (countAt (p .row)) e in
               rw (← same-row counts p f) (record { in-row = λ k. f; in-end = λ k. absurd (k h) })
           by false e =
-              rw (← next-row counts p (ltb-false (p .index + 1) (countAt (p .row)) e))
+              rw (← next-row counts p (ltb-false (p .index + 1) (countAt (p .row)) e) h)
               (record { in-row = λ k. omega (arith, ok .some (p .row + 1) k); in-end = λ k. (omega arith, refl) })
 
       pub more-follow : pointsBefore counts p + 1 < length (listOf rows counts max)

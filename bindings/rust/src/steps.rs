@@ -1,0 +1,132 @@
+//! A list handed out one stop at a time.
+
+use std::iter::FusedIterator;
+
+use crate::calls::{self, PlainPlace};
+use crate::lent::{answer, Ramp, Record};
+use crate::{Color, Refusal};
+
+/// Where a caller is in a list: all that is kept between two steps.
+#[derive(Clone, Copy, PartialEq, Eq, Hash, Debug, Default)]
+pub enum Place {
+    /// Before the first stop.
+    #[default]
+    Start,
+    /// After the stop at a row of the record and an index in it.
+    After {
+        /// One of the 36 rows.
+        row: u32,
+        /// Below the row's count.
+        index: u32,
+    },
+    /// Past the last stop, or past a refusal among the stops.
+    Ended,
+}
+
+impl Place {
+    fn plain(self) -> PlainPlace {
+        match self {
+            Place::Start => PlainPlace { state: 0, row: 0, index: 0 },
+            Place::After { row, index } => PlainPlace { state: 1, row, index },
+            Place::Ended => PlainPlace { state: 2, row: 0, index: 0 },
+        }
+    }
+
+    fn from_plain(place: PlainPlace) -> Place {
+        match place.state {
+            0 => Place::Start,
+            1 => Place::After { row: place.row, index: place.index },
+            _ => Place::Ended,
+        }
+    }
+}
+
+/// What a step hands out.
+#[derive(Clone, Copy, PartialEq, Debug)]
+pub struct Handed {
+    /// A stop, its position and its colour; none where nothing more comes; or the refusal.
+    pub told: Result<Option<(f32, Color)>, Refusal>,
+    /// How many colours the definition of this step asks for.
+    pub evaluations: usize,
+    /// Where to go on from.
+    pub place: Place,
+}
+
+impl Ramp<'_> {
+    /// The next stop after a place. Refusals 1 to 5 and 20, a place outside the record among them (5), leave the place as it
+    /// was; after 8 and 9 it is the end. There is no 7.
+    pub fn next_stop(&self, threshold: f32, record: Record<'_>, place: Place) -> Handed {
+        // SAFETY: a slice's own pointer and length, alive until the call returns, and none is written.
+        let handed = unsafe {
+            calls::colorgrad_next_stop(
+                self.kind as u32,
+                self.positions.as_ptr(),
+                self.positions.len(),
+                self.channels.as_ptr(),
+                self.channels.len(),
+                self.codes.as_ptr(),
+                self.codes.len(),
+                threshold,
+                record.rows.as_ptr(),
+                record.rows.len(),
+                record.counts.as_ptr(),
+                record.counts.len(),
+                record.marks.as_ptr(),
+                record.marks.len(),
+                place.plain(),
+            )
+        };
+        let stop = handed.has_stop.then_some((handed.position, handed.color));
+        Handed {
+            told: answer(handed.refusal, stop),
+            evaluations: handed.evaluations,
+            place: Place::from_plain(handed.place),
+        }
+    }
+}
+
+/// The stops of a list, one after the other; after a refusal, or the last, there is nothing more.
+///
+/// It borrows the ramp and the record, so that neither changes between two steps.
+#[derive(Clone, Debug)]
+pub struct Stops<'a> {
+    ramp: Ramp<'a>,
+    threshold: f32,
+    record: Record<'a>,
+    place: Place,
+    evaluations: usize,
+}
+
+impl<'a> Stops<'a> {
+    /// The stops of a lent record, from its first.
+    pub fn new(ramp: Ramp<'a>, threshold: f32, record: Record<'a>) -> Stops<'a> {
+        Stops { ramp, threshold, record, place: Place::Start, evaluations: 0 }
+    }
+
+    /// How many colours the steps so far have asked for: with the last stop, as many as the whole list.
+    pub fn evaluations(&self) -> usize {
+        self.evaluations
+    }
+
+    /// Where the next step goes on from.
+    pub fn place(&self) -> Place {
+        self.place
+    }
+}
+
+impl Iterator for Stops<'_> {
+    type Item = Result<(f32, Color), Refusal>;
+
+    fn next(&mut self) -> Option<Self::Item> {
+        if self.place == Place::Ended {
+            return None;
+        }
+        let handed = self.ramp.next_stop(self.threshold, self.record, self.place);
+        self.evaluations += handed.evaluations;
+        // a refusal of the record would be told again at each step, so the iterator ends with it
+        self.place = if handed.told.is_err() { Place::Ended } else { handed.place };
+        handed.told.transpose()
+    }
+}
+
+impl FusedIterator for Stops<'_> {}

@@ -1,0 +1,74 @@
+-- `next_stop` meets its contract: a refusal of the check, or the step from the place. Assumes nothing.
+use mathlib.Core.Path.{_∙_}
+use Rattle.sampling.proofs.Checks.{ramp-fine}
+use Rattle.sampling.proofs.Thresholds.{far-by-cutoff}
+use Rattle.records.proofs.Passing.{sample-fine}
+use Rattle.linearize.proofs.Checks.{ready}
+use Rattle.next_stop.proofs.Handing.{step-check, thin-fine, place-fine, step-refused, step-done}
+use borrow.Author.Needs.{needs}
+use Rattle.next_stop.proofs.next_stop.Statement.{statement}
+use Rattle.next_stop.proofs.next_stop.Tie as tie
+
+check-thin-requires : tie.Need-check-thin-requires
+check-thin-requires c κs = search needs
+
+is-within-requires : tie.Need-is-within-requires
+is-within-requires c κs = search needs
+
+placed-check-requires : tie.Need-placed-check-requires
+placed-check-requires c κs = search needs
+
+enum-known-n : tie.Need-enum-known-n
+enum-known-n c = search needs
+
+enum-told : tie.Need-enum-told
+enum-told c = search needs
+
+cutoff-of-requires : tie.Need-cutoff-of-requires
+cutoff-of-requires c κs = search needs
+
+max-of-requires : tie.Need-max-of-requires
+max-of-requires c κs = search needs
+
+step-from-requires : tie.Need-step-from-requires
+step-from-requires c κs =
+    let told = c .before .before in
+    let placed = told .before .before in
+    let within = placed .before in
+    let checked = within .before in
+    let e = step-check _ _ _ _ (within .is-within .ensures) (checked .check-thin .ensures .answer) (placed .placed-check .ensures) ∙ told .enum-told .given .1 in
+    ((ready _ _ _ (thin-fine _ _ _ _ e), ramp-fine _ _ _ _ (sample-fine _ _ _ (thin-fine _ _ _ _ e))), place-fine _ _ _ _ e)
+
+returns : tie.Need-returns
+returns c =
+    let case = c .before in
+    let placed = case .before .before in
+    let within = placed .before in
+    let checked = within .before in
+    step-refused _ _ _ _ _ (step-check _ _ _ _ (within .is-within .ensures) (checked .check-thin .ensures .answer) (placed .placed-check .ensures) ∙ case .n .given .1)
+
+returns-2 : tie.Need-returns-2
+returns-2 c =
+    let at-max = c .before in
+    let at-cutoff = at-max .before in
+    let told = at-cutoff .before in
+    let placed = told .before .before in
+    let within = placed .before in
+    let checked = within .before in
+    step-done _ _ _ _ _ _ _ (step-check _ _ _ _ (within .is-within .ensures) (checked .check-thin .ensures .answer) (placed .placed-check .ensures) ∙ told .enum-told .given .1)
+    (far-by-cutoff _ _ (at-cutoff .cutoff-of .ensures)) (at-max .max-of .ensures) (c .step-from .ensures)
+
+pub next-stop-spec : {M : Type 1} → statement M
+next-stop-spec =
+    tie.close
+    (tie.spec
+    check-thin-requires
+    is-within-requires
+    placed-check-requires
+    enum-known-n
+    enum-told
+    cutoff-of-requires
+    max-of-requires
+    step-from-requires
+    returns
+    returns-2)

@@ -1,0 +1,159 @@
+-- `find_by` meets its contract: what is left of the list gives the same stop from place to place. The measure is what is left of the list. Assumes nothing.
+use mathlib.Core.Path.{_∙_, subst}
+use Prim.Native.Nat.{_-_}
+use native.Mathlib.Omega.{arith}
+use lib.ListN.{length}
+use Rattle.stops.specs.Lent.{rampOf, rampIn}
+use Rattle.gradient.specs.Ramp.{colourOf}
+use Rattle.difference.specs.Difference.{exceeds}
+use Rattle.sampling.proofs.Tabled.{prepared-point}
+use Rattle.places.specs.Places.{listOf, pointsBefore}
+use Rattle.next_stop.proofs.Walking.{Walking, begun, started, nearer, one-more, kept-here, walked-on, at-last}
+use Rattle.next_stop.proofs.walk.find_by.Statement.{statement}
+use Rattle.next_stop.proofs.walk.find_by.Tie as tie
+
+abbrev Inv-loop : tie.InvT-loop
+Inv-loop kind positions channels codes cutoff max rows counts table last place₀ x₀ tried₀ place x tried =
+    Walking (colourOf (rampOf kind positions channels codes)) (exceeds cutoff) rows counts max last place₀ place x tried
+
+abbrev μ-loop : tie.MeasureT-loop
+μ-loop kind positions channels codes cutoff max rows counts table last place₀ x₀ tried₀ place x tried =
+    length (listOf rows counts max) - pointsBefore counts place
+
+point-at-requires : tie.Need-point-at-requires Inv-loop μ-loop
+point-at-requires c κs = tt
+
+evaluate-requires : tie.Need-evaluate-requires Inv-loop μ-loop
+evaluate-requires c κs = tt
+
+next-place-requires : tie.Need-next-place-requires Inv-loop μ-loop
+next-place-requires c κs = tt
+
+point-at-requires-2 : tie.Need-point-at-requires-2 Inv-loop μ-loop
+point-at-requires-2 c κs = tt
+
+evaluate-requires-2 : tie.Need-evaluate-requires-2 Inv-loop μ-loop
+evaluate-requires-2 c κs = tt
+
+loop-holds : tie.Need-loop-holds Inv-loop μ-loop
+loop-holds c =
+    let at-number = c .before in
+    let at-place = at-number .before in
+    let at-last-kept = at-place .before in
+    let at-start = at-last-kept .before .before .before .before .before .before .before in
+    let a = at-start .args in
+    let g = colourOf (rampIn (a .kind) (a .positions) (a .channels) (a .codes)) in
+    let kept = prepared-point _ _ (at-start .pre .1) _ _ _ (at-last-kept .evaluate .ensures) in
+    let x = prepared-point _ _ (at-start .pre .1) _ _ _ (c .evaluate2 .ensures) in
+    started g (exceeds (a .cutoff)) (a .rows .now) (a .counts .now) (a .max) (at-start .pre .0 .0) (a .from) (at-last-kept .evaluate .result) (at-place .next-place .result) (at-start .pre .0 .1 .0) (at-start .pre .0 .1 .1) (at-place .next-place .ensures) (kept .0 ∙ at-last-kept .before .point-at .ensures, kept .1) (c .evaluate2 .result) (x .0 ∙ at-number .point-at2 .ensures, x .1)
+
+next-place-requires-2 : tie.Need-next-place-requires-2 Inv-loop μ-loop
+next-place-requires-2 c κs = tt
+
+point-at-requires-3 : tie.Need-point-at-requires-3 Inv-loop μ-loop
+point-at-requires-3 c κs = tt
+
+evaluate-requires-3 : tie.Need-evaluate-requires-3 Inv-loop μ-loop
+evaluate-requires-3 c κs = tt
+
+weigh-requires : tie.Need-weigh-requires Inv-loop μ-loop
+weigh-requires c κs = tt
+
+add-tried : tie.Need-add-tried Inv-loop μ-loop
+add-tried c =
+    let at-weigh = c .before in
+    let at-point = at-weigh .before in
+    let at-number = at-point .before in
+    let at-place = at-number .before in
+    let at-test = at-place .before in
+    let at-loop = at-test .before .before in
+    let at-first = at-loop .before in
+    let at-start = at-first .before .before .before .before .before .before .before .before .before .before in
+    let a = at-start .args in
+    let g = colourOf (rampIn (a .kind) (a .positions) (a .channels) (a .codes)) in
+    let y = prepared-point _ _ (at-start .pre .1) _ _ _ (at-point .evaluate3 .ensures) in
+    omega (arith, one-more g (exceeds (a .cutoff)) (a .rows .now) (a .counts .now) (a .max) (at-start .pre .0 .0) _ _ (at-loop .loop .place) (at-loop .loop .x) (at-loop .loop .tried) (at-loop .loop .inv) (at-test .if1 .taken) (at-place .next-place2 .result) (at-point .evaluate3 .result) (at-place .next-place2 .ensures) (y .0 ∙ at-number .point-at3 .ensures, y .1) (at-weigh .weigh .ensures))
+
+returns : tie.Need-returns Inv-loop μ-loop
+returns c =
+    let at-weigh = c .before .before in
+    let at-point = at-weigh .before in
+    let at-number = at-point .before in
+    let at-place = at-number .before in
+    let at-test = at-place .before in
+    let at-loop = at-test .before .before in
+    let at-first = at-loop .before in
+    let first-place = at-first .before .before in
+    let at-last-kept = first-place .before in
+    let at-start = at-last-kept .before .before .before .before .before .before .before in
+    let a = at-start .args in
+    let g = colourOf (rampIn (a .kind) (a .positions) (a .channels) (a .codes)) in
+    let kept = prepared-point _ _ (at-start .pre .1) _ _ _ (at-last-kept .evaluate .ensures) in
+    let y = prepared-point _ _ (at-start .pre .1) _ _ _ (at-point .evaluate3 .ensures) in
+    kept-here g (exceeds (a .cutoff)) (a .rows .now) (a .counts .now) (a .max) (at-start .pre .0 .0) _ _ (at-loop .loop .place) (at-loop .loop .x) (at-loop .loop .tried) (at-loop .loop .inv) (at-test .if1 .taken) (at-place .next-place2 .result) (at-point .evaluate3 .result) (at-place .next-place2 .ensures) (y .0 ∙ at-number .point-at3 .ensures, y .1) (at-weigh .weigh .ensures) (a .from)
+    (begun g (exceeds (a .cutoff)) (a .rows .now) (a .counts .now) (a .max) (at-start .pre .0 .0) (a .from) (at-last-kept .evaluate .result) (first-place .next-place .result) (at-start .pre .0 .1 .0) (at-start .pre .0 .1 .1) (first-place .next-place .ensures) (kept .0 ∙ at-last-kept .before .point-at .ensures, kept .1)) (c .if2 .taken)
+
+loop-less : tie.Need-loop-less Inv-loop μ-loop
+loop-less c =
+    let at-weigh = c .before .before in
+    let at-point = at-weigh .before in
+    let at-number = at-point .before in
+    let at-place = at-number .before in
+    let at-test = at-place .before in
+    let at-loop = at-test .before .before in
+    let at-first = at-loop .before in
+    let at-start = at-first .before .before .before .before .before .before .before .before .before .before in
+    let a = at-start .args in
+    let g = colourOf (rampIn (a .kind) (a .positions) (a .channels) (a .codes)) in
+    let y = prepared-point _ _ (at-start .pre .1) _ _ _ (at-point .evaluate3 .ensures) in
+    nearer g (exceeds (a .cutoff)) (a .rows .now) (a .counts .now) (a .max) (at-start .pre .0 .0) _ _ (at-loop .loop .place) (at-loop .loop .x) (at-loop .loop .tried) (at-loop .loop .inv) (at-test .if1 .taken) (at-place .next-place2 .result) (at-point .evaluate3 .result) (at-place .next-place2 .ensures) (y .0 ∙ at-number .point-at3 .ensures, y .1) (at-weigh .weigh .ensures)
+
+loop-again : tie.Need-loop-again Inv-loop μ-loop
+loop-again c =
+    let at-weigh = c .before .before in
+    let at-point = at-weigh .before in
+    let at-number = at-point .before in
+    let at-place = at-number .before in
+    let at-test = at-place .before in
+    let at-loop = at-test .before .before in
+    let at-first = at-loop .before in
+    let at-start = at-first .before .before .before .before .before .before .before .before .before .before in
+    let a = at-start .args in
+    let g = colourOf (rampIn (a .kind) (a .positions) (a .channels) (a .codes)) in
+    let y = prepared-point _ _ (at-start .pre .1) _ _ _ (at-point .evaluate3 .ensures) in
+    walked-on g (exceeds (a .cutoff)) (a .rows .now) (a .counts .now) (a .max) (at-start .pre .0 .0) _ _ (at-loop .loop .place) (at-loop .loop .x) (at-loop .loop .tried) (at-loop .loop .inv) (at-test .if1 .taken) (at-place .next-place2 .result) (at-point .evaluate3 .result) (at-place .next-place2 .ensures) (y .0 ∙ at-number .point-at3 .ensures, y .1) (at-weigh .weigh .ensures) (c .if2 .left)
+
+returns-2 : tie.Need-returns-2 Inv-loop μ-loop
+returns-2 c =
+    let at-loop = c .before .before in
+    let at-first = at-loop .before in
+    let first-place = at-first .before .before in
+    let at-last-kept = first-place .before in
+    let at-start = at-last-kept .before .before .before .before .before .before .before in
+    let a = at-start .args in
+    let g = colourOf (rampIn (a .kind) (a .positions) (a .channels) (a .codes)) in
+    let kept = prepared-point _ _ (at-start .pre .1) _ _ _ (at-last-kept .evaluate .ensures) in
+    at-last g (exceeds (a .cutoff)) (a .rows .now) (a .counts .now) (a .max) (at-start .pre .0 .0) _ _ (at-loop .loop .place) (at-loop .loop .x) (at-loop .loop .tried) (at-loop .loop .inv) (a .from)
+    (begun g (exceeds (a .cutoff)) (a .rows .now) (a .counts .now) (a .max) (at-start .pre .0 .0) (a .from) (at-last-kept .evaluate .result) (first-place .next-place .result) (at-start .pre .0 .1 .0) (at-start .pre .0 .1 .1) (first-place .next-place .ensures) (kept .0 ∙ at-last-kept .before .point-at .ensures, kept .1)) (c .if1 .left)
+
+pub find-by-spec : {M : Type 1} → statement M
+find-by-spec =
+    tie.close
+    (tie.spec
+    Inv-loop
+    μ-loop
+    point-at-requires
+    evaluate-requires
+    next-place-requires
+    point-at-requires-2
+    evaluate-requires-2
+    loop-holds
+    next-place-requires-2
+    point-at-requires-3
+    evaluate-requires-3
+    weigh-requires
+    add-tried
+    returns
+    loop-less
+    loop-again
+    returns-2)

@@ -1,0 +1,4 @@
+pub mod First
+pub mod Step
+pub mod Chain
+pub mod Inner

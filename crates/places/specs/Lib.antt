@@ -1,0 +1,2 @@
+-- The places of a record's points.
+pub mod Places
