@@ -15,6 +15,9 @@ pub use linearize::flatten;
 pub use linearize::sample;
 pub use linearize::thin;
 
+// The list as a GIMP text, for the drawing tool.
+pub use ggr_writing::write;
+
 // An editor's change of one colour: record and list come out as if made afresh from the changed ramp.
 pub use refresh::refresh;
 pub use refresh::refresh_list;

@@ -6,3 +6,4 @@ pub mod leaves;
 pub mod lists;
 pub mod ramps;
 pub mod tool;
+pub mod writer;
