@@ -95,6 +95,21 @@ def token(text):
     return f"{bits | (MINUS if body[1] == '-' else 0):08x}"
 
 
+def numeral(bits):
+    """Nine significant digits, to nearest, a tie to even, from 1e-6 to 1e6; `0` and `-0`; else nothing."""
+    sign, size = ("-" if bits & MINUS else ""), bits & 0x7FFFFFFF
+    if size == 0:
+        return sign + "0"
+    if not 0x358637BD <= size <= 0x49742400:
+        return ""
+    x = value(size)
+    places = next(k for k in range(16) if x * 10**k >= 10**8)
+    digits = round(x * 10**places)  # of a fraction: to nearest, a tie to even
+    if digits == 10**9:
+        digits, places = 10**8, places - 1
+    return f"{sign}{digits // 10**places}.{digits % 10**places:0{places}d}"
+
+
 def patterns(rng):
     out = [0, 1, 2, 3, 0x7FFFFE, 0x7FFFFF, 0x800000, 0x800001, 0x7F7FFFFE, 0x7F7FFFFF, INFINITY, NAN, 0x7F800001]
     for power in range(-149, 128, 4):
@@ -165,6 +180,14 @@ def main():
     for count in counts + [rng.randrange(1 << rng.randrange(1, 33)) for _ in range(100)]:
         jobs.append((f"n {count:08x}", f"{nearest(Fraction(count)):08x}"))
         jobs.append((f"h {count:08x}", f"{nearest(Fraction(count * (2 ** 32 + 1))):08x}"))
+    # Numbers as text: ties, where rounding adds a digit, the ends of the range and just past them, every power of two and ten in it.
+    written = [0, 1, 0x3F804000, 0x3F80C000, 0x358637BC, 0x358637BD, 0x358637BE, 0x497423FF, 0x49742400, 0x49742401, 0x7F7FFFFF, INFINITY, NAN, 0x3F7FFFFF, 0x41200000, 0x411FFFFF]
+    written += [e << 23 for e in range(106, 147)] + [nearest(Fraction(10) ** k) - d for k in range(-6, 7) for d in (0, 1, 2)]
+    written += [rng.randrange(0x358637BD, 0x49742401) for _ in range(400)]
+    written += [0x3F800000 + (2 * rng.randrange(1 << 9) + 1 << 14) for _ in range(100)]
+    for bits in written:
+        jobs.append((f"d {bits:08x}", numeral(bits)))
+        jobs.append((f"d {bits | MINUS:08x}", numeral(bits | MINUS)))
     with open("crates/leaves/stdin", "w", encoding="latin-1", newline="") as file:
         file.write("".join(line + "\n" for line, _ in jobs))
     with open("crates/leaves/stdout", "w", encoding="latin-1", newline="") as file:

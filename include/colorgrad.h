@@ -52,6 +52,8 @@ extern "C" {
 #define COLORGRAD_MOST_INPUT 16384u    /* bytes of an input of the tool */
 #define COLORGRAD_MOST_PRINTED 50029u  /* bytes that the tool prints */
 #define COLORGRAD_MOST_DIGITS 18u      /* of a token */
+#define COLORGRAD_MOST_WRITTEN 257u    /* stops of a list that is written as a GIMP text */
+#define COLORGRAD_MOST_NUMERAL 18u     /* bytes of a number that is written */
 
 /* ---- thresholds: not finite becomes the default, any other is taken into the range */
 #define COLORGRAD_THRESHOLD 0.007f
@@ -78,6 +80,7 @@ extern "C" {
 #define COLORGRAD_NOT_CARRIED 16u
 #define COLORGRAD_NOT_BUILT 17u
 #define COLORGRAD_TORN 18u
+#define COLORGRAD_UNWRITABLE 19u
 #define COLORGRAD_OTHER_THRESHOLD 20u
 
 /* What a refusal means, in one line of plain words; never null. */
@@ -103,6 +106,7 @@ static inline const char *colorgrad_message(uint32_t refusal)
     case COLORGRAD_NOT_CARRIED: return "a segment is curved or coloured by hue, or sinusoidal with its middle outside its ends";
     case COLORGRAD_NOT_BUILT: return "no sharp ramp can be built of so many colours on this domain";
     case COLORGRAD_TORN: return "the segments of the GIMP text do not run from 0 to 1, each joined to the next";
+    case COLORGRAD_UNWRITABLE: return "a number of the list cannot be written, or it does not run from 0 to 1";
     case COLORGRAD_OTHER_THRESHOLD: return "the record was sampled with another threshold or on another domain";
     default: return "no such refusal";
     }
@@ -174,6 +178,28 @@ ColorgradRead colorgrad_read(const uint8_t *text, size_t text_length, ColorgradR
 /* How long the file's name is; its bytes are written to the start of out where out holds them all, else out stays as it
  * was. 0 where the file would be refused with room for 256 segments. */
 size_t colorgrad_name(const uint8_t *text, size_t text_length, uint8_t *out, size_t out_length);
+
+/* The refusal, or 0 and how many bytes were written. */
+typedef struct {
+    uint32_t refusal;
+    size_t bytes;
+} ColorgradWritten;
+
+/* Bytes that are enough for a list of n stops: with this room, 7 is never given. */
+#define COLORGRAD_WRITTEN_BYTES(n) (34u + 213u * (size_t)((n) - 1u))
+
+/* Writes a list of stops, n positions and 4n channels, as a file's text: named `flattened`, linear RGB segments of 13
+ * numbers, the middle half-way, 9 significant digits each, and no byte after the text's last LF; what lies past it stays.
+ * Reading it gives the segments back, bit for bit. Refused with 1 (fewer than 2 stops, more than COLORGRAD_MOST_WRITTEN, or
+ * lengths that disagree) or 3: text stays as it was; with 19 or 7: all of it is set to zero. 19 is for a number other than
+ * zero whose magnitude is not from 1e-6 to 1e6 (a half-way point too), and for a list that does not run from 0 to 1: lists
+ * of this library can get it, since a channel of a smooth ramp may come out as a few units of 1e-8. */
+ColorgradWritten colorgrad_write_ggr(const float *positions, size_t positions_length, const float *channels,
+                                     size_t channels_length, uint8_t *text, size_t text_length);
+
+/* How long the number's text is, as it stands in such a file, 0 where it cannot be written; its bytes are written to the
+ * start of out where out holds them all, else out stays as it was. */
+size_t colorgrad_numeral(float x, uint8_t *out, size_t out_length);
 
 /* ---- records and lists
  *

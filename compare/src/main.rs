@@ -32,6 +32,7 @@ mod texts;
 mod tokens;
 mod torn;
 mod typing;
+mod written;
 
 use options::Options;
 use report::Tally;
@@ -42,6 +43,7 @@ const USAGE: &str = "compare COMMAND [N] [--seed S] [--case I]
   roots tokens colours sine sharp texts counts torn lists refresh edits marks many promise   one comparison, of N inputs
   all [PERCENT]      every comparison, at its full size or at that part of it
   differences        the smallest inputs of docs/DIFFERENCES.md, with the Rust's answers and ours
+  gimp FOLDER [N]    N lists written there as .ggr files (200), for compare/gimp.py
   files FOLDER       the .ggr files in it, as compare/fetch gets them
   bench [TABLE]      times beside the Rust's: root token paint files read flatten refresh
   count [TABLE]      instructions in place of times, by valgrind's callgrind
@@ -51,7 +53,7 @@ const USAGE: &str = "compare COMMAND [N] [--seed S] [--case I]
 type Comparison = (&'static str, fn(&Options) -> Vec<Tally>, u64);
 
 /// Each comparison with its full size.
-const COMPARISONS: [Comparison; 14] = [
+const COMPARISONS: [Comparison; 16] = [
     ("roots", roots::run, 1 << 32),
     ("tokens", tokens::run, 100_000_000),
     ("colours", colours::run, 2_000_000),
@@ -66,6 +68,8 @@ const COMPARISONS: [Comparison; 14] = [
     ("many", many::run, 4_000),
     ("promise", promised::run, 1_000_000),
     ("steps", steps::run, 20_000),
+    ("numerals", written::numbers, written::ALL),
+    ("written", written::lists, 100_000),
 ];
 
 fn main() -> ExitCode {
@@ -94,6 +98,12 @@ fn run(words: &[String]) -> Result<bool, String> {
         "files" => {
             let folder = options.name.as_ref().ok_or("a folder is missing")?;
             Ok(report::summary(&files::run(&options, Path::new(folder))))
+        }
+        "gimp" => {
+            let folder = options.name.as_ref().ok_or("a folder is missing")?;
+            let options = Options { size: if options.size == 100 { 200 } else { options.size }, ..options.clone() };
+            written::files(&options, Path::new(folder)).map_err(|e| e.to_string())?;
+            Ok(true)
         }
         "bench" => {
             bench::run(&options);

@@ -4,6 +4,12 @@ use crate::oracle::Record;
 use crate::ramps::Ramp;
 
 #[repr(C)]
+struct GimpWritten {
+    refusal: u32,
+    bytes: usize,
+}
+
+#[repr(C)]
 struct TokenRead {
     is_number: bool,
     value: f32,
@@ -117,6 +123,15 @@ extern "C" {
         codes: *mut u8,
         codes_length: usize,
     ) -> GimpRead;
+    fn colorgrad_write_ggr(
+        positions: *const f32,
+        positions_length: usize,
+        channels: *const f32,
+        channels_length: usize,
+        text: *mut u8,
+        text_length: usize,
+    ) -> GimpWritten;
+    fn colorgrad_numeral(x: f32, out: *mut u8, out_length: usize) -> usize;
     fn colorgrad_sample(
         kind: u32,
         positions: *const f32,
@@ -240,6 +255,19 @@ pub fn root(x: f32) -> f32 {
 pub fn token(text: &[u8]) -> Option<f32> {
     let read = unsafe { colorgrad_token(text.as_ptr(), text.len()) };
     read.is_number.then_some(read.value)
+}
+
+/// How long the number's text is; it is written where there is room.
+pub fn numeral(x: f32, out: &mut [u8]) -> usize {
+    unsafe { colorgrad_numeral(x, out.as_mut_ptr(), out.len()) }
+}
+
+/// How many bytes were written.
+pub fn write_ggr(positions: &[f32], channels: &[f32], text: &mut [u8]) -> Result<usize, u32> {
+    let (p, c) = (positions, channels);
+    let written =
+        unsafe { colorgrad_write_ggr(p.as_ptr(), p.len(), c.as_ptr(), c.len(), text.as_mut_ptr(), text.len()) };
+    answer(written.refusal, written.bytes)
 }
 
 /// The answer, or the number of the refusal.

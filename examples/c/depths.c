@@ -163,6 +163,30 @@ static void gimp(void)
     expect(torn.refusal == COLORGRAD_TORN && torn.line == 5 && colours[2] == 0.0f, "a torn text, outputs zero");
 }
 
+/* The list as a GIMP text, and what it reads as. */
+static void written(void)
+{
+    static const char white[] = "GIMP Gradient\nName: flattened\n1\n"
+                                "0 0.500000000 1.00000000 0 0 0 1.00000000 1.00000000 1.00000000 1.00000000 1.00000000 0 0\n";
+    static const float grey[8] = {0.0f, 0.0f, 0.0f, 1.0f, 1.0f, 1.0f, 1.0f, 1.0f}, ends[2] = {0.0f, 1.0f};
+    static uint8_t text[COLORGRAD_WRITTEN_BYTES(COLORGRAD_MOST_WRITTEN)];
+    const ColorgradRgba none = {0.0f, 0.0f, 0.0f, 0.0f};
+    float places[3 * (STOPS - 1)], colours[8 * (STOPS - 1)], tiny[8];
+    uint8_t codes[2 * (STOPS - 1)], number[COLORGRAD_MOST_NUMERAL];
+    ColorgradWritten n = colorgrad_write_ggr(ends, 2, grey, 8, text, sizeof text);
+    expect(n.refusal == COLORGRAD_FINE && n.bytes == strlen(white) && memcmp(text, white, n.bytes) == 0, "black to white");
+    n = colorgrad_write_ggr(positions, STOPS, channels, 4 * STOPS, text, sizeof text);
+    ColorgradRead read = colorgrad_read(text, n.bytes, none, none, places, 9, colours, 24, codes, 6);
+    printf("written as a GIMP file: %zu bytes, read again as %zu segments\n", n.bytes, read.segments);
+    expect(n.refusal == COLORGRAD_FINE && read.refusal == COLORGRAD_FINE && read.segments == STOPS - 1, "read again");
+    expect(places[5] == positions[2] && memcmp(colours + 8, channels + 4, 8 * sizeof(float)) == 0, "bit for bit");
+    memcpy(tiny, grey, sizeof tiny);
+    tiny[2] = 2.98e-8f;
+    n = colorgrad_write_ggr(ends, 2, tiny, 8, text, sizeof text);
+    expect(n.refusal == COLORGRAD_UNWRITABLE && n.bytes == 0 && text[0] == 0, "a channel too small: zeros");
+    expect(colorgrad_numeral(1.001953125f, number, sizeof number) == 10 && memcmp(number, "1.00195312", 10) == 0, "a tie");
+}
+
 static void tool(void)
 {
     static const char input[] = "kind\tlinear\nstop\t0\t0\t0\t0\t1\nstop\t1\t1\t1\t1\t1\n";
@@ -196,6 +220,7 @@ int main(void)
     lists();
     refusals();
     gimp();
+    written();
     tool();
     built_and_leaves();
     puts(wrong ? "depths: WRONG" : "depths: every answer as it must be");

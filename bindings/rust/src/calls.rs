@@ -29,6 +29,12 @@ pub(crate) struct GimpRead {
 }
 
 #[repr(C)]
+pub(crate) struct GimpWritten {
+    pub(crate) refusal: u32,
+    pub(crate) bytes: usize,
+}
+
+#[repr(C)]
 pub(crate) struct SampleMade {
     pub(crate) refusal: u32,
     pub(crate) evaluations: usize,
@@ -139,6 +145,15 @@ extern "C" {
         _: usize,
     ) -> GimpRead;
     pub(crate) fn colorgrad_name(text: Bytes, _: usize, out: BytesOut, _: usize) -> usize;
+    pub(crate) fn colorgrad_write_ggr(
+        positions: Floats,
+        _: usize,
+        channels: Floats,
+        _: usize,
+        text: BytesOut,
+        _: usize,
+    ) -> GimpWritten;
+    pub(crate) fn colorgrad_numeral(x: f32, out: BytesOut, _: usize) -> usize;
     pub(crate) fn colorgrad_sample(
         kind: u32,
         positions: Floats,

@@ -34,6 +34,10 @@ pub const MARKS: usize = 3;
 pub const MOST_POINTS: usize = ROWS + 1;
 /// The most bytes that the tool prints.
 pub const MOST_PRINTED: usize = 50_029;
+/// Stops of a list that is written as a GIMP text.
+pub const MOST_WRITTEN: usize = 257;
+/// Bytes of a number that is written.
+pub const MOST_NUMERAL: usize = 18;
 
 /// The kinds of ramp, with the codes that the library knows them by.
 #[derive(Clone, Copy, PartialEq, Eq, Hash, Debug)]
@@ -339,6 +343,36 @@ pub fn read(text: &[u8], foreground: Color, background: Color, out: SegmentsMut<
 pub fn name(text: &[u8], out: &mut [u8]) -> usize {
     // SAFETY: as for a ramp's calls.
     unsafe { calls::colorgrad_name(text.as_ptr(), text.len(), out.as_mut_ptr(), out.len()) }
+}
+
+/// Bytes that are enough for a GIMP text of so many stops: with this room, 7 is never given.
+pub const fn written_bytes(stops: usize) -> usize {
+    34 + 213 * stops.saturating_sub(1)
+}
+
+/// Writes a list, n positions and 4n channels, as a GIMP text named `flattened`, and says how many bytes it has; what lies
+/// past them stays. Refused with 1 (fewer than 2 stops, more than [`MOST_WRITTEN`], or lengths that disagree) or 3: `text`
+/// stays as it was; with 19 or 7: all of it is set to zero.
+pub fn write_ggr(positions: &[f32], channels: &[f32], text: &mut [u8]) -> Result<usize, Refusal> {
+    // SAFETY: as for a ramp's calls.
+    let written = unsafe {
+        calls::colorgrad_write_ggr(
+            positions.as_ptr(),
+            positions.len(),
+            channels.as_ptr(),
+            channels.len(),
+            text.as_mut_ptr(),
+            text.len(),
+        )
+    };
+    answer(written.refusal, written.bytes)
+}
+
+/// How long the text of a number is in a GIMP text, 0 where it cannot be written. Its bytes are written where `out` holds
+/// them all, else it stays as it was; [`MOST_NUMERAL`] always suffice.
+pub fn numeral(x: f32, out: &mut [u8]) -> usize {
+    // SAFETY: as for a ramp's calls.
+    unsafe { calls::colorgrad_numeral(x, out.as_mut_ptr(), out.len()) }
 }
 
 /// How many bytes the tool `flatten` prints for an input. They are written where `output` holds them all, else it is set to

@@ -1,7 +1,7 @@
 //! Sample records, and the lists made of them.
 
-use crate::color::unflat;
-use crate::lent::{self, CELLS, MARKS, MOST_POINTS, ROWS};
+use crate::color::{flat, unflat};
+use crate::lent::{self, CELLS, MARKS, MOST_POINTS, MOST_WRITTEN, ROWS};
 use crate::{Color, LinearGradient, Refusal};
 
 /// How finely each of 36 cells of a ramp's domain has to be cut, at one threshold.
@@ -127,6 +127,31 @@ impl List {
     /// How many colours the call that made it asked for.
     pub fn evaluations(&self) -> usize {
         self.evaluations
+    }
+
+    /// The list as the text of a GIMP gradient, named `flattened`: linear RGB segments, 9 significant digits. Reading it
+    /// gives the segments back, bit for bit. Refused with 1 where it has more than 257 stops, and with 19 where it does not
+    /// run from 0 to 1 or a number other than zero, a half-way point too, has a magnitude below 1e-6 or above 1e6: so a
+    /// list of a smooth ramp, whose channel came out as 3e-8, is refused.
+    ///
+    /// ```
+    /// use guineaplume::{Color, GimpGradient, Gradient, LinearGradient};
+    /// use std::fmt::Write;
+    ///
+    /// let colors = [Color::new(0.0, 0.0, 0.0, 1.0), Color::new(1.0, 1.0, 1.0, 1.0)];
+    /// let list = LinearGradient::new(&[0.0, 1.0], &colors)?.linearize(0.007)?;
+    /// let mut file = String::new();
+    /// write!(file, "{}", list.to_ggr()?)?;
+    /// assert!(file.starts_with("GIMP Gradient\nName: flattened\n1\n0 0.500000000 1.00000000 0 0 0 1.00000000 "));
+    /// let read = GimpGradient::new(file.as_bytes(), &colors[0], &colors[1])?;
+    /// assert_eq!((read.name(), read.at(0.25)), ("flattened", Color::new(0.25, 0.25, 0.25, 1.0)));
+    /// # Ok::<(), Box<dyn std::error::Error>>(())
+    /// ```
+    pub fn to_ggr(&self) -> Result<String, Refusal> {
+        let mut text = vec![0; lent::written_bytes(self.positions.len().min(MOST_WRITTEN))];
+        let bytes = lent::write_ggr(&self.positions, &flat(&self.colors), &mut text)?;
+        text.truncate(bytes);
+        Ok(String::from_utf8(text).expect("what is written is ASCII"))
     }
 
     /// The list as a ramp of its own. Refused with 1 where it has more than 2,048 stops.

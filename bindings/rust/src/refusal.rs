@@ -53,12 +53,14 @@ pub enum Refusal {
     NotBuilt = 17,
     /// 18: segments of a GIMP text that do not run from 0 to 1, each in order and joined to the next.
     Torn = 18,
+    /// 19: a list with a number that cannot be written, or that does not run from 0 to 1.
+    Unwritable = 19,
     /// 20: a record that was sampled with another threshold in force, or on another domain.
     OtherThreshold = 20,
 }
 
 /// Every refusal, in the order of the numbers.
-const ALL: [Refusal; 19] = [
+const ALL: [Refusal; 20] = [
     Refusal::Misshapen,
     Refusal::NotFinite,
     Refusal::Falling,
@@ -77,11 +79,12 @@ const ALL: [Refusal; 19] = [
     Refusal::NotCarried,
     Refusal::NotBuilt,
     Refusal::Torn,
+    Refusal::Unwritable,
     Refusal::OtherThreshold,
 ];
 
 impl Refusal {
-    /// Its number, 1 to 18 or 20.
+    /// Its number, 1 to 20.
     pub fn number(self) -> u32 {
         self as u32
     }
@@ -113,6 +116,7 @@ impl Refusal {
             }
             Refusal::NotBuilt => "no sharp ramp can be built of so many colours on this domain",
             Refusal::Torn => "the segments of the GIMP text do not run from 0 to 1, each joined to the next",
+            Refusal::Unwritable => "a number of the list cannot be written, or it does not run from 0 to 1",
             Refusal::OtherThreshold => "the record was sampled with another threshold or on another domain",
         }
     }

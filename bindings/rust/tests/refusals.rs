@@ -265,7 +265,7 @@ fn empty_slices() {
 #[test]
 fn numbers_and_messages_are_those_of_the_header() {
     let header = include_str!("../../../include/colorgrad.h");
-    for number in (1..=18).chain([20]) {
+    for number in 1..=20 {
         let refusal = Refusal::from_number(number).expect("a number of a refusal");
         assert_eq!(refusal.number(), number);
         let name = header

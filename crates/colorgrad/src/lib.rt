@@ -18,6 +18,9 @@ pub use linearize::thin;
 // The same list one stop at a time, for a caller that has room for one.
 pub use next_stop::next_stop;
 
+// The list as a GIMP text, for the drawing tool.
+pub use ggr_writing::write;
+
 // An editor's change of one colour: record and list come out as if made afresh from the changed ramp.
 pub use refresh::refresh;
 pub use refresh::refresh_list;

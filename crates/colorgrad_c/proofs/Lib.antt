@@ -1,3 +1,4 @@
 pub mod Naming
+pub mod Writing
 pub mod Printing
 pub mod Stepping

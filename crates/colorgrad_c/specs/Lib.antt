@@ -5,3 +5,4 @@ pub mod Gimp
 pub mod Lists
 pub mod Edits
 pub mod Tool
+pub mod Writer

@@ -7,3 +7,4 @@ pub mod lists;
 pub mod ramps;
 pub mod steps;
 pub mod tool;
+pub mod writer;

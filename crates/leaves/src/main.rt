@@ -58,6 +58,14 @@ fn put_token(s: &[u8]) {
     }
 }
 
+// Nothing where the number cannot be written.
+fn put_numeral(x: f32) {
+    let t = numerals::write(x);
+    let bytes = t.bytes;
+    let n = t.len;
+    put(&bytes[..n]);
+}
+
 // The pattern b is a whole number for `n`, and for `h` both halves of one.
 fn answer(job: u8, b: u32) {
     let x = float::from_bits(b);
@@ -69,6 +77,7 @@ fn answer(job: u8, b: u32) {
         b'w' => put_whole(float::whole(x)),
         b'n' => put_bits(float::from_whole(b as u64)),
         b'h' => put_bits(float::from_whole(b as u64 * 0x1_0000_0001)),
+        b'd' => put_numeral(x),
         _ => {
             if float::is_finite(x) {
                 put(b"finite");

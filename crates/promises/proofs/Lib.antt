@@ -7,6 +7,7 @@ pub mod WholeRoot
 pub mod Sqrt
 pub mod Sine
 pub mod Decimal
+pub mod Numerals
 pub mod Text
 pub mod Rows
 pub mod Blend
@@ -27,4 +28,5 @@ pub mod Paint
 pub mod Desk
 pub mod Plain
 pub mod Face
+pub mod GgrWriting
 pub mod Spelling

@@ -9,6 +9,10 @@ mostStops = 2048
 abbrev pub mostSegments : ℕ
 mostSegments = 256
 
+-- stops of a list that is written as a GIMP file: one more than its segments
+abbrev pub mostWritten : ℕ
+mostWritten = 257
+
 -- colours of a sharp ramp to build
 abbrev pub mostColours : ℕ
 mostColours = 256

@@ -73,6 +73,10 @@ notBuilt = 17
 abbrev pub torn : ℕ
 torn = 18
 
+-- writing a list: a number that cannot be written, a half-way point too; or a first position other than 0, or a last other than 1
+abbrev pub unwritable : ℕ
+unwritable = 19
+
 -- to thin or refresh: the record's words are not the bits of the threshold in force, of min and of max
 abbrev pub otherThreshold : ℕ
 otherThreshold = 20

@@ -55,6 +55,9 @@ pub const NOT_BUILT: u8 = 17;
 // The segments of a GIMP file do not run in order from 0 to 1, each joined to the one before.
 pub const TORN: u8 = 18;
 
+// A number of a list that is to be written cannot be, or the list does not start at 0 and end at 1.
+pub const UNWRITABLE: u8 = 19;
+
 // A record of another threshold in force, or of other ends of the domain.
 pub const OTHER_THRESHOLD: u8 = 20;
 
@@ -63,6 +66,9 @@ pub const MOST_STOPS: usize = 2048;
 
 // Segments of a GIMP ramp.
 pub const MOST_SEGMENTS: usize = 256;
+
+// Stops of a list that is written as a GIMP file: one more than its segments.
+pub const MOST_WRITTEN: usize = 257;
 
 // Colours of a sharp ramp to build, which gets two stops for each.
 pub const MOST_COLOURS: usize = 256;

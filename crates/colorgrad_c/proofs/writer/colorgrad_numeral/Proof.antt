@@ -1,0 +1,41 @@
+-- `colorgrad_numeral` meets its contract: the text of `numerals`, written as a name is. Assumes nothing.
+use denote.Ref.{now}
+use mathlib.Core.Path.{sym}
+use Rattle.ggr_writing.proofs.Texts.{field-size, field-within}
+use Rattle.colorgrad_c.proofs.Writing.{numeral-put}
+use borrow.Author.Needs.{needs}
+use Rattle.colorgrad_c.proofs.writer.colorgrad_numeral.Statement.{statement}
+use Rattle.colorgrad_c.proofs.writer.colorgrad_numeral.Tie as tie
+use Rattle.colorgrad_c.proofs.writer.colorgrad_numeral.Reads as reads
+use Rattle.colorgrad_c.proofs.writer.colorgrad_numeral.Lts as lts
+use Rattle.numerals.proofs.write.Reads as write-reads
+use Rattle.plain.proofs.name.write_name.Reads as write-name-reads
+
+write-requires : tie.Need-write-requires
+write-requires c κs = search needs
+
+array-share-prefix-bytes : tie.Need-array-share-prefix-bytes
+array-share-prefix-bytes c = field-within (c .before .before .before .args .x) (c .before .write .ensures)
+
+slice-aggregate-write-name : tie.Need-slice-aggregate-write-name
+slice-aggregate-write-name c = sym (field-size (c .before .before .before .before .args .x) (c .before .before .write .ensures))
+
+write-name-requires : tie.Need-write-name-requires
+write-name-requires c κs = search needs
+
+same-length : tie.Need-same-length
+same-length c = search needs
+
+returns : tie.Need-returns
+returns c = let a = c .before .before .before .before .before .before .before .before .args in let e = c .before .before .write-name .ensures in numeral-put (a .x) (now (a .out)) (c .before .before .before .before .before .before .write .ensures) (e .0) (e .1)
+
+pub colorgrad-numeral-spec : {M : Type 1} → statement M
+colorgrad-numeral-spec =
+    tie.close
+    (tie.spec
+    write-requires
+    array-share-prefix-bytes
+    slice-aggregate-write-name
+    write-name-requires
+    same-length
+    returns)

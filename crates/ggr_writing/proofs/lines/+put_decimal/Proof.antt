@@ -1,0 +1,136 @@
+-- The cycle of calls {put_decimal}: the measure is how many digits are left, and the last digit follows those before it. Assumes nothing.
+use borrow.Author.Needs.{needs}
+use native.Mathlib.Omega.{arith}
+use Prim.Native.Nat.{_-_, _/_}
+use denote.Ref.{now}
+use Rattle.writing.proofs.Texts.{puts-then, puts-size, length-decimal, decimal-none, decimal-last, decimal-more}
+use Prim.Native.Nat.{ℕ, _<_}
+use borrow.Fn.Kinds.{In}
+use borrow.Fn.PlainCycle.{Measures, is, falls, and}
+use Rattle.ggr_writing.proofs.lines.put_decimal.Reads as put-decimal
+use Rattle.ggr_writing.proofs.lines.put_decimal.Kinds as put-decimal-kinds
+use Rattle.ggr_writing.proofs.lines.+put_decimal.Lts-put_decimal as put-decimal-lts
+use Rattle.ggr_writing.proofs.lines.put.Reads as put-reads
+use Rattle.ggr_writing.proofs.lines.+put_decimal.{statement}
+use Rattle.ggr_writing.proofs.lines.+put_decimal.Tie.{close}
+
+abbrev μ-put-decimal : Measures 1 put-decimal-kinds.ps ℕ
+μ-put-decimal κs a = a .1 .1 .1 .0
+
+abbrev put-decimal-at : ℕ → In 1 put-decimal-kinds.ps
+put-decimal-at t =
+    and 1 put-decimal-kinds.ps (is 1 put-decimal-kinds.ps μ-put-decimal t) put-decimal.Pre
+
+abbrev put-decimal-below : ℕ → In 1 put-decimal-kinds.ps
+put-decimal-below t =
+    and 1 put-decimal-kinds.ps (falls 1 put-decimal-kinds.ps _<_ μ-put-decimal t) put-decimal.Pre
+
+put-decimal-returns : (t : ℕ) → put-decimal-lts.Need-returns (
+  put-reads.Asked,
+  put-reads.Learnt,
+  put-decimal-below t,
+  put-decimal.Post,
+) (put-decimal-at t) put-decimal.Post
+put-decimal-returns t c = decimal-none (now (c .before .before .args .out)) (c .before .before .args .at) (c .before .before .args .n) (c .before .before .args .left) (c .if1 .taken)
+
+put-decimal-cast-digit : (t : ℕ) → put-decimal-lts.Need-cast-digit (
+  put-reads.Asked,
+  put-reads.Learnt,
+  put-decimal-below t,
+  put-decimal.Post,
+) (put-decimal-at t) put-decimal.Post
+put-decimal-cast-digit t c = search needs
+
+put-decimal-add-digit : (t : ℕ) → put-decimal-lts.Need-add-digit (
+  put-reads.Asked,
+  put-reads.Learnt,
+  put-decimal-below t,
+  put-decimal.Post,
+) (put-decimal-at t) put-decimal.Post
+put-decimal-add-digit t c = search needs
+
+put-decimal-put-requires : (t : ℕ) → put-decimal-lts.Need-put-requires (
+  put-reads.Asked,
+  put-reads.Learnt,
+  put-decimal-below t,
+  put-decimal.Post,
+) (put-decimal-at t) put-decimal.Post
+put-decimal-put-requires t c κs = search needs
+
+put-decimal-same-length : (t : ℕ) → put-decimal-lts.Need-same-length (
+  put-reads.Asked,
+  put-reads.Learnt,
+  put-decimal-below t,
+  put-decimal.Post,
+) (put-decimal-at t) put-decimal.Post
+put-decimal-same-length t c = puts-size (c .before .before .put .ensures)
+
+put-decimal-returns-2 : (t : ℕ) → put-decimal-lts.Need-returns-2 (
+  put-reads.Asked,
+  put-reads.Learnt,
+  put-decimal-below t,
+  put-decimal.Post,
+) (put-decimal-at t) put-decimal.Post
+put-decimal-returns-2 t c = decimal-last (c .before .before .before .before .before .before .before .args .n) (c .before .before .before .before .before .before .before .args .left) (c .before .before .before .before .before .if1 .left) (c .before .before .before .before .if2 .taken) (c .before .before .put .ensures)
+
+put-decimal-sub-put-decimal : (t : ℕ) → put-decimal-lts.Need-sub-put-decimal (
+  put-reads.Asked,
+  put-reads.Learnt,
+  put-decimal-below t,
+  put-decimal.Post,
+) (put-decimal-at t) put-decimal.Post
+put-decimal-sub-put-decimal t c = search needs
+
+put-decimal-put-decimal-requires : (t : ℕ) → put-decimal-lts.Need-put-decimal-requires (
+  put-reads.Asked,
+  put-reads.Learnt,
+  put-decimal-below t,
+  put-decimal.Post,
+) (put-decimal-at t) put-decimal.Post
+put-decimal-put-decimal-requires t c κs = (omega arith, omega arith)
+
+put-decimal-put-requires-2 : (t : ℕ) → put-decimal-lts.Need-put-requires-2 (
+  put-reads.Asked,
+  put-reads.Learnt,
+  put-decimal-below t,
+  put-decimal.Post,
+) (put-decimal-at t) put-decimal.Post
+put-decimal-put-requires-2 t c κs = omega (arith, c .before .before .before .put-decimal .ensures .next, length-decimal (c .before .before .before .before .before .before .before .before .args .left - 1) (c .before .before .before .before .before .before .before .before .args .n / 10))
+
+put-decimal-same-length-2 : (t : ℕ) → put-decimal-lts.Need-same-length-2 (
+  put-reads.Asked,
+  put-reads.Learnt,
+  put-decimal-below t,
+  put-decimal.Post,
+) (put-decimal-at t) put-decimal.Post
+put-decimal-same-length-2 t c = puts-size (puts-then (c .before .before .before .before .before .before .put-decimal .ensures) (c .before .before .put2 .ensures))
+
+put-decimal-returns-3 : (t : ℕ) → put-decimal-lts.Need-returns-3 (
+  put-reads.Asked,
+  put-reads.Learnt,
+  put-decimal-below t,
+  put-decimal.Post,
+) (put-decimal-at t) put-decimal.Post
+put-decimal-returns-3 t c = let at-put-decimal = c .before .before .before .before .before .before in let at-else2 = at-put-decimal .before .before in let at-else1 = at-else2 .before in let at-start = at-else1 .before .before in
+    decimal-more (at-start .args .n) (at-start .args .left) (at-else1 .if1 .left) (at-else2 .if2 .left) (at-put-decimal .put-decimal .ensures) (c .before .before .put2 .ensures)
+
+pub +put-decimal-spec : {M : Type 1} → statement M
++put-decimal-spec = close μ-put-decimal λ t. put-decimal-lts.spec (
+  put-reads.Asked,
+  put-reads.Learnt,
+  put-decimal-below t,
+  put-decimal.Post,
+)
+    (put-decimal-at t)
+    put-decimal.Post
+    (put-decimal-returns t)
+    (put-decimal-cast-digit t)
+    (put-decimal-add-digit t)
+    (put-decimal-put-requires t)
+    (put-decimal-same-length t)
+    (put-decimal-returns-2 t)
+    (put-decimal-sub-put-decimal t)
+    (put-decimal-put-decimal-requires t)
+    (put-decimal-put-requires-2 t)
+    (put-decimal-same-length-2 t)
+    (put-decimal-returns-3 t)

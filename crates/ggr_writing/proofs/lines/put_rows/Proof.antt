@@ -1,0 +1,69 @@
+-- `put_rows` meets its contract: the lines put and those left are all the lines. Assumes nothing.
+use borrow.Author.Needs.{needs}
+use borrow.Author.Needs.{needs}
+use native.Mathlib.Omega.{arith}
+use mathlib.Core.Path.{_≡_, refl, _∙_}
+use Prim.Native.Nat.{_-_}
+use denote.Ref.{now}
+use lib.ListN.{length}
+use Rattle.writing.proofs.Texts.{puts-size}
+use Rattle.ggr_writing.proofs.Texts.{Rowed, rowed-start, rowed-next, rowed-done}
+use Rattle.ggr_writing.proofs.lines.put_rows.Statement.{statement}
+use Rattle.ggr_writing.proofs.lines.put_rows.Tie as tie
+use Rattle.ggr_writing.proofs.lines.put_rows.Reads as reads
+use Rattle.ggr_writing.proofs.lines.put_rows.Lts as lts
+use Rattle.ggr_writing.proofs.lines.put_segment.Reads as put-segment-reads
+use Rattle.stops.proofs.stop.Reads as stop-reads
+
+abbrev Inv-loop : tie.InvT-loop
+Inv-loop out₀ at n positions channels next₀ i₀ out next i = (length out ≡ length out₀) × Rowed out₀ out at next n i positions channels
+
+abbrev μ-loop : tie.MeasureT-loop
+μ-loop out₀ at n positions channels next₀ i₀ out next i = n - i
+
+loop-holds : tie.Need-loop-holds Inv-loop μ-loop
+loop-holds c = let a = c .before .before .before .args in (refl, rowed-start (now (a .out)) (a .at) (a .n) (a .positions .now) (a .channels .now))
+
+stop-requires : tie.Need-stop-requires Inv-loop μ-loop
+stop-requires c κs = search needs
+
+add-stop : tie.Need-add-stop Inv-loop μ-loop
+add-stop c = search needs
+
+stop-requires-2 : tie.Need-stop-requires-2 Inv-loop μ-loop
+stop-requires-2 c κs = search needs
+
+put-segment-requires : tie.Need-put-segment-requires Inv-loop μ-loop
+put-segment-requires c κs = let l = c .before .before .before .before .loop .inv .1 in omega (arith, l .put .next, l .size)
+
+add-i : tie.Need-add-i Inv-loop μ-loop
+add-i c = search needs
+
+loop-less : tie.Need-loop-less Inv-loop μ-loop
+loop-less c = search needs
+
+loop-again : tie.Need-loop-again Inv-loop μ-loop
+loop-again c = let l = c .before .before .before .before .before .before .before .loop .inv in (puts-size (c .before .before .put-segment .ensures) ∙ l .0, rowed-next (search needs) (c .before .before .before .before .before .stop .ensures) (c .before .before .before .before .stop2 .ensures) (l .1) (c .before .before .put-segment .ensures))
+
+same-length : tie.Need-same-length Inv-loop μ-loop
+same-length c = c .before .loop .inv .0
+
+returns : tie.Need-returns Inv-loop μ-loop
+returns c = rowed-done (search needs) (c .before .loop .inv .1)
+
+pub put-rows-spec : {M : Type 1} → statement M
+put-rows-spec =
+    tie.close
+    (tie.spec
+    Inv-loop
+    μ-loop
+    loop-holds
+    stop-requires
+    add-stop
+    stop-requires-2
+    put-segment-requires
+    add-i
+    loop-less
+    loop-again
+    same-length
+    returns)
