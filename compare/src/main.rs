@@ -7,6 +7,7 @@ mod count;
 mod counts;
 mod files;
 mod gimp_texts;
+mod judge;
 mod limits;
 mod list_limits;
 mod lists;
@@ -16,6 +17,7 @@ mod options;
 mod oracle;
 mod ordinary;
 mod ours;
+mod own_lists;
 mod ramps;
 mod random;
 mod refresh;
@@ -37,19 +39,20 @@ use std::path::Path;
 use std::process::ExitCode;
 
 const USAGE: &str = "compare COMMAND [N] [--seed S] [--case I]
-  roots tokens colours sine sharp texts counts torn lists refresh marks many   one comparison, of N inputs
+  roots tokens colours sine sharp texts counts torn lists refresh marks many judge   one comparison, of N inputs
   all [PERCENT]      every comparison, at its full size or at that part of it
   differences        the smallest inputs of docs/DIFFERENCES.md, with the Rust's answers and ours
   files FOLDER       the .ggr files in it, as compare/fetch gets them
   bench [TABLE]      times beside the Rust's: root token paint files read flatten refresh
   count [TABLE]      instructions in place of times, by valgrind's callgrind
+  own [N] [FOLDER]   how many of our own lists are turned down, of N random ramps and of the .ggr files in FOLDER
   typing             request (x): how much of a fresh flattening a keystroke is, and whether its two figures hold
   sample FOLDER      the stored answers of the program replay, as FOLDER/stdin and FOLDER/stdout";
 
 type Comparison = (&'static str, fn(&Options) -> Vec<Tally>, u64);
 
 /// Each comparison with its full size.
-const COMPARISONS: [Comparison; 12] = [
+const COMPARISONS: [Comparison; 13] = [
     ("roots", roots::run, 1 << 32),
     ("tokens", tokens::run, 100_000_000),
     ("colours", colours::run, 2_000_000),
@@ -62,6 +65,7 @@ const COMPARISONS: [Comparison; 12] = [
     ("refresh", refresh::run, 40_000),
     ("marks", marks::run, 20_000),
     ("many", many::run, 4_000),
+    ("judge", judge::run, 100_000),
 ];
 
 fn main() -> ExitCode {
@@ -97,6 +101,7 @@ fn run(words: &[String]) -> Result<bool, String> {
         }
         "count" => count::run(rest),
         "typing" => Ok(typing::run()),
+        "own" => Ok(own_lists::run(&Options::read(rest, 100_000)?)),
         "differences" => {
             smallest::run();
             Ok(true)

@@ -2,7 +2,7 @@
 
 use crate::color::{flat, unflat};
 use crate::lent::{self, Kind, MOST_SEGMENTS};
-use crate::{Color, List, ParseGgrError, Record, Refusal};
+use crate::{Color, List, ParseGgrError, Record, Refusal, Verdict};
 
 /// What passed its check is not refused.
 fn taken<T>(answer: Result<T, Refusal>) -> T {
@@ -92,6 +92,12 @@ pub trait Gradient {
     /// domain; 9 where it is of another ramp and falls.
     fn thin(&self, record: &Record) -> Result<List, Refusal> {
         List::made(|out| self.lent().thin(record.threshold(), record.lent(), out))
+    }
+
+    /// What is to be said of a list of stops that was made elsewhere: whether it shows the ramp within the threshold, and
+    /// what is wrong if not. Refused with 4 where the domain reaches beyond 1e38. Examples are at [`Verdict`].
+    fn judge(&self, threshold: f32, positions: &[f32], colors: &[Color]) -> Result<Verdict, Refusal> {
+        self.lent().judge(threshold, positions, &flat(colors))
     }
 }
 

@@ -3,3 +3,4 @@ pub mod kinds;
 pub mod lists;
 pub mod name;
 pub mod ramps;
+pub mod verdicts;

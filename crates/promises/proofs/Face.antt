@@ -27,6 +27,7 @@ use Rattle.colorgrad_c.proofs.tool.colorgrad_desk.Reads as of-desk
 use Rattle.colorgrad_c.proofs.lists.colorgrad_sample.Reads as of-sample
 use Rattle.colorgrad_c.proofs.lists.colorgrad_thin.Reads as of-thin
 use Rattle.colorgrad_c.proofs.lists.colorgrad_flatten.Reads as of-flatten
+use Rattle.colorgrad_c.proofs.judging.colorgrad_judge.Reads as of-judge
 use Rattle.colorgrad_c.proofs.edits.colorgrad_refresh.Reads as of-refresh
 use Rattle.colorgrad_c.proofs.edits.colorgrad_refresh_list.Reads as of-refresh-list
 
@@ -119,3 +120,6 @@ domain κs a = by-code-alone (a .0) (λ kind. coincide (λ r e w. w)) (coincide 
 
 pub at : (κs : Lfts 3) (a : _) → Coincide (of-at.Learnt κs a) answer
 at κs a = by-code-alone (a .0) (λ kind. coincide (λ r e w. w .answer)) (coincide (λ r e w. w))
+
+pub judge : (κs : Lfts 5) (a : _) → Coincide (of-judge.Learnt κs a) answer
+judge κs a = by-code-alone (a .0) (λ kind. coincide (λ r e w. w .answer)) (coincide (λ r e w. w))

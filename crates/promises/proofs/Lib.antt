@@ -21,6 +21,7 @@ pub mod Thinning
 pub mod Linearize
 pub mod Reach
 pub mod Refresh
+pub mod Judge
 pub mod Paint
 pub mod Desk
 pub mod Plain
