@@ -421,6 +421,26 @@ static void check_steps(ColorgradListed whole, Desk desk, Ramp ramp)
     expect(!handed.has_stop && handed.refusal == 0 && handed.place.state == COLORGRAD_ENDED, "nothing more");
 }
 
+/* What is said of the list that was made: nothing is wrong with its length, its stops and its ends. */
+static void check_verdict(ColorgradListed made, Desk desk, Ramp ramp)
+{
+    size_t n = made.stops;
+    ColorgradJudged told =
+        colorgrad_judge(LENT_RAMP(ramp), ramp.threshold, items(desk.places), n, items(desk.colours), 4 * n);
+    bool is_refused = made.refusal >= 1 && made.refusal <= COLORGRAD_FAR_DOMAIN;
+    expect(told.refusal == (is_refused ? made.refusal : 0), "the ramp is refused alike, and a list never");
+    expect(told.stop == 0, "no stop is named");
+    if (told.verdict == COLORGRAD_TOO_FAR) {
+        expect(made.refusal == 0, "a point of a list that there is");
+        expect(told.row < COLORGRAD_CELLS ? told.index < COLORGRAD_ROW : told.row == COLORGRAD_CELLS && told.index == 0,
+               "a point of a sampling");
+        return;
+    }
+    expect(told.row == 0 && told.index == 0 && told.t == 0.0f, "no point is named");
+    expect(told.verdict == (is_refused ? COLORGRAD_NOT_JUDGED : made.refusal != 0 ? COLORGRAD_WRONG_LENGTH : COLORGRAD_YES),
+           "yes, or what is wrong");
+}
+
 static void fuzz_flatten(Bytes in)
 {
     Ramp ramp = ramp_of(&in);
@@ -434,6 +454,7 @@ static void fuzz_flatten(Bytes in)
     ColorgradSampled sampled = colorgrad_sample(LENT_RAMP(ramp), ramp.threshold, LENT_RECORD(twice));
     expect(checked <= 3 && (checked == 0 || made.refusal == checked), "the check comes first");
     check_list(made, desk, ramp);
+    check_verdict(made, desk, ramp);
     if (made.refusal >= 1 && made.refusal <= 6) {
         expect(made.refusal <= 5 && sampled.refusal == made.refusal, "sampling is refused alike");
         expect(is_all(desk.rows, 0, RUBBISH) && is_all(desk.counts, 0, RUBBISH) && is_all(desk.marks, 0, RUBBISH),

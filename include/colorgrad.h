@@ -300,6 +300,53 @@ ColorgradListed colorgrad_refresh_list(uint32_t kind, const float *positions, si
                                        uint32_t *marks, size_t marks_length, float *places, size_t places_length,
                                        float *colours, size_t colours_length);
 
+/* ---- a list that was made elsewhere
+ *
+ * Whether a list of stops, mixed linearly, shows a ramp within a threshold. The verdict is yes exactly where the list has 2
+ * to COLORGRAD_MOST_POINTS stops, four channels each, finite and never falling, starts and ends where the ramp does (-0 is
+ * 0), and differs from the ramp, both colours taken into 0..1, by no more than the threshold that colorgrad_threshold gives:
+ * at every point of a fresh sampling, and at max. Else it is no, with the first of these that is not so. */
+#define COLORGRAD_NOT_JUDGED 0u   /* the ramp is refused */
+#define COLORGRAD_YES 1u
+#define COLORGRAD_WRONG_LENGTH 2u
+#define COLORGRAD_BAD_STOP 3u     /* the stop, counted from 0 */
+#define COLORGRAD_WRONG_FIRST 4u
+#define COLORGRAD_WRONG_LAST 5u
+#define COLORGRAD_TOO_FAR 6u      /* the point: its row and its index there, counted from 0, and its t; max is row 36, index 0 */
+
+/* What a verdict means, in one line of plain words; never null. */
+static inline const char *colorgrad_verdict_message(uint32_t verdict)
+{
+    switch (verdict) {
+    case COLORGRAD_NOT_JUDGED: return "the ramp is refused, and the list was not looked at";
+    case COLORGRAD_YES: return "the list shows the ramp within the threshold";
+    case COLORGRAD_WRONG_LENGTH: return "the list is not 2 to 4,609 stops of a position and four channels each";
+    case COLORGRAD_BAD_STOP: return "a stop of the list is not finite, or lies before the one ahead of it";
+    case COLORGRAD_WRONG_FIRST: return "the list does not start where the ramp does";
+    case COLORGRAD_WRONG_LAST: return "the list does not end where the ramp does";
+    case COLORGRAD_TOO_FAR: return "the list's colour is too far from the ramp's";
+    default: return "no such verdict";
+    }
+}
+
+/* The refusal and COLORGRAD_NOT_JUDGED; or 0 and the verdict, with the stop or the point that it names; what it does not
+ * name is 0. */
+typedef struct {
+    uint32_t refusal;
+    uint32_t verdict;
+    size_t stop;
+    size_t row;
+    size_t index;
+    float t;
+} ColorgradJudged;
+
+/* Judges a list: places and, four channels each, colours. Nothing is written, and no record is asked for. Refused with 1 to
+ * 4, of the ramp alone. */
+ColorgradJudged colorgrad_judge(uint32_t kind, const float *positions, size_t positions_length, const float *channels,
+                                size_t channels_length, const uint8_t *codes, size_t codes_length, float threshold,
+                                const float *places, size_t places_length, const float *colours,
+                                size_t colours_length);
+
 /* ---- the tool, and the leaves below it */
 
 /* What the tool `flatten` prints for an input: how many bytes. They are written to the start of output where output holds

@@ -7,6 +7,7 @@ mod count;
 mod counts;
 mod files;
 mod gimp_texts;
+mod judge;
 mod limits;
 mod list_limits;
 mod lists;
@@ -17,6 +18,7 @@ mod oracle;
 mod ordinary;
 mod ours;
 mod promised;
+mod own_lists;
 mod ramps;
 mod random;
 mod refresh;
@@ -47,13 +49,14 @@ const USAGE: &str = "compare COMMAND [N] [--seed S] [--case I]
   files FOLDER       the .ggr files in it, as compare/fetch gets them
   bench [TABLE]      times beside the Rust's: root token paint files read flatten refresh
   count [TABLE]      instructions in place of times, by valgrind's callgrind
+  own [N] [FOLDER]   how many of our own lists are turned down, of N random ramps and of the .ggr files in FOLDER
   typing             request (x): how much of a fresh flattening a keystroke is, and whether its two figures hold
   sample FOLDER      the stored answers of the program replay, as FOLDER/stdin and FOLDER/stdout";
 
 type Comparison = (&'static str, fn(&Options) -> Vec<Tally>, u64);
 
 /// Each comparison with its full size.
-const COMPARISONS: [Comparison; 16] = [
+const COMPARISONS: [Comparison; 17] = [
     ("roots", roots::run, 1 << 32),
     ("tokens", tokens::run, 100_000_000),
     ("colours", colours::run, 2_000_000),
@@ -70,6 +73,7 @@ const COMPARISONS: [Comparison; 16] = [
     ("steps", steps::run, 20_000),
     ("numerals", written::numbers, written::ALL),
     ("written", written::lists, 100_000),
+    ("judge", judge::run, 100_000),
 ];
 
 fn main() -> ExitCode {
@@ -111,6 +115,7 @@ fn run(words: &[String]) -> Result<bool, String> {
         }
         "count" => count::run(rest),
         "typing" => Ok(typing::run()),
+        "own" => Ok(own_lists::run(&Options::read(rest, 100_000)?)),
         "differences" => {
             smallest::run();
             Ok(true)

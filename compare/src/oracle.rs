@@ -64,6 +64,13 @@ pub fn unchecked(ramp: &Ramp) -> Unchecked {
     }
 }
 
+/// Stops that are never falling, mixed linearly: as many as there are.
+pub fn mixed(positions: &[f32], channels: &[f32]) -> Boxed {
+    let colour = |c: &[f32]| [c[0], c[1], c[2], c[3]];
+    let stops = positions.iter().zip(channels.chunks(4)).map(|(p, c)| (*p, colour(c))).collect::<Vec<_>>();
+    Box::new(LinearGradient::from_rgba_data(stops).expect("two stops or more"))
+}
+
 pub fn at(g: &Boxed, t: f32) -> [f32; 4] {
     g.at(t).to_array()
 }

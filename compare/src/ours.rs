@@ -1,5 +1,6 @@
 //! The library under test: its C functions, wrapped. The only unsafe code of this package is here.
 
+use crate::judge::Verdict;
 use crate::oracle::Record;
 use crate::ramps::Ramp;
 
@@ -72,6 +73,16 @@ struct StopHanded {
     colour: [f32; 4],
     evaluations: usize,
     place: Place,
+}
+
+#[repr(C)]
+struct Judgement {
+    refusal: u32,
+    verdict: u32,
+    stop: usize,
+    row: usize,
+    index: usize,
+    t: f32,
 }
 
 extern "C" {
@@ -245,6 +256,20 @@ extern "C" {
         colours: *mut f32,
         colours_length: usize,
     ) -> ListMade;
+    fn colorgrad_judge(
+        kind: u32,
+        positions: *const f32,
+        positions_length: usize,
+        channels: *const f32,
+        channels_length: usize,
+        codes: *const u8,
+        codes_length: usize,
+        threshold: f32,
+        places: *const f32,
+        places_length: usize,
+        colours: *const f32,
+        colours_length: usize,
+    ) -> Judgement;
     fn colorgrad_name(text: *const u8, text_length: usize, out: *mut u8, out_length: usize) -> usize;
 }
 
@@ -552,4 +577,36 @@ pub fn refresh_list(
             colours.len(),
         )
     })
+}
+
+/// What is said of a list, or the number of the ramp's refusal.
+pub fn judge(ramp: &Ramp, threshold: f32, places: &[f32], colours: &[f32]) -> Result<Verdict, u32> {
+    let (p, c, k) = (&ramp.positions, &ramp.channels, &ramp.codes);
+    let told = unsafe {
+        colorgrad_judge(
+            ramp.kind.code(),
+            p.as_ptr(),
+            p.len(),
+            c.as_ptr(),
+            c.len(),
+            k.as_ptr(),
+            k.len(),
+            threshold,
+            places.as_ptr(),
+            places.len(),
+            colours.as_ptr(),
+            colours.len(),
+        )
+    };
+    // what a verdict does not name is 0
+    match (told.refusal, told.verdict, told.stop, told.row, told.index, told.t.to_bits()) {
+        (0, 1, 0, 0, 0, 0) => Ok(Verdict::Yes),
+        (0, 2, 0, 0, 0, 0) => Ok(Verdict::WrongLength),
+        (0, 3, stop, 0, 0, 0) => Ok(Verdict::BadStop(stop)),
+        (0, 4, 0, 0, 0, 0) => Ok(Verdict::WrongFirst),
+        (0, 5, 0, 0, 0, 0) => Ok(Verdict::WrongLast),
+        (0, 6, 0, row, index, t) => Ok(Verdict::TooFar(row, index, t)),
+        (number, 0, 0, 0, 0, 0) if number != 0 => Err(number),
+        other => panic!("no such answer: {other:?}"),
+    }
 }

@@ -113,6 +113,33 @@ static void lists(void)
     expect(redone.evaluations < again.evaluations, "a refresh asks for fewer colours");
 }
 
+/* A list from elsewhere: whether it shows the ramp. */
+static ColorgradJudged judge(const float *places, size_t stops, const float *colours)
+{
+    return colorgrad_judge(COLORGRAD_LINEAR, positions, STOPS, channels, 4 * STOPS, NULL, 0, COLORGRAD_THRESHOLD, places,
+                           stops, colours, 4 * stops);
+}
+
+static void verdicts(void)
+{
+    const float ends[2] = {0.0f, 1.0f};
+    const float beyond[2] = {0.0f, 2.0f};
+    float colours[8];
+    ColorgradListed made = flatten(channels, &sheet);
+    ColorgradJudged own = judge(sheet.places, made.stops, sheet.colours), told;
+    memcpy(colours, channels, 4 * sizeof *colours);
+    memcpy(colours + 4, channels + 12, 4 * sizeof *colours);
+    told = judge(ends, 2, colours);
+    printf("the list, judged: %s\n", colorgrad_verdict_message(own.verdict));
+    printf("its ends alone: %s, first at %g\n", colorgrad_verdict_message(told.verdict), told.t);
+    expect(own.refusal == COLORGRAD_FINE && own.verdict == COLORGRAD_YES, "the list of the ramp's own stops");
+    expect(told.verdict == COLORGRAD_TOO_FAR && told.row < COLORGRAD_CELLS, "two stops for four");
+    expect(judge(beyond, 2, colours).verdict == COLORGRAD_WRONG_LAST, "a list that ends elsewhere");
+    expect(judge(NULL, 0, NULL).verdict == COLORGRAD_WRONG_LENGTH, "no list");
+    expect(colorgrad_judge(6, NULL, 0, NULL, 0, NULL, 0, 0.0f, NULL, 0, NULL, 0).refusal == COLORGRAD_MISSHAPEN,
+           "a kind that there is not");
+}
+
 static void refusals(void)
 {
     const float falling[STOPS] = {0.0f, 0.5f, 0.25f, 1.0f};
@@ -218,6 +245,7 @@ int main(void)
 {
     colours();
     lists();
+    verdicts();
     refusals();
     gimp();
     written();

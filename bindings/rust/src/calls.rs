@@ -66,6 +66,16 @@ pub(crate) struct StopHanded {
 }
 
 #[repr(C)]
+pub(crate) struct Judgement {
+    pub(crate) refusal: u32,
+    pub(crate) verdict: u32,
+    pub(crate) stop: usize,
+    pub(crate) row: usize,
+    pub(crate) index: usize,
+    pub(crate) t: f32,
+}
+
+#[repr(C)]
 pub(crate) struct TokenRead {
     pub(crate) is_number: bool,
     pub(crate) value: f32,
@@ -267,6 +277,20 @@ extern "C" {
         colors: FloatsOut,
         _: usize,
     ) -> ListMade;
+    pub(crate) fn colorgrad_judge(
+        kind: u32,
+        positions: Floats,
+        _: usize,
+        channels: Floats,
+        _: usize,
+        codes: Bytes,
+        _: usize,
+        threshold: f32,
+        places: Floats,
+        _: usize,
+        colors: Floats,
+        _: usize,
+    ) -> Judgement;
     pub(crate) fn colorgrad_desk(input: Bytes, _: usize, output: BytesOut, _: usize) -> usize;
     pub(crate) fn colorgrad_threshold(asked: f32) -> f32;
     pub(crate) fn colorgrad_root(x: f32) -> f32;

@@ -2,7 +2,7 @@
 
 use crate::color::{flat, unflat};
 use crate::lent::{self, Kind, MOST_SEGMENTS};
-use crate::{Color, List, ParseGgrError, Record, Refusal, Stops};
+use crate::{Color, List, ParseGgrError, Record, Refusal, Stops, Verdict};
 
 /// What passed its check is not refused.
 pub(crate) fn taken<T>(answer: Result<T, Refusal>) -> T {
@@ -111,6 +111,12 @@ pub trait Gradient {
     /// ```
     fn stops_of<'a>(&'a self, record: &'a Record) -> Stops<'a> {
         Stops::new(self.lent(), record.threshold(), record.lent())
+    }
+
+    /// What is to be said of a list of stops that was made elsewhere: whether it shows the ramp within the threshold, and
+    /// what is wrong if not. Refused with 4 where the domain reaches beyond 1e38. Examples are at [`Verdict`].
+    fn judge(&self, threshold: f32, positions: &[f32], colors: &[Color]) -> Result<Verdict, Refusal> {
+        self.lent().judge(threshold, positions, &flat(colors))
     }
 }
 

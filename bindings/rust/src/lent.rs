@@ -18,7 +18,7 @@
 //! ```
 
 use crate::calls;
-use crate::{Color, ParseGgrError, Refusal};
+use crate::{Color, ParseGgrError, Refusal, Verdict};
 
 /// How many stops a ramp may have.
 pub const MOST_STOPS: usize = 2048;
@@ -282,6 +282,21 @@ impl Ramp<'_> {
             out.channels.as_mut_ptr(),
             out.channels.len()
         ))
+    }
+
+    /// What is to be said of a list of stops, one position and four channels each, that was made elsewhere. Lengths that
+    /// disagree are a wrong length. Refused with 1 to 4, of the ramp alone.
+    pub fn judge(&self, threshold: f32, positions: &[f32], channels: &[f32]) -> Result<Verdict, Refusal> {
+        let told = with_ramp!(
+            colorgrad_judge,
+            self,
+            threshold,
+            positions.as_ptr(),
+            positions.len(),
+            channels.as_ptr(),
+            channels.len()
+        );
+        answer(told.refusal, ()).map(|()| Verdict::told(told))
     }
 }
 

@@ -28,6 +28,8 @@
 //! taken as they are; what cannot be used is an `Err` with its reason, where colorgrad panics or mends; `linearize` answers
 //! a [`List`], which counts the evaluations and is a gradient again by [`List::gradient`].
 //!
+//! A list of stops from elsewhere is held against a ramp by [`Gradient::judge`], which answers a [`Verdict`].
+//!
 //! The module [`lent`] has the same calls on slices of the caller's, with nothing allocated.
 
 #![deny(missing_docs)]
@@ -41,6 +43,7 @@ mod ordinary;
 mod record;
 mod refusal;
 mod steps;
+mod verdict;
 
 pub use color::Color;
 pub use gradient::{
@@ -51,6 +54,7 @@ pub use ordinary::Ordinary;
 pub use record::{List, Record};
 pub use refusal::{ParseGgrError, Refusal};
 pub use steps::{Handed, Place, Stops};
+pub use verdict::Verdict;
 
 /// What the tool `flatten` prints for an input.
 ///

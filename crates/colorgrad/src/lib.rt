@@ -24,3 +24,6 @@ pub use ggr_writing::write;
 // An editor's change of one colour: record and list come out as if made afresh from the changed ramp.
 pub use refresh::refresh;
 pub use refresh::refresh_list;
+
+// A list that was made elsewhere: whether it shows a ramp within a threshold, and what is wrong if not.
+pub use judge::judge;

@@ -3,6 +3,7 @@ pub mod Ramps
 pub mod Steps
 pub mod Gimp
 pub mod Lists
+pub mod Judging
 pub mod Edits
 pub mod Tool
 pub mod Writer

@@ -2,6 +2,7 @@
 // A slice passes as a pointer and a length; with length 0 the pointer is not read.
 pub mod edits;
 pub mod gimp;
+pub mod judging;
 pub mod leaves;
 pub mod lists;
 pub mod ramps;

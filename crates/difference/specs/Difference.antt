@@ -16,8 +16,12 @@ square x = x ⊗ x
 unfoldable pub squaresOf : Rgba → Rgba → Float
 squaresOf x y = square (x .r ⊖ y .r) ⊕ square (x .g ⊖ y .g) ⊕ square (x .b ⊖ y .b) ⊕ square (x .a ⊖ y .a)
 
+-- half the root, of the clamped colours
+abbrev pub distanceOf : Rgba → Rgba → Float
+distanceOf x y = rootOf (squaresOf (clampedOf x) (clampedOf y)) ⊘ f2
+
 unfoldable pub differs : Float → Rgba → Rgba → Bool
-differs threshold x y = lt threshold (rootOf (squaresOf (clampedOf x) (clampedOf y)) ⊘ f2)
+differs threshold x y = lt threshold (distanceOf x y)
 
 -- the same by one comparison, with the cutoff of a threshold
 unfoldable pub exceeds : Float → Rgba → Rgba → Bool

@@ -1,7 +1,7 @@
 // How far apart two colours are.
 use blend::Rgba;
 ghost use mathlib.Core.Path.{_≡_};
-ghost use Rattle.difference.specs.Difference.{clampedOf, squaresOf, exceeds};
+ghost use Rattle.difference.specs.Difference.{clampedOf, squaresOf, distanceOf, exceeds};
 
 fn clamped(x: Rgba) -> Rgba
     ensures { λ r. ⌜ r ≡ clampedOf x ⌝ }
@@ -22,6 +22,15 @@ fn squares(x: Rgba, y: Rgba) -> f32
     let db = x.b - y.b;
     let da = x.a - y.a;
     dr * dr + dg * dg + db * db + da * da
+}
+
+// How far apart the clamped colours are.
+pub fn distance(x: Rgba, y: Rgba) -> f32
+    ensures { λ r. ⌜ r ≡ distanceOf x y ⌝ }
+{
+    let a = clamped(x);
+    let b = clamped(y);
+    sqrt::root(squares(a, b)) / 2.0
 }
 
 // Whether the clamped colours differ by more than the threshold of the cutoff. The only place where that is tested.

@@ -3,3 +3,4 @@ pub mod Ramps
 pub mod Lists
 pub mod Name
 pub mod Steps
+pub mod Verdicts

@@ -4,3 +4,4 @@ pub mod lists;
 pub mod name;
 pub mod ramps;
 pub mod steps;
+pub mod verdicts;

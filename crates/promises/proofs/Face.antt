@@ -28,6 +28,7 @@ use Rattle.colorgrad_c.proofs.lists.colorgrad_sample.Reads as of-sample
 use Rattle.colorgrad_c.proofs.lists.colorgrad_thin.Reads as of-thin
 use Rattle.colorgrad_c.proofs.lists.colorgrad_flatten.Reads as of-flatten
 use Rattle.colorgrad_c.proofs.steps.colorgrad_next_stop.Reads as of-next-stop
+use Rattle.colorgrad_c.proofs.judging.colorgrad_judge.Reads as of-judge
 use Rattle.colorgrad_c.proofs.edits.colorgrad_refresh.Reads as of-refresh
 use Rattle.colorgrad_c.proofs.edits.colorgrad_refresh_list.Reads as of-refresh-list
 
@@ -123,3 +124,6 @@ at κs a = by-code-alone (a .0) (λ kind. coincide (λ r e w. w .answer)) (coinc
 
 pub next-stop : (κs : Lfts 6) (a : _) → Coincide (of-next-stop.Learnt κs a) answer
 next-stop κs a = by-code-alone (a .0) (λ kind. coincide (λ r e w. w .handed)) (coincide (λ r e w. w))
+
+pub judge : (κs : Lfts 5) (a : _) → Coincide (of-judge.Learnt κs a) answer
+judge κs a = by-code-alone (a .0) (λ kind. coincide (λ r e w. w .answer)) (coincide (λ r e w. w))

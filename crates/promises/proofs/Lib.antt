@@ -24,6 +24,7 @@ pub mod Linearize
 pub mod NextStop
 pub mod Reach
 pub mod Refresh
+pub mod Judge
 pub mod Paint
 pub mod Desk
 pub mod Plain

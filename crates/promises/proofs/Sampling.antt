@@ -6,6 +6,7 @@ use Rattle.sampling.specs.Constants.{thresholdOf}
 use Rattle.promises.proofs.Parts.{rows-of, counts-of, marks-of}
 use Rattle.promises.specs.Law.{Coincide, coincide, answer, _with_, both}
 use Rattle.difference.proofs.stands_out.Reads as of-stands-out
+use Rattle.difference.proofs.distance.Reads as of-distance
 use Rattle.sampling.proofs.Sampler.new.Reads as of-new
 use Rattle.sampling.proofs.cutoff_of.Reads as of-cutoff-of
 use Rattle.sampling.proofs.check_sample.Reads as of-check-sample
@@ -16,6 +17,9 @@ use Rattle.sampling.proofs.cells.evaluate.Reads as of-evaluate
 
 pub stands-out : (κs : Lfts 0) (a : _) → Coincide (of-stands-out.Learnt κs a) answer
 stands-out κs a = coincide (λ r e w. w)
+
+pub distance : (κs : Lfts 0) (a : _) → Coincide (of-distance.Learnt κs a) answer
+distance κs a = coincide (λ r e w. w)
 
 -- a struct of one field
 pub new : (κs : Lfts 0) (a : _) → Coincide (of-new.Learnt κs a) (λ r e. r .threshold)

@@ -1,0 +1,94 @@
+//! What is said of a list that was made elsewhere.
+
+use crate::calls;
+use crate::lent::CELLS;
+use std::fmt;
+
+/// What is said of a list of stops that was made elsewhere: yes, or no with the first thing that is wrong.
+///
+/// Yes is said exactly where the list has 2 to 4,609 stops, finite and never falling, starts and ends where the ramp does,
+/// and its colours, mixed linearly, differ from the ramp's by no more than the threshold at every point of a fresh sampling,
+/// and at its end.
+///
+/// ```
+/// use guineaplume::{Color, Gradient, LinearGradient, Refusal, Verdict};
+///
+/// let gray = |x: f32| Color::new(x, x, x, 1.0);
+/// let ramp = LinearGradient::new(&[0.0, 0.5, 1.0], &[0.0, 0.9, 1.0].map(gray))?;
+/// assert_eq!(ramp.judge(0.007, &[0.0, 0.5, 1.0], &[0.0, 0.9, 1.0].map(gray))?, Verdict::Yes);
+///
+/// let verdict = ramp.judge(0.007, &[0.0, 1.0], &[gray(0.0), gray(1.0)])?;
+/// assert!(matches!(verdict, Verdict::TooFar { row: 1, index: 0, .. }));
+/// assert_eq!(verdict.to_string(), "the list's colour is too far from the ramp's at 0.027777778 (point 0 of row 1)");
+///
+/// assert_eq!(ramp.judge(0.007, &[0.0, f32::NAN], &[gray(0.0), gray(1.0)])?, Verdict::BadStop { stop: 1 });
+/// assert_eq!(ramp.judge(0.007, &[0.0, 2.0], &[gray(0.0), gray(1.0)])?, Verdict::WrongLast);
+/// # Ok::<(), Refusal>(())
+/// ```
+#[derive(Clone, Copy, PartialEq, Debug)]
+pub enum Verdict {
+    /// The list shows the ramp within the threshold.
+    Yes,
+    /// It does not have 2 to 4,609 stops, or not four channels for each.
+    WrongLength,
+    /// This stop, the first such, is not finite, or lies before the one ahead of it.
+    BadStop {
+        /// Which, counted from 0.
+        stop: usize,
+    },
+    /// Its first position is not the ramp's.
+    WrongFirst,
+    /// Its last position is not the ramp's.
+    WrongLast,
+    /// At this point, the first such, its colour is too far from the ramp's, or one of the two is not a number.
+    TooFar {
+        /// The row of a fresh sampling, counted from 0; 36 for the ramp's end, which comes after the rows.
+        row: usize,
+        /// The point of that row, counted from 0.
+        index: usize,
+        /// Where it lies.
+        t: f32,
+    },
+}
+
+impl Verdict {
+    /// Of the library's answer for a ramp that is not refused.
+    pub(crate) fn told(told: calls::Judgement) -> Verdict {
+        match told.verdict {
+            1 => Verdict::Yes,
+            2 => Verdict::WrongLength,
+            3 => Verdict::BadStop { stop: told.stop },
+            4 => Verdict::WrongFirst,
+            5 => Verdict::WrongLast,
+            6 => Verdict::TooFar { row: told.row, index: told.index, t: told.t },
+            _ => unreachable!("every verdict has a number"),
+        }
+    }
+
+    /// Whether it is yes.
+    pub fn is_yes(self) -> bool {
+        self == Verdict::Yes
+    }
+}
+
+impl fmt::Display for Verdict {
+    fn fmt(&self, f: &mut fmt::Formatter<'_>) -> fmt::Result {
+        match *self {
+            Verdict::Yes => f.write_str("the list shows the ramp within the threshold"),
+            Verdict::WrongLength => {
+                f.write_str("the list is not 2 to 4,609 stops of a position and four channels each")
+            }
+            Verdict::BadStop { stop } => {
+                write!(f, "stop {stop} of the list is not finite, or lies before the one ahead of it")
+            }
+            Verdict::WrongFirst => f.write_str("the list does not start where the ramp does"),
+            Verdict::WrongLast => f.write_str("the list does not end where the ramp does"),
+            Verdict::TooFar { row: CELLS, t, .. } => {
+                write!(f, "the list's colour is too far from the ramp's at {t} (the end of the ramp)")
+            }
+            Verdict::TooFar { row, index, t } => {
+                write!(f, "the list's colour is too far from the ramp's at {t} (point {index} of row {row})")
+            }
+        }
+    }
+}

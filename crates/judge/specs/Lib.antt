@@ -1,0 +1,5 @@
+pub mod Lists
+pub mod Verdicts
+pub mod Conditions
+pub mod Promises
+pub mod Inner

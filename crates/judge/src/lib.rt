@@ -1,0 +1,141 @@
+// Judging a list of stops that was made elsewhere: whether it shows a ramp within a threshold, wherever a fresh sampling
+// looks. Nothing is lent to be written, and no record is asked for.
+use sampling::Sampler;
+use stops::Checked;
+use stops::Kind;
+ghost use mathlib.Core.Path.{_≡_};
+ghost use Rattle.stops.specs.Lent.{rampIn, lentRamp};
+ghost use Rattle.stops.specs.declared.Checked.the-variants.{Fine};
+ghost use Rattle.judge.specs.Lists.{offerIn, lentOffer};
+ghost use Rattle.judge.specs.Verdicts.{rampCheck, pointsVerdict, listVerdict};
+ghost use Rattle.judge.specs.Inner.{Sound};
+ghost use Rattle.judge.specs.Promises.{Judges};
+
+mod checks;
+mod points;
+
+// What is said of a list: yes; or no, with the first thing that is wrong; or the ramp is refused, before the list is looked
+// at. A point is told by its row and its place in it, and by its t; max stands at the start of the row after the last.
+pub enum Verdict {
+    Yes,
+    WrongLength,
+    BadStop { stop: usize },
+    WrongFirst,
+    WrongLast,
+    TooFar { row: usize, index: usize, t: f32 },
+    Refused(u8),
+}
+
+// The verdict on the colours of a list, at every point of a fresh sampling. The record is this function's own.
+fn judge_colours(
+    kind: Kind,
+    positions: &[f32],
+    channels: &[f32],
+    codes: &[u8],
+    threshold: f32,
+    list_positions: &[f32],
+    list_channels: &[f32],
+) -> Verdict
+    requires { ⌜ rampCheck (rampIn kind positions channels codes) ≡ Fine ⌝ }
+    requires { ⌜ Sound (offerIn «list_positions» «list_channels») ⌝ }
+    ensures { λ r. ⌜ r ≡ pointsVerdict (lentRamp kind positions channels codes) threshold (lentOffer «list_positions» «list_channels») ⌝ }
+{
+    let mut rows = [0.0f32; Sampler::CELLS * Sampler::ROW];
+    let mut counts = [0u8; Sampler::CELLS];
+    let mut marks = [0u32; Sampler::MARKS];
+    sampling::sample(
+        kind,
+        positions,
+        channels,
+        codes,
+        threshold,
+        &mut rows,
+        &mut counts,
+        &mut marks,
+    );
+    let sampler = Sampler::new(threshold);
+    points::judge_points(
+        kind,
+        positions,
+        channels,
+        codes,
+        sampler.threshold,
+        list_positions,
+        list_channels,
+        gradient::max_of(kind, positions),
+        &rows,
+        &counts,
+    )
+}
+
+// The verdict on a list, of a ramp that may be sampled: its length, then its stops, then its ends, then its colours.
+fn judge_list(
+    kind: Kind,
+    positions: &[f32],
+    channels: &[f32],
+    codes: &[u8],
+    threshold: f32,
+    list_positions: &[f32],
+    list_channels: &[f32],
+) -> Verdict
+    requires { ⌜ rampCheck (rampIn kind positions channels codes) ≡ Fine ⌝ }
+    ensures { λ r. ⌜ r ≡ listVerdict (lentRamp kind positions channels codes) threshold (lentOffer «list_positions» «list_channels») ⌝ }
+{
+    let n = list_positions.len();
+    if !checks::is_sized(n, list_channels.len()) {
+        return Verdict::WrongLength;
+    }
+    let stop = checks::first_bad(list_positions, list_channels);
+    if stop < n {
+        return Verdict::BadStop { stop };
+    }
+    if list_positions[0] != gradient::min_of(kind, positions) {
+        return Verdict::WrongFirst;
+    }
+    if list_positions[n - 1] != gradient::max_of(kind, positions) {
+        return Verdict::WrongLast;
+    }
+    judge_colours(
+        kind,
+        positions,
+        channels,
+        codes,
+        threshold,
+        list_positions,
+        list_channels,
+    )
+}
+
+// Whether a list shows a ramp within a threshold: yes, or what is wrong. Refusals 1 to 4 are of the ramp.
+pub fn judge(
+    kind: Kind,
+    positions: &[f32],
+    channels: &[f32],
+    codes: &[u8],
+    threshold: f32,
+    list_positions: &[f32],
+    list_channels: &[f32],
+) -> Verdict
+    ensures { λ r. ⌜ Judges (lentRamp kind positions channels codes) threshold (lentOffer «list_positions» «list_channels») r ⌝ }
+{
+    match sampling::check_sample(
+        kind,
+        positions,
+        channels,
+        codes,
+        Sampler::CELLS * Sampler::ROW,
+        Sampler::CELLS,
+        Sampler::MARKS,
+    ) {
+        Checked::Refused(n) => Verdict::Refused(n),
+        Checked::Fine => judge_list(
+            kind,
+            positions,
+            channels,
+            codes,
+            threshold,
+            list_positions,
+            list_channels,
+        ),
+    }
+}

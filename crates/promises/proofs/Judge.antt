@@ -1,0 +1,11 @@
+-- `judge`: what is said of a list made elsewhere, and how it is shown as plain fields.
+use contract.Lifetimes.{Lfts}
+use Rattle.promises.specs.Law.{Coincide, coincide, answer}
+use Rattle.judge.proofs.judge.Reads as of-judge
+use Rattle.plain.proofs.verdicts.verdict_shown.Reads as of-verdict-shown
+
+pub judge : (κs : Lfts 5) (a : _) → Coincide (of-judge.Learnt κs a) answer
+judge κs a = coincide (λ r e w. w .answer)
+
+pub verdict-shown : (κs : Lfts 0) (a : _) → Coincide (of-verdict-shown.Learnt κs a) answer
+verdict-shown κs a = coincide (λ r e w. w)
