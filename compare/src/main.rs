@@ -5,6 +5,7 @@ mod clock;
 mod colours;
 mod count;
 mod counts;
+mod edits;
 mod files;
 mod gimp_texts;
 mod limits;
@@ -37,7 +38,7 @@ use std::path::Path;
 use std::process::ExitCode;
 
 const USAGE: &str = "compare COMMAND [N] [--seed S] [--case I]
-  roots tokens colours sine sharp texts counts torn lists refresh marks many   one comparison, of N inputs
+  roots tokens colours sine sharp texts counts torn lists refresh edits marks many   one comparison, of N inputs
   all [PERCENT]      every comparison, at its full size or at that part of it
   differences        the smallest inputs of docs/DIFFERENCES.md, with the Rust's answers and ours
   files FOLDER       the .ggr files in it, as compare/fetch gets them
@@ -49,7 +50,7 @@ const USAGE: &str = "compare COMMAND [N] [--seed S] [--case I]
 type Comparison = (&'static str, fn(&Options) -> Vec<Tally>, u64);
 
 /// Each comparison with its full size.
-const COMPARISONS: [Comparison; 12] = [
+const COMPARISONS: [Comparison; 13] = [
     ("roots", roots::run, 1 << 32),
     ("tokens", tokens::run, 100_000_000),
     ("colours", colours::run, 2_000_000),
@@ -60,6 +61,7 @@ const COMPARISONS: [Comparison; 12] = [
     ("torn", torn::run, 100_000),
     ("lists", lists::run, 20_000),
     ("refresh", refresh::run, 40_000),
+    ("edits", edits::run, 20_000),
     ("marks", marks::run, 20_000),
     ("many", many::run, 4_000),
 ];

@@ -177,7 +177,7 @@ extern "C" {
         colors: FloatsOut,
         _: usize,
     ) -> ListMade;
-    pub(crate) fn colorgrad_refresh(
+    pub(crate) fn colorgrad_edit(
         kind: u32,
         positions: Floats,
         _: usize,
@@ -185,7 +185,9 @@ extern "C" {
         _: usize,
         codes: Bytes,
         _: usize,
+        sort: u32,
         stop: usize,
+        position: f32,
         color: Color,
         threshold: f32,
         rows: FloatsOut,
@@ -195,7 +197,7 @@ extern "C" {
         marks: WordsOut,
         _: usize,
     ) -> SampleMade;
-    pub(crate) fn colorgrad_refresh_list(
+    pub(crate) fn colorgrad_edit_list(
         kind: u32,
         positions: Floats,
         _: usize,
@@ -203,7 +205,9 @@ extern "C" {
         _: usize,
         codes: Bytes,
         _: usize,
+        sort: u32,
         stop: usize,
+        position: f32,
         color: Color,
         threshold: f32,
         rows: FloatsOut,

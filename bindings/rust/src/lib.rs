@@ -35,12 +35,14 @@
 
 mod calls;
 mod color;
+mod edit;
 mod gradient;
 pub mod lent;
 mod record;
 mod refusal;
 
 pub use color::Color;
+pub use edit::Edit;
 pub use gradient::{
     BasisGradient, CatmullRomGradient, GimpGradient, Gradient, LinearGradient, Refresh, SharpGradient,
     SmoothstepGradient,

@@ -15,6 +15,7 @@ pub use linearize::flatten;
 pub use linearize::sample;
 pub use linearize::thin;
 
-// An editor's change of one colour: record and list come out as if made afresh from the changed ramp.
+// An editor's change: one stop's colour, or a stop moved, added or removed. Record and list come out as if made afresh from
+// the changed ramp.
 pub use refresh::refresh;
 pub use refresh::refresh_list;

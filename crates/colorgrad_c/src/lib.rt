@@ -5,4 +5,5 @@ pub mod gimp;
 pub mod leaves;
 pub mod lists;
 pub mod ramps;
+pub mod sorts;
 pub mod tool;

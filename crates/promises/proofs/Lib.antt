@@ -20,6 +20,7 @@ pub mod Sampling
 pub mod Thinning
 pub mod Linearize
 pub mod Reach
+pub mod Editing
 pub mod Refresh
 pub mod Paint
 pub mod Desk
