@@ -29,6 +29,12 @@ extern "C" {
 #define COLORGRAD_CATMULL_ROM 4u
 #define COLORGRAD_GIMP 5u
 
+/* ---- sorts of edit; any other number is refused with 6 */
+#define COLORGRAD_EDIT_COLOUR 0u /* stop gets the colour */
+#define COLORGRAD_EDIT_MOVE 1u   /* stop gets the position */
+#define COLORGRAD_EDIT_ADD 2u    /* a stop more, with the position and the colour; stop is the index that it gets */
+#define COLORGRAD_EDIT_REMOVE 3u /* stop goes */
+
 /* ---- codes of a GIMP segment that are carried: five of blending, one of colouring. The middle of a sinusoidal segment must
  * not be outside its ends, or the segment counts as not carried. */
 #define COLORGRAD_BLEND_LINEAR 0u
@@ -60,7 +66,8 @@ extern "C" {
 #define COLORGRAD_LEAST_THRESHOLD 0.001f
 #define COLORGRAD_GREATEST_THRESHOLD 0.035f
 
-/* ---- refusals; 0 is none. The first that holds is given: 1; then stop by stop 2, 3; then 4, 5, 20, 6. */
+/* ---- refusals; 0 is none. The first that holds is given: 1; then stop by stop 2, 3; then 4, 5, 20, 6; then, of a stop
+ * added or moved, 1 and 3. */
 #define COLORGRAD_FINE 0u
 #define COLORGRAD_MISSHAPEN 1u
 #define COLORGRAD_NOT_FINITE 2u
@@ -346,6 +353,25 @@ ColorgradJudged colorgrad_judge(uint32_t kind, const float *positions, size_t po
                                 size_t channels_length, const uint8_t *codes, size_t codes_length, float threshold,
                                 const float *places, size_t places_length, const float *colours,
                                 size_t colours_length);
+
+/* The same for an edit of any sort. A colour is that of colorgrad_refresh, whose answers these are. A stop is moved, added
+ * or removed of linear and smoothstep ramps; the first and the last stay, so an index is 1 to n - 2, of an added stop 1 to
+ * n - 1. What a sort does not name is not read. After 20: another kind of ramp, another index or a number that is not
+ * finite is 6; then a stop beyond COLORGRAD_MOST_STOPS is 1; then a position below the stop before or above the one after
+ * is 3, equal ones are in order. Refused with any of these: the record stays as it was. */
+ColorgradSampled colorgrad_edit(uint32_t kind, const float *positions, size_t positions_length, const float *channels,
+                                size_t channels_length, const uint8_t *codes, size_t codes_length, uint32_t sort,
+                                size_t stop, float position, ColorgradRgba colour, float threshold, float *rows,
+                                size_t rows_length, uint8_t *counts, size_t counts_length, uint32_t *marks,
+                                size_t marks_length);
+
+/* That, and the list of the changed ramp, as colorgrad_refresh_list. */
+ColorgradListed colorgrad_edit_list(uint32_t kind, const float *positions, size_t positions_length,
+                                    const float *channels, size_t channels_length, const uint8_t *codes,
+                                    size_t codes_length, uint32_t sort, size_t stop, float position,
+                                    ColorgradRgba colour, float threshold, float *rows, size_t rows_length,
+                                    uint8_t *counts, size_t counts_length, uint32_t *marks, size_t marks_length,
+                                    float *places, size_t places_length, float *colours, size_t colours_length);
 
 /* ---- the tool, and the leaves below it */
 

@@ -5,6 +5,7 @@ mod clock;
 mod colours;
 mod count;
 mod counts;
+mod edits;
 mod files;
 mod gimp_texts;
 mod judge;
@@ -56,7 +57,7 @@ const USAGE: &str = "compare COMMAND [N] [--seed S] [--case I]
 type Comparison = (&'static str, fn(&Options) -> Vec<Tally>, u64);
 
 /// Each comparison with its full size.
-const COMPARISONS: [Comparison; 17] = [
+const COMPARISONS: [Comparison; 18] = [
     ("roots", roots::run, 1 << 32),
     ("tokens", tokens::run, 100_000_000),
     ("colours", colours::run, 2_000_000),
@@ -67,6 +68,7 @@ const COMPARISONS: [Comparison; 17] = [
     ("torn", torn::run, 100_000),
     ("lists", lists::run, 20_000),
     ("refresh", refresh::run, 40_000),
+    ("edits", edits::run, 20_000),
     ("marks", marks::run, 20_000),
     ("many", many::run, 4_000),
     ("promise", promised::run, 1_000_000),

@@ -270,6 +270,50 @@ extern "C" {
         colours: *const f32,
         colours_length: usize,
     ) -> Judgement;
+    fn colorgrad_edit(
+        kind: u32,
+        positions: *const f32,
+        positions_length: usize,
+        channels: *const f32,
+        channels_length: usize,
+        codes: *const u8,
+        codes_length: usize,
+        sort: u32,
+        stop: usize,
+        position: f32,
+        colour: Rgba,
+        threshold: f32,
+        rows: *mut f32,
+        rows_length: usize,
+        counts: *mut u8,
+        counts_length: usize,
+        marks: *mut u32,
+        marks_length: usize,
+    ) -> SampleMade;
+    fn colorgrad_edit_list(
+        kind: u32,
+        positions: *const f32,
+        positions_length: usize,
+        channels: *const f32,
+        channels_length: usize,
+        codes: *const u8,
+        codes_length: usize,
+        sort: u32,
+        stop: usize,
+        position: f32,
+        colour: Rgba,
+        threshold: f32,
+        rows: *mut f32,
+        rows_length: usize,
+        counts: *mut u8,
+        counts_length: usize,
+        marks: *mut u32,
+        marks_length: usize,
+        places: *mut f32,
+        places_length: usize,
+        colours: *mut f32,
+        colours_length: usize,
+    ) -> ListMade;
     fn colorgrad_name(text: *const u8, text_length: usize, out: *mut u8, out_length: usize) -> usize;
 }
 
@@ -609,4 +653,78 @@ pub fn judge(ramp: &Ramp, threshold: f32, places: &[f32], colours: &[f32]) -> Re
         (number, 0, 0, 0, 0, 0) if number != 0 => Err(number),
         other => panic!("no such answer: {other:?}"),
     }
+}
+
+/// An edit of any sort, by the code of its sort and its parts.
+#[derive(Clone, Copy, Debug)]
+pub struct Sorted {
+    pub sort: u32,
+    pub stop: usize,
+    pub position: f32,
+    pub colour: [f32; 4],
+}
+
+/// The evaluations.
+pub fn edit(ramp: &Ramp, edit: &Sorted, threshold: f32, record: &mut Record) -> Result<usize, u32> {
+    let (p, c, k) = (&ramp.positions, &ramp.channels, &ramp.codes);
+    let made = unsafe {
+        colorgrad_edit(
+            ramp.kind.code(),
+            p.as_ptr(),
+            p.len(),
+            c.as_ptr(),
+            c.len(),
+            k.as_ptr(),
+            k.len(),
+            edit.sort,
+            edit.stop,
+            edit.position,
+            rgba(edit.colour),
+            threshold,
+            record.rows.as_mut_ptr(),
+            record.rows.len(),
+            record.counts.as_mut_ptr(),
+            record.counts.len(),
+            record.marks.as_mut_ptr(),
+            record.marks.len(),
+        )
+    };
+    answer(made.refusal, made.evaluations)
+}
+
+pub fn edit_list(
+    ramp: &Ramp,
+    edit: &Sorted,
+    threshold: f32,
+    record: &mut Record,
+    places: &mut [f32],
+    colours: &mut [f32],
+) -> Listed {
+    let (p, c, k) = (&ramp.positions, &ramp.channels, &ramp.codes);
+    listed(unsafe {
+        colorgrad_edit_list(
+            ramp.kind.code(),
+            p.as_ptr(),
+            p.len(),
+            c.as_ptr(),
+            c.len(),
+            k.as_ptr(),
+            k.len(),
+            edit.sort,
+            edit.stop,
+            edit.position,
+            rgba(edit.colour),
+            threshold,
+            record.rows.as_mut_ptr(),
+            record.rows.len(),
+            record.counts.as_mut_ptr(),
+            record.counts.len(),
+            record.marks.as_mut_ptr(),
+            record.marks.len(),
+            places.as_mut_ptr(),
+            places.len(),
+            colours.as_mut_ptr(),
+            colours.len(),
+        )
+    })
 }

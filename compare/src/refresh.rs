@@ -91,7 +91,7 @@ pub fn changed(ramp: &Ramp, edit: &Edit) -> Ramp {
 }
 
 /// How many pairs a stop touches on each side.
-fn reach(kind: Kind) -> usize {
+pub fn reach(kind: Kind) -> usize {
     match kind {
         Kind::Basis | Kind::CatmullRom => 2,
         _ => 1,
@@ -99,7 +99,7 @@ fn reach(kind: Kind) -> usize {
 }
 
 /// Document 01's 'outside the stretch', and that of request (vii).
-fn outside(positions: &[f32], reach: usize, k: usize, t: f32) -> bool {
+pub fn outside(positions: &[f32], reach: usize, k: usize, t: f32) -> bool {
     let is_last = k + 1 == positions.len();
     let before = k >= reach && t <= positions[k - reach] && (!is_last || t < positions[k]);
     before || positions.get(k + reach).is_some_and(|right| t > *right)
@@ -111,7 +111,7 @@ fn clear(ramp: &Ramp, k: usize, cell: usize) -> bool {
     out(left) && out(right) && middles_clear(&out, left, right, 7)
 }
 
-fn middles_clear(out: &dyn Fn(f32) -> bool, t0: f32, t1: f32, depth: u32) -> bool {
+pub fn middles_clear(out: &dyn Fn(f32) -> bool, t0: f32, t1: f32, depth: u32) -> bool {
     if depth == 0 {
         return true;
     }

@@ -1,4 +1,4 @@
-/* A sea-depth ramp through the C face: its colours, its list, an edit and a refresh, and refusals with their messages.
+/* A sea-depth ramp through the C face: its colours, its list, edits and a refresh, and refusals with their messages.
  * Each answer is checked; the exit status is 0 where all are as they must be. */
 #include "colorgrad.h"
 #include <stdio.h>
@@ -140,6 +140,32 @@ static void verdicts(void)
            "a kind that there is not");
 }
 
+/* Stop 1 is dragged to another position: the record and its list follow. */
+static ColorgradListed drag(float to)
+{
+    const ColorgradRgba not_read = {0.0f, 0.0f, 0.0f, 0.0f};
+    return colorgrad_edit_list(COLORGRAD_LINEAR, positions, STOPS, channels, 4 * STOPS, NULL, 0, COLORGRAD_EDIT_MOVE, 1,
+                               to, not_read, COLORGRAD_THRESHOLD, sheet.rows, COLORGRAD_ROWS, sheet.counts,
+                               COLORGRAD_CELLS, sheet.marks, COLORGRAD_MARKS, sheet.places, COLORGRAD_MOST_POINTS,
+                               sheet.colours, 4 * COLORGRAD_MOST_POINTS);
+}
+
+static void edits(void)
+{
+    const float moved[STOPS] = {0.0f, 0.375f, 0.5f, 1.0f};
+    ColorgradListed redone, again;
+    flatten(channels, &sheet);
+    redone = drag(0.75f);
+    expect(redone.refusal == COLORGRAD_FALLING, "a stop dragged past the next one");
+    redone = drag(moved[1]);
+    printf("stop 1 dragged: %zu stops, %zu evaluations\n", redone.stops, redone.evaluations);
+    again = colorgrad_flatten(COLORGRAD_LINEAR, moved, STOPS, channels, 4 * STOPS, NULL, 0, COLORGRAD_THRESHOLD,
+                              fresh.rows, COLORGRAD_ROWS, fresh.counts, COLORGRAD_CELLS, fresh.marks, COLORGRAD_MARKS,
+                              fresh.places, COLORGRAD_MOST_POINTS, fresh.colours, 4 * COLORGRAD_MOST_POINTS);
+    expect(redone.refusal == COLORGRAD_FINE && redone.stops == again.stops, "a stop dragged");
+    expect(is_same(again.stops), "the record and the list after it are the fresh ones");
+}
+
 static void refusals(void)
 {
     const float falling[STOPS] = {0.0f, 0.5f, 0.25f, 1.0f};
@@ -246,6 +272,7 @@ int main(void)
     colours();
     lists();
     verdicts();
+    edits();
     refusals();
     gimp();
     written();

@@ -237,7 +237,7 @@ extern "C" {
         _: usize,
         place: PlainPlace,
     ) -> StopHanded;
-    pub(crate) fn colorgrad_refresh(
+    pub(crate) fn colorgrad_edit(
         kind: u32,
         positions: Floats,
         _: usize,
@@ -245,7 +245,9 @@ extern "C" {
         _: usize,
         codes: Bytes,
         _: usize,
+        sort: u32,
         stop: usize,
+        position: f32,
         color: Color,
         threshold: f32,
         rows: FloatsOut,
@@ -255,7 +257,7 @@ extern "C" {
         marks: WordsOut,
         _: usize,
     ) -> SampleMade;
-    pub(crate) fn colorgrad_refresh_list(
+    pub(crate) fn colorgrad_edit_list(
         kind: u32,
         positions: Floats,
         _: usize,
@@ -263,7 +265,9 @@ extern "C" {
         _: usize,
         codes: Bytes,
         _: usize,
+        sort: u32,
         stop: usize,
+        position: f32,
         color: Color,
         threshold: f32,
         rows: FloatsOut,

@@ -2,7 +2,7 @@
 
 use crate::color::{flat, unflat};
 use crate::lent::{self, Kind, MOST_SEGMENTS};
-use crate::{Color, List, ParseGgrError, Record, Refusal, Stops, Verdict};
+use crate::{Color, Edit, List, ParseGgrError, Record, Refusal, Stops, Verdict};
 
 /// What passed its check is not refused.
 pub(crate) fn taken<T>(answer: Result<T, Refusal>) -> T {
@@ -147,6 +147,30 @@ pub trait Refresh: Gradient {
     /// The same, and the list of the changed ramp; its evaluations are those of both. After 8 or 9 the ramp and the record
     /// are changed, and there is no list.
     fn refresh_list(&mut self, stop: usize, color: Color, record: &mut Record) -> Result<List, Refusal>;
+
+    /// Makes an edit of any sort, and redoes those cells of the ramp's record that it touches: the evaluations. Refused as
+    /// [`refresh`](Refresh::refresh), and of a stop moved, added or removed with 6 where the ramp is neither linear nor
+    /// smoothstep, where the stop is the first, the last or none, or where a number is not finite; then with 1 where there
+    /// would be more than 2,048 stops; then with 3 where the position lies before the stop before or past the one after.
+    /// Then neither the ramp nor the record is changed.
+    ///
+    /// ```
+    /// use guineaplume::{Color, Edit, Gradient, LinearGradient, Refresh, Refusal};
+    ///
+    /// let gray = |x: f32| Color::new(x, x, x, 1.0);
+    /// let mut ramp = LinearGradient::new(&[0.0, 0.5, 1.0], &[0.0, 0.8, 1.0].map(gray))?;
+    /// let mut record = ramp.sample(0.007)?;
+    /// ramp.edit(Edit::Move { stop: 1, position: 0.25 }, &mut record)?;
+    /// ramp.edit(Edit::Add { stop: 2, position: 0.75, color: gray(0.1) }, &mut record)?;
+    /// assert_eq!(ramp.lent().positions, [0.0, 0.25, 0.75, 1.0]);
+    /// assert_eq!(record, ramp.sample(0.007)?);
+    /// assert_eq!(ramp.edit(Edit::Move { stop: 1, position: 0.8 }, &mut record), Err(Refusal::Falling));
+    /// # Ok::<(), Refusal>(())
+    /// ```
+    fn edit(&mut self, edit: Edit, record: &mut Record) -> Result<usize, Refusal>;
+
+    /// The same, and the list of the changed ramp, as [`refresh_list`](Refresh::refresh_list).
+    fn edit_list(&mut self, edit: Edit, record: &mut Record) -> Result<List, Refusal>;
 }
 
 /// A type for each kind of stops.
@@ -250,15 +274,22 @@ macro_rules! refreshed {
     ($name:ident) => {
         impl Refresh for $name {
             fn refresh(&mut self, stop: usize, color: Color, record: &mut Record) -> Result<usize, Refusal> {
-                let (edit, threshold) = (lent::Edit { stop, color }, record.threshold());
-                let evaluations = self.lent().refresh(edit, threshold, record.lent_mut())?;
-                self.0.channels[4 * stop..4 * stop + 4].copy_from_slice(&color.to_array());
+                self.edit(Edit::Color { stop, color }, record)
+            }
+
+            fn refresh_list(&mut self, stop: usize, color: Color, record: &mut Record) -> Result<List, Refusal> {
+                self.edit_list(Edit::Color { stop, color }, record)
+            }
+
+            fn edit(&mut self, edit: Edit, record: &mut Record) -> Result<usize, Refusal> {
+                let evaluations = self.lent().refresh(edit, record.threshold(), record.lent_mut())?;
+                edit.make(&mut self.0.positions, &mut self.0.channels);
                 record.evaluations = evaluations;
                 Ok(evaluations)
             }
 
-            fn refresh_list(&mut self, stop: usize, color: Color, record: &mut Record) -> Result<List, Refusal> {
-                let refreshed = self.refresh(stop, color, record)?;
+            fn edit_list(&mut self, edit: Edit, record: &mut Record) -> Result<List, Refusal> {
+                let refreshed = self.edit(edit, record)?;
                 self.thin(record).map(|list| list.after(refreshed))
             }
         }

@@ -18,7 +18,7 @@
 //! ```
 
 use crate::calls;
-use crate::{Color, ParseGgrError, Refusal, Verdict};
+use crate::{Color, Edit, ParseGgrError, Refusal, Verdict};
 
 /// How many stops a ramp may have.
 pub const MOST_STOPS: usize = 2048;
@@ -104,15 +104,6 @@ pub struct StopsMut<'a> {
     pub positions: &'a mut [f32],
     /// Four channels for each stop.
     pub channels: &'a mut [f32],
-}
-
-/// The new colour of a stop, counted from 0.
-#[derive(Clone, Copy, PartialEq, Debug)]
-pub struct Edit {
-    /// Which stop.
-    pub stop: usize,
-    /// What it becomes.
-    pub color: Color,
 }
 
 /// How many stops a list has, and how often its definition asks for a colour.
@@ -236,15 +227,19 @@ impl Ramp<'_> {
         ))
     }
 
-    /// Refreshes the record of this ramp, any but sharp and GIMP, for an edit: it then equals the record of the changed ramp.
-    /// The evaluations; refusals 1 to 6 and 20 leave it as it was.
+    /// Refreshes the record of this ramp for an edit: it then equals the record of the changed ramp. The evaluations; refusals
+    /// 1 to 6 and 20 leave it as it was. After 20 come, of the edit, 6 (another kind of ramp, no such stop, a number that is not
+    /// finite), 1 (a stop too many) and 3 (a position out of order).
     pub fn refresh(&self, edit: Edit, threshold: f32, record: RecordMut<'_>) -> Result<usize, Refusal> {
         let RecordMut { rows, counts, marks } = record;
+        let (sort, stop, position, color) = edit.parts();
         let made = with_ramp!(
-            colorgrad_refresh,
+            colorgrad_edit,
             self,
-            edit.stop,
-            edit.color,
+            sort,
+            stop,
+            position,
+            color,
             threshold,
             rows.as_mut_ptr(),
             rows.len(),
@@ -265,11 +260,14 @@ impl Ramp<'_> {
         record: RecordMut<'_>,
         out: StopsMut<'_>,
     ) -> Result<Listed, Refusal> {
+        let (sort, stop, position, color) = edit.parts();
         listed(with_ramp!(
-            colorgrad_refresh_list,
+            colorgrad_edit_list,
             self,
-            edit.stop,
-            edit.color,
+            sort,
+            stop,
+            position,
+            color,
             threshold,
             record.rows.as_mut_ptr(),
             record.rows.len(),

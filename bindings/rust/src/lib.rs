@@ -37,6 +37,7 @@
 
 mod calls;
 mod color;
+mod edit;
 mod gradient;
 pub mod lent;
 mod ordinary;
@@ -46,6 +47,7 @@ mod steps;
 mod verdict;
 
 pub use color::Color;
+pub use edit::Edit;
 pub use gradient::{
     BasisGradient, CatmullRomGradient, GimpGradient, Gradient, LinearGradient, Refresh, SharpGradient,
     SmoothstepGradient,

@@ -1,8 +1,8 @@
 //! A refreshed record and its list are those made afresh.
 
-use guineaplume::lent::{Edit, Listed, RecordMut, StopsMut, MOST_POINTS};
+use guineaplume::lent::{Listed, RecordMut, StopsMut, MOST_POINTS};
 use guineaplume::{
-    BasisGradient, CatmullRomGradient, Color, Gradient, LinearGradient, List, Record, Refresh, SmoothstepGradient,
+    BasisGradient, CatmullRomGradient, Color, Edit, Gradient, LinearGradient, List, Record, Refresh, SmoothstepGradient,
 };
 
 /// Numbers from 0 to 1, the same in every run.
@@ -52,7 +52,7 @@ fn edited<G: Refresh + Clone>(numbers: &mut Numbers, mut ramp: G, stops: usize) 
     assert_eq!(ramp.thin(&record).expect("a list").positions(), first.positions());
     for _ in 0..4 {
         let (stop, color) = (numbers.below(stops), numbers.color());
-        let check = check_lent(&ramp, &record, Edit { stop, color });
+        let check = check_lent(&ramp, &record, Edit::Color { stop, color });
         let list = ramp.refresh_list(stop, color, &mut record).expect("a list");
         check(&record, &list);
         let (fresh, whole) = ramp.flatten(threshold).expect("a list");

@@ -1,7 +1,7 @@
 //! Each refusal, what it leaves in lent memory, and that its number and message are the header's.
 
 use guineaplume::lent::{self, Kind, Record, RecordMut, SegmentsMut, StopsMut, CELLS, MARKS, MOST_POINTS, ROWS};
-use guineaplume::{Color, GimpGradient, Gradient, LinearGradient, ParseGgrError, Refresh, Refusal, SharpGradient};
+use guineaplume::{Color, Edit, GimpGradient, Gradient, LinearGradient, ParseGgrError, Refresh, Refusal, SharpGradient};
 
 const BLACK: Color = Color::new(0.0, 0.0, 0.0, 1.0);
 const WHITE: Color = Color::new(1.0, 1.0, 1.0, 1.0);
@@ -59,7 +59,7 @@ impl Desk {
 
     fn refresh(&mut self, ramp: lent::Ramp<'_>, stop: usize, color: Color) -> Result<usize, Refusal> {
         let record = RecordMut { rows: &mut self.rows, counts: &mut self.counts, marks: &mut self.marks };
-        ramp.refresh(lent::Edit { stop, color }, 0.007, record)
+        ramp.refresh(Edit::Color { stop, color }, 0.007, record)
     }
 
     fn record_is_rubbish(&self) -> bool {

@@ -1,4 +1,4 @@
--- Refreshed is fresh: for every ramp that can be sampled, every threshold, and every edit that document 01 allows (linear, smoothstep, basis or Catmull-Rom, a stop that there is, a finite colour). A
+-- Refreshed is fresh: for every ramp that can be sampled, every threshold, and every edit that is allowed (a finite colour of a stop that there is: linear, smoothstep, basis or Catmull-Rom; a stop moved, added or removed: linear or smoothstep). A
 -- refresh with another threshold than the sampling's is no case apart: it is refused.
 -- First of the definitions; then, handed on from `refresh`, of the calls. Assumes nothing.
 use mathlib.Core.Path.{_≡_, ap, _∙_}
@@ -10,9 +10,9 @@ use Rattle.sampling.specs.Lent.{Held}
 use Rattle.sampling.specs.Sampling.{marksOf, heldCheck, fresh, sampleHeld}
 use Rattle.linearize.specs.Desk.{flattenOutput}
 use Rattle.sampling.proofs.Words.{same-threshold}
-use Rattle.refresh.specs.Edit.{edited}
+use Rattle.editing.specs.Edited.{edited}
 use Rattle.refresh.specs.RefreshDesk.{refreshCheck, renewed, refreshHeld, refreshOutput}
-use Rattle.refresh.specs.declared.edit.Edit.{Edit}
+use Rattle.editing.specs.declared.Edit.{Edit}
 use Rattle.refresh.proofs.EditChecks.{allowed, own-words, edited-sampling}
 use Rattle.refresh.proofs.Theorem as theorem
 use Rattle.colorgrad.specs.Fresh.{Fresh}

@@ -21,7 +21,8 @@ pub use next_stop::next_stop;
 // The list as a GIMP text, for the drawing tool.
 pub use ggr_writing::write;
 
-// An editor's change of one colour: record and list come out as if made afresh from the changed ramp.
+// An editor's change: one stop's colour, or a stop moved, added or removed. Record and list come out as if made afresh from
+// the changed ramp.
 pub use refresh::refresh;
 pub use refresh::refresh_list;
 

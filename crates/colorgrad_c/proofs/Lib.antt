@@ -1,4 +1,5 @@
 pub mod Naming
 pub mod Writing
+pub mod Sorted
 pub mod Printing
 pub mod Stepping

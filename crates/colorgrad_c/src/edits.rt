@@ -1,5 +1,6 @@
 // A record refreshed after one stop's colour is changed, and the list made of it.
 use blend::Rgba;
+use editing::Edit;
 use linearize::Listed;
 use plain::kinds;
 use plain::kinds::Coded;
@@ -8,10 +9,10 @@ use plain::lists::SampleMade;
 use plain::lists::listed_shown;
 use plain::lists::refreshed_shown;
 use refresh::Refreshed;
-use refresh::edit::Edit;
 use refusals::MISSHAPEN;
 ghost use Rattle.sampling.specs.Lent.{lentHeld};
 ghost use Rattle.linearize.specs.Lent.{lentOutput};
+ghost use Rattle.editing.specs.declared.Edit.the-variants.{Colour};
 ghost use Rattle.plain.specs.Kinds.{codedRamp};
 ghost use Rattle.colorgrad_c.specs.Edits.{CodedRefreshes, CodedRefreshLists};
 
@@ -28,12 +29,12 @@ pub extern "C" fn colorgrad_refresh(
     counts: &mut [u8],
     marks: &mut [u32],
 ) -> SampleMade
-    ensures { λ r. ⌜ CodedRefreshes kind (codedRamp positions channels codes) stop colour threshold (lentHeld rows counts marks) r ⌝ }
+    ensures { λ r. ⌜ CodedRefreshes kind (codedRamp positions channels codes) (Colour stop colour) threshold (lentHeld rows counts marks) r ⌝ }
 {
     let Coded::Of(known) = kinds::kind_of(kind) else {
         return refreshed_shown(Refreshed::Refused(MISSHAPEN));
     };
-    let edit = Edit { stop, colour };
+    let edit = Edit::Colour { stop, colour };
     refreshed_shown(refresh::refresh(
         known,
         positions,
@@ -62,12 +63,12 @@ pub extern "C" fn colorgrad_refresh_list(
     places: &mut [f32],
     colours: &mut [f32],
 ) -> ListMade
-    ensures { λ r. ⌜ CodedRefreshLists kind (codedRamp positions channels codes) stop colour threshold (lentHeld rows counts marks) (lentOutput places colours) r ⌝ }
+    ensures { λ r. ⌜ CodedRefreshLists kind (codedRamp positions channels codes) (Colour stop colour) threshold (lentHeld rows counts marks) (lentOutput places colours) r ⌝ }
 {
     let Coded::Of(known) = kinds::kind_of(kind) else {
         return listed_shown(Listed::Refused(MISSHAPEN));
     };
-    let edit = Edit { stop, colour };
+    let edit = Edit::Colour { stop, colour };
     listed_shown(refresh::refresh_list(
         known,
         positions,

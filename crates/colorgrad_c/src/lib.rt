@@ -6,6 +6,7 @@ pub mod judging;
 pub mod leaves;
 pub mod lists;
 pub mod ramps;
+pub mod sorts;
 pub mod steps;
 pub mod tool;
 pub mod writer;

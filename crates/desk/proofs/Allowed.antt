@@ -15,7 +15,7 @@ use Rattle.stops.specs.declared.Kind.{Kind}
 use Rattle.entries.specs.Input.{input, inputOf}
 use Rattle.desk.specs.Recoloured.{recoloured, SameStops}
 use Rattle.desk.specs.Tool.{deskOf, deskAnswer, deskOutput, mostPrinted, Desks, Prints}
-use Rattle.refresh.specs.declared.edit.Edit.{Edit}
+use Rattle.entries.specs.declared.fields.Recolour.{Recolour}
 use Rattle.entries.specs.declared.reading.Edited.the-variants as edit
 use Rattle.desk.specs.declared.Desked.{Desked}
 use Rattle.desk.specs.declared.Desked.the-variants as desked
@@ -45,7 +45,7 @@ unfolding deskAnswer
 never-short {s} {out} h w = w .answer ∙ rw (le-ltb (length out) (length (deskOf s)) (omega (arith, desk-most s)))
 
 -- ---- two calls: s has an edit of a stop that is there; s′ has the same stops with that one changed, and no edit
-module _ {s s′ : List ℕ} {kind : Kind} {asked : Float} {stops : List Stop} {e : Edit}
+module _ {s s′ : List ℕ} {kind : Kind} {asked : Float} {stops : List Stop} {e : Recolour}
     (with-edit : inputOf s ≡ input kind asked stops (edit.By e)) (there : e .stop < length stops) (without : inputOf s′ ≡ input kind asked (recoloured stops (e .stop) (e .colour)) edit.Not)
     {out out′ : List ℕ} {n : ℕ} {other other′ : List ℕ} {m : ℕ} where
   pub desks-same : Desks s out out′ (desked.Printed n) → Desks s′ other other′ (desked.Printed m) → SameStops (take n out′) (take m other′)

@@ -18,7 +18,7 @@ use Rattle.rows.specs.declared.digits.Digits.{Digits}
 use Rattle.rows.specs.declared.digits.Digits.the-variants.{Bad, Is}
 use Rattle.entries.specs.Entries.{exactly, channelsAt, toThreshold, thresholdEntry, toStop, stopEntry, indexOf, toChange, changeEntry, editEntry, stopTag, thresholdTag, editTag, kindLinear, kindSmoothstep, entryOf}
 use Rattle.desk.specs.Recoloured.{toTab, afterTab, changedLine}
-use Rattle.refresh.specs.declared.edit.Edit.{Edit}
+use Rattle.entries.specs.declared.fields.Recolour.{Recolour}
 use Rattle.entries.specs.declared.fields.Entry.{Entry}
 use Rattle.entries.specs.declared.fields.Entry.the-variants as entry
 use Rattle.rows.proofs.Read.{numbers-long, head-number}
@@ -102,7 +102,7 @@ stop-line l e =
     (either-not isStop (starts editTag l) (editEntry (fields (drop 5 l))) entry.Unread five refl))))
     refl e
 
-edit-line : (l : List ℕ) {e : Edit} → entryOf l ≡ entry.Change e → editEntry (fields (drop 5 l)) ≡ entry.Change e
+edit-line : (l : List ℕ) {e : Recolour} → entryOf l ≡ entry.Change e → editEntry (fields (drop 5 l)) ≡ entry.Change e
 unfolding entryOf
 edit-line l h =
     the-first isChange (starts editTag l) (editEntry (fields (drop 5 l))) entry.Unread refl refl
@@ -133,7 +133,7 @@ positionIn d (entry.Stop s) = s .position
 positionIn d (entry.Change e) = d
 positionIn d entry.Unread = d
 
-channels-of : (fs : List (List ℕ)) {e : Edit} → editEntry fs ≡ entry.Change e → Channels fs (e .colour)
+channels-of : (fs : List (List ℕ)) {e : Recolour} → editEntry fs ≡ entry.Change e → Channels fs (e .colour)
 unfolding editEntry changeEntry restOf
 channels-of [] h = absurd (true≢false (sym (ap isChange h)))
 channels-of (f ∷ fs) {e} h = go (indexOf f) h where
@@ -147,7 +147,7 @@ number-all : (x : Float) (ys : List Float) → addNumber (Number x) (all ys) ≡
 unfolding addNumber
 number-all x ys = refl
 
-pub edit-fields : (d : List ℕ) {e : Edit} → entryOf d ≡ entry.Change e → 1 < length (fields (drop 5 d))
+pub edit-fields : (d : List ℕ) {e : Recolour} → entryOf d ≡ entry.Change e → 1 < length (fields (drop 5 d))
 edit-fields d h = channels-of (fields (drop 5 d)) (edit-line d h) .many
 
 five-numbers : (x : Float) (ys : List Float) → length ys ≡ 4 → exactly 5 toStop (all (x ∷ ys)) ≡ entry.Stop (record { position = x; colour = channelsAt ys 0 })
@@ -155,7 +155,7 @@ unfolding exactly
 five-numbers x ys h = rw (eq-eqb (suc (length ys)) 5 (omega arith))
 
 -- the changed line says the stop with the other colour
-pub changed-entry : (l d : List ℕ) {s : Stop} {e : Edit} → entryOf l ≡ entry.Stop s → entryOf d ≡ entry.Change e → entryOf (changedLine l d) ≡ entry.Stop (record { position = s .position; colour = e .colour })
+pub changed-entry : (l d : List ℕ) {s : Stop} {e : Recolour} → entryOf l ≡ entry.Stop s → entryOf d ≡ entry.Change e → entryOf (changedLine l d) ≡ entry.Stop (record { position = s .position; colour = e .colour })
 unfolding entryOf changedLine starts stopEntry numbers
 changed-entry l d {s} {e} h k =
     let fs = fields (drop 5 l) in

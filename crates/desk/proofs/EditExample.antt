@@ -18,7 +18,7 @@ use Rattle.entries.specs.Entries.{exactly, thresholdEntry, stopEntry, indexOf, 
 use Rattle.entries.specs.Input.{input, fromEnd, fromEdit, stopsOf, afterStops, fromStops, fromThreshold, fromKind, inputOf}
 use Rattle.desk.specs.Recoloured.{toTab, afterTab, changedLine, changedLines, SameStops, EditMade}
 use Rattle.desk.specs.Tool.{deskOf}
-use Rattle.refresh.specs.declared.edit.Edit.{Edit}
+use Rattle.entries.specs.declared.fields.Recolour.{Recolour}
 use Rattle.entries.specs.declared.reading.Edited.the-variants as edit
 use Rattle.desk.proofs.EditedLines.{edited-lines}
 
@@ -32,7 +32,7 @@ byEdit = bytes "kind\tlinear\nstop\t0\t0\t0\t0\t1\nstop\t1\t1\t1\t1\t1\nedit\t1\
 pub byHand : List ℕ
 byHand = bytes "kind\tlinear\nstop\t0\t0\t0\t0\t1\nstop\t1\t0\t1\t0\t1\n"
 
-green : Edit
+green : Recolour
 green = record { stop = 1; colour = record { r = f0; g = f1; b = f0; a = f1 } }
 
 both : List Stop

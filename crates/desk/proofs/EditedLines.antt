@@ -17,7 +17,7 @@ use Rattle.entries.specs.Entries.{entryOf}
 use Rattle.entries.specs.Input.{Input, unread, input, mostBytes, ifStop, ifChange, fromEnd, fromEdit, stopsOf, afterStops, fromStops, fromThreshold, fromKind, inputOf}
 use Rattle.desk.specs.Recoloured.{recoloured, changedLine, changedLines, SameStops, EditMade}
 use Rattle.desk.specs.Tool.{deskOf}
-use Rattle.refresh.specs.declared.edit.Edit.{Edit}
+use Rattle.entries.specs.declared.fields.Recolour.{Recolour}
 use Rattle.entries.specs.declared.fields.Entry.{Entry}
 use Rattle.entries.specs.declared.fields.Entry.the-variants as entry
 use Rattle.entries.specs.declared.reading.Edited.the-variants as edit
@@ -37,7 +37,7 @@ manyStops (input kind x stops e) = length stops
 none-left : {l : List ℕ} {ls : List (List ℕ)} → l ∷ ls ≡ [] → ⊥
 none-left {l} {ls} h = omega (arith, ap length h)
 
-module _ (d : List ℕ) (e : Edit) (last : entryOf d ≡ entry.Change e) where
+module _ (d : List ℕ) (e : Recolour) (last : entryOf d ≡ entry.Change e) where
   -- a line that is no stop is not followed by another one
   not-last : (k : Kind) (x : Float) (stops : List Stop) (line : ℕ) (f : Entry) (ls : List (List ℕ)) → manyStops (ifChange f (λ y. fromEnd k x stops y (line + 1) (ls ++ d ∷ [])) (unread line)) ≡ 0
   unfolding fromEnd
@@ -191,7 +191,7 @@ module _ (d : List ℕ) (e : Edit) (last : entryOf d ≡ entry.Change e) where
     go entry.Unread g = absurd (let none : manyStops (fromKind (l ∷ (ls ++ d ∷ []))) ≡ 0 = rw g in omega arith)
 
 -- ---- the texts
-module _ (s s′ : List ℕ) {kind : Kind} {asked : Float} {stops : List Stop} {e : Edit} (with-edit : inputOf s ≡ input kind asked stops (edit.By e)) (there : e .stop < length stops) (w : EditMade s s′ e) where
+module _ (s s′ : List ℕ) {kind : Kind} {asked : Float} {stops : List Stop} {e : Recolour} (with-edit : inputOf s ≡ input kind asked stops (edit.By e)) (there : e .stop < length stops) (w : EditMade s s′ e) where
   whole : fromKind (w .body ++ w .last ∷ []) ≡ input kind asked stops (edit.By e)
   unfolding inputOf
   whole = go (leb (length s) mostBytes) with-edit where

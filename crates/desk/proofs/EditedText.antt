@@ -25,11 +25,15 @@ use Rattle.sampling.specs.Lent.{Held}
 use Rattle.sampling.specs.Sampling.{andThen, farOf, shapeCheck, sampleCheck, heldCheck, fresh, freshEvaluations, sampleAnswer, sampleHeld}
 use Rattle.linearize.specs.Desk.{pointsIn, flattenEvaluations}
 use Rattle.sampling.proofs.Checks.{ramp-fine}
-use Rattle.refresh.specs.Edit.{changed, edited}
-use Rattle.refresh.specs.RefreshDesk.{editCheck, newEvaluations}
-use Rattle.refresh.specs.declared.edit.Edit.{Edit}
-use Rattle.refresh.proofs.Edits.{colour-other, colour-new, changed-length}
-use Rattle.refresh.proofs.EditChecks.{edit-fine, edit-allowed}
+use Rattle.editing.specs.Edited.{changed, edited}
+use Rattle.editing.specs.Rules.{editCheck}
+use Rattle.refresh.specs.RefreshDesk.{newEvaluations}
+use Rattle.editing.specs.declared.Edit.{Edit}
+use Rattle.editing.specs.declared.Edit.the-variants.{Colour}
+use Rattle.entries.specs.declared.fields.Recolour.{Recolour}
+use Rattle.editing.proofs.Recoloured.{colour-other, colour-new, changed-length}
+use Rattle.editing.proofs.EditRules.{colour-fine}
+use Rattle.editing.proofs.EditSound.{edit-sound}
 use Rattle.refresh.proofs.Theorem.{refresh-passes, fresh-renewed}
 use Rattle.entries.specs.Input.{input, mostKept, positionsIn, channelsIn, inputOf}
 use Rattle.writing.specs.Printed.{refusedText}
@@ -80,12 +84,12 @@ module _ (cs : List Float) (k : ℕ) (c : Rgba) (there : 4 * k + 4 ≤ length cs
       ap₂ (λ (t : Bool) (x : Checked). cond (finite (posAt ps i) && t) (cond (lt (posAt ps i) prev) (checked.Refused falling) x) (checked.Refused notFinite))
       (finite-same i) (each-same left (suc i) (posAt ps i) ps)
 
-module _ (ramp : Ramp) (e : Edit) (there : 4 * e .stop + 4 ≤ length (ramp .channels)) (old : finiteRgba (colourAt (ramp .channels) (e .stop)) ≡ true) (new : finiteRgba (e .colour) ≡ true) (g : isGimp (ramp .kind) ≡ false) where
-  check-same : checkOf (edited ramp e) ≡ checkOf ramp
+module _ (ramp : Ramp) (k : ℕ) (c : Rgba) (there : 4 * k + 4 ≤ length (ramp .channels)) (old : finiteRgba (colourAt (ramp .channels) k) ≡ true) (new : finiteRgba c ≡ true) (g : isGimp (ramp .kind) ≡ false) where
+  check-same : checkOf (edited ramp (Colour k c)) ≡ checkOf ramp
   unfolding checkOf stopsCheck
-  check-same = rw (g, changed-length (ramp .channels) (e .stop) (e .colour), each-same (ramp .channels) (e .stop) (e .colour) there old new (length (ramp .positions)) 0 (inf true) (ramp .positions))
+  check-same = rw (g, changed-length (ramp .channels) k c, each-same (ramp .channels) k c there old new (length (ramp .positions)) 0 (inf true) (ramp .positions))
 
-  sampling-same : (was : Held) → heldCheck (edited ramp e) was ≡ heldCheck ramp was
+  sampling-same : (was : Held) → heldCheck (edited ramp (Colour k c)) was ≡ heldCheck ramp was
   unfolding sampleCheck
   sampling-same was = ap (λ (x : Checked). andThen x (shapeCheck (minOf ramp) (maxOf ramp) (length (was .rows)) (length (was .counts)) (length (was .marks)))) check-same
 
@@ -101,7 +105,7 @@ module _ (ramp : Ramp) (e : Edit) (asked : Float) (was : Held) (same : heldCheck
       let g = colourOf (edited ramp e) in
       let far = farOf asked in
       let ts = pointsIn (edited ramp e) (fresh (edited ramp e) asked) in
-      let ok = edit-allowed ramp e (ramp-fine ramp _ _ _ fine) allowed in
+      let ok = edit-sound ramp e (ramp-fine ramp _ _ _ fine) allowed in
       rw (same ∙ fine, fine, refresh-passes ramp e asked was fine allowed, fresh-renewed ramp e ok asked)
       (same-answers (refusalOf g far room ts) (length (keptOf g far ts)) (freshEvaluations ramp asked + (newEvaluations ramp e asked + listEvaluations g far ts)) (flattenEvaluations (edited ramp e) asked) (keptOf g far ts) (coloursOf g (keptOf g far ts)))
 
@@ -117,7 +121,7 @@ same-either true a b c h = h
 same-either false a b c h = same-text refl
 
 -- s has an edit of a stop that is there; s′ has the same stops with that one changed, and no edit
-pub edited-text : (s s′ : List ℕ) {kind : Kind} {asked : Float} {stops : List Stop} {e : Edit} → inputOf s ≡ input kind asked stops (edit.By e) → e .stop < length stops → inputOf s′ ≡ input kind asked (recoloured stops (e .stop) (e .colour)) edit.Not → SameStops (deskOf s) (deskOf s′)
+pub edited-text : (s s′ : List ℕ) {kind : Kind} {asked : Float} {stops : List Stop} {e : Recolour} → inputOf s ≡ input kind asked stops (edit.By e) → e .stop < length stops → inputOf s′ ≡ input kind asked (recoloured stops (e .stop) (e .colour)) edit.Not → SameStops (deskOf s) (deskOf s′)
 unfolding deskOf inputText
 edited-text s s′ {kind} {asked} {stops} {e} i h j =
     let f = read-finite s i in
@@ -132,4 +136,4 @@ edited-text s s′ {kind} {asked} {stops} {e} i h j =
     let ramp = rampOf kind ps cs [] in
     rw (i, j, same-count stops k (e .colour), same-positions stops k (e .colour), changed-channels stops k (e .colour) h)
     (same-either (leb (length stops) mostKept) _ _ (refusedText misshapen)
-    (edit-fresh ramp e asked blank (sampling-same ramp e there old (f .colour-fine) (f .kind-stops) blank) (sym (edit-fine kind (length ps) e (f .kind-fine) short (f .colour-fine)))))
+    (edit-fresh ramp (Colour k (e .colour)) asked blank (sampling-same ramp k (e .colour) there old (f .colour-fine) (f .kind-stops) blank) (sym (colour-fine kind ps k (e .colour) (f .kind-fine) short (f .colour-fine)))))

@@ -26,9 +26,10 @@ use Rattle.sampling.proofs.Answers.{fresh-bound}
 use Rattle.linearize.proofs.Bounds.{list-bound}
 use Rattle.linearize.proofs.Calls.{kept-room}
 use Rattle.places.proofs.Following.{list-some, list-most}
-use Rattle.refresh.specs.Edit.{edited}
+use Rattle.editing.specs.Edited.{edited}
 use Rattle.refresh.specs.RefreshDesk.{refreshCheck}
-use Rattle.refresh.specs.declared.edit.Edit.{Edit}
+use Rattle.editing.specs.declared.Edit.{Edit}
+use Rattle.editing.specs.declared.Edit.the-variants.{Colour}
 use Rattle.refresh.proofs.RefreshAnswers.{relist-most}
 use Rattle.entries.specs.Input.{Input, unread, input, mostKept, positionsIn, channelsIn, inputOf}
 use Rattle.writing.specs.Printed.{decimalOf, countText, stopText, rowsText, lineText, unreadText, refusedText, evaluationsWord, listText, Puts}
@@ -132,7 +133,7 @@ input-most : (i : Input) → length (inputText i) ≤ mostPrinted
 unfolding inputText
 input-most (unread line) = unread-most line
 input-most (input kind asked stops edit.Not) = either-most (leb (length stops) mostKept) _ misshapen (fresh-most (rampOf kind (positionsIn stops) (channelsIn stops) []) asked blank)
-input-most (input kind asked stops (edit.By e)) = either-most (leb (length stops) mostKept) _ misshapen (edit-most (rampOf kind (positionsIn stops) (channelsIn stops) []) e asked blank)
+input-most (input kind asked stops (edit.By e)) = either-most (leb (length stops) mostKept) _ misshapen (edit-most (rampOf kind (positionsIn stops) (channelsIn stops) []) (Colour (e .stop) (e .colour)) asked blank)
 
 -- the theorem: no input prints more
 pub desk-most : (s : List ℕ) → length (deskOf s) ≤ mostPrinted

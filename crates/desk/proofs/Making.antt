@@ -30,9 +30,11 @@ use Rattle.sampling.specs.declared.Sampled.{Sampled}
 use Rattle.sampling.specs.declared.Sampled.the-variants as sampled
 use Rattle.linearize.proofs.Calls.{kept-room}
 use Rattle.sampling.proofs.Answers.{sample-most}
-use Rattle.refresh.specs.Edit.{edited}
+use Rattle.editing.specs.Edited.{edited}
 use Rattle.refresh.specs.RefreshDesk.{refreshCheck, newEvaluations, refreshOutput, RefreshLists}
-use Rattle.refresh.specs.declared.edit.Edit.{Edit}
+use Rattle.editing.specs.declared.Edit.{Edit}
+use Rattle.editing.specs.declared.Edit.the-variants.{Colour}
+use Rattle.entries.specs.declared.fields.Recolour.{Recolour}
 use Rattle.writing.specs.Printed.{countText, stopText, rowsText, stopsWord, evaluationsWord, listText, replyText, Puts}
 use Rattle.writing.specs.declared.Reply.{Reply}
 use Rattle.writing.specs.declared.Reply.the-variants as reply
@@ -179,7 +181,7 @@ module _ (ramp : Ramp) (asked : Float) {e : Edited} where
   pub ramp-fresh : e ≡ edit.Not → freshText ramp asked blank ≡ rampText ramp asked e
   ramp-fresh i = sym (ap (rampText ramp asked) i)
 
-  pub ramp-edited : {d : Edit} → e ≡ edit.By d → editText ramp d asked blank ≡ rampText ramp asked e
+  pub ramp-edited : {d : Recolour} → e ≡ edit.By d → editText ramp (Colour (d .stop) (d .colour)) asked blank ≡ rampText ramp asked e
   ramp-edited i = sym (ap (rampText ramp asked) i)
 
 -- ---- the output

@@ -21,10 +21,10 @@ use Rattle.rows.specs.declared.digits.Digits.{Digits}
 use Rattle.rows.specs.declared.digits.Digits.the-variants.{Bad, Is}
 use Rattle.rows.proofs.Read.{Finite, numbers-finite}
 use Rattle.sampling.specs.Constants.{defaultThreshold}
-use Rattle.refresh.specs.RefreshDesk.{refreshable}
+use Rattle.editing.specs.Rules.{refreshable}
 use Rattle.entries.specs.Entries.{exactly, toThreshold, thresholdEntry, toStop, stopEntry, indexOf, toChange, changeEntry, editEntry, stopTag, thresholdTag, editTag, kindLinear, kindSmoothstep, entryOf}
 use Rattle.entries.specs.Input.{Input, unread, input, mostBytes, ifRamp, ifThreshold, ifStop, ifChange, fromEnd, fromEdit, stopsOf, afterStops, fromStops, fromThreshold, fromKind, inputOf, channelsIn}
-use Rattle.refresh.specs.declared.edit.Edit.{Edit}
+use Rattle.entries.specs.declared.fields.Recolour.{Recolour}
 use Rattle.entries.specs.declared.fields.Entry.{Entry}
 use Rattle.entries.specs.declared.fields.Entry.the-variants as entry
 use Rattle.entries.specs.declared.reading.Edited.{Edited}
@@ -106,7 +106,7 @@ plainInput (unread line) = true
 plainInput (input k x stops e) = plainKind k && (allFinite (channelsIn stops) && plainEdit e)
 
 module _ (k : Kind) (x : Float) (ok : plainKind k ≡ true) where
-  end-plain : (stops : List Stop) (e : Edit) (line : ℕ) (ls : List (List ℕ)) → allFinite (channelsIn stops) ≡ true → finiteRgba (e .colour) ≡ true → plainInput (fromEnd k x stops e line ls) ≡ true
+  end-plain : (stops : List Stop) (e : Recolour) (line : ℕ) (ls : List (List ℕ)) → allFinite (channelsIn stops) ≡ true → finiteRgba (e .colour) ≡ true → plainInput (fromEnd k x stops e line ls) ≡ true
   unfolding fromEnd
   end-plain stops e line [] h f = rw (ok, h, f)
   end-plain stops e line (l ∷ ls) h f = refl
@@ -156,13 +156,13 @@ input-plain s = go (leb (length s) mostBytes) where
   go false = refl
 
 -- what is read of a ramp with an edit
-pub record ReadFinite (kind : Kind) (stops : List Stop) (e : Edit) : Type 0 where
+pub record ReadFinite (kind : Kind) (stops : List Stop) (e : Recolour) : Type 0 where
   pub kind-fine : refreshable kind ≡ true
   pub kind-stops : isGimp kind ≡ false
   pub channels-fine : allFinite (channelsIn stops) ≡ true
   pub colour-fine : finiteRgba (e .colour) ≡ true
 
-pub read-finite : (s : List ℕ) {kind : Kind} {asked : Float} {stops : List Stop} {e : Edit} → inputOf s ≡ input kind asked stops (edit.By e) → ReadFinite kind stops e
+pub read-finite : (s : List ℕ) {kind : Kind} {asked : Float} {stops : List Stop} {e : Recolour} → inputOf s ≡ input kind asked stops (edit.By e) → ReadFinite kind stops e
 read-finite s {kind} {asked} {stops} {e} i =
     let h : (plainKind kind && (allFinite (channelsIn stops) && finiteRgba (e .colour))) ≡ true = sym (ap plainInput i) ∙ input-plain s in
     let k = both-l (plainKind kind) (allFinite (channelsIn stops) && finiteRgba (e .colour)) h in

@@ -18,7 +18,7 @@ use Rattle.entries.specs.Entries.{entryOf}
 use Rattle.entries.specs.Input.{Input, unread, input, mostBytes, ifStop, fromKind, inputOf}
 use Rattle.desk.specs.Recoloured.{toTab, afterTab, changedLine, changedLines, SameStops, inLine, textOf, unbroken}
 use Rattle.desk.specs.Tool.{deskOf}
-use Rattle.refresh.specs.declared.edit.Edit.{Edit}
+use Rattle.entries.specs.declared.fields.Recolour.{Recolour}
 use Rattle.entries.specs.declared.fields.Entry.{Entry}
 use Rattle.entries.specs.declared.fields.Entry.the-variants as entry
 use Rattle.entries.specs.declared.reading.Edited.the-variants as edit
@@ -86,7 +86,7 @@ by-stop P (entry.Stop s) g z a b = a s
 by-stop P (entry.Change e) g z a b = b
 by-stop P entry.Unread g z a b = b
 
-module _ (d : List ℕ) (e : Edit) (says : entryOf d ≡ entry.Change e) where
+module _ (d : List ℕ) (e : Recolour) (says : entryOf d ≡ entry.Change e) where
   long-edit : 5 ≤ length d
   long-edit = omega (arith, edit-fields d says, few-fields (drop 5 d), length-drop 5 d)
 
@@ -154,7 +154,7 @@ unfolding textOf
 length-text [] d = length-append d (10 ∷ []) ∙ omega arith
 length-text (l ∷ ls) d = omega (arith, length-append l (10 ∷ textOf ls), length-append l (10 ∷ textOf (ls ++ d ∷ [])), length-text ls d)
 
-few-bytes : (s : List ℕ) {kind : Kind} {asked : Float} {stops : List Stop} {e : Edit} → inputOf s ≡ input kind asked stops (edit.By e) → length s ≤ mostBytes
+few-bytes : (s : List ℕ) {kind : Kind} {asked : Float} {stops : List Stop} {e : Recolour} → inputOf s ≡ input kind asked stops (edit.By e) → length s ≤ mostBytes
 unfolding inputOf
 few-bytes s {kind} {asked} {stops} {e} i = go (leb (length s) mostBytes) refl i where
   isRead : Input → Bool
@@ -166,7 +166,7 @@ few-bytes s {kind} {asked} {stops} {e} i = go (leb (length s) mostBytes) refl i 
   go false h i = absurd (true≢false (sym (ap isRead i)))
 
 -- of the lines `body` and the edit's line d: the text with both, and the text with the stop's line changed and without d
-pub edited-writing : (body : List (List ℕ)) (d : List ℕ) {kind : Kind} {asked : Float} {stops : List Stop} {e : Edit}
+pub edited-writing : (body : List (List ℕ)) (d : List ℕ) {kind : Kind} {asked : Float} {stops : List Stop} {e : Recolour}
     → unbroken (body ++ d ∷ []) ≡ true → entryOf d ≡ entry.Change e → inputOf (textOf (body ++ d ∷ [])) ≡ input kind asked stops (edit.By e) → e .stop < length stops
     → SameStops (deskOf (textOf (body ++ d ∷ []))) (deskOf (textOf (changedLines (e .stop) d body)))
 edited-writing body d {kind} {asked} {stops} {e} whole says i h =

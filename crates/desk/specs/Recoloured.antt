@@ -11,7 +11,7 @@ use Rattle.text.specs.Text.{every, lines, fields}
 use Rattle.entries.specs.Entries.{stopTag, entryOf}
 use Rattle.entries.specs.Input.{mostBytes, ifStop}
 use Rattle.writing.specs.Printed.{refusedText}
-use Rattle.refresh.specs.declared.edit.Edit.{Edit}
+use Rattle.entries.specs.declared.fields.Recolour.{Recolour}
 use Rattle.entries.specs.declared.fields.Entry.the-variants as entry
 
 -- the stops with another colour at stop k
@@ -58,7 +58,7 @@ changedLines zero edit (l ∷ ls) = ifStop (entryOf l) (λ s. changedLine l edit
 changedLines (suc k) edit (l ∷ ls) = ifStop (entryOf l) (λ s. l ∷ changedLines k edit ls) (l ∷ changedLines (suc k) edit ls)
 
 -- The last line of s is the edit's; s′ has the lines before it, with that of the stop changed. Any text with these lines: how its lines end is nothing to it.
-pub record EditMade (s s′ : List ℕ) (e : Edit) : Type 0 where
+pub record EditMade (s s′ : List ℕ) (e : Recolour) : Type 0 where
   pub body : List (List ℕ)
   pub last : List ℕ
   pub says : entryOf last ≡ entry.Change e

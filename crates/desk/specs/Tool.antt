@@ -21,11 +21,12 @@ use Rattle.linearize.specs.declared.Listed.{Listed}
 use Rattle.linearize.specs.declared.Listed.the-variants as listed
 use Rattle.sampling.specs.declared.Sampled.{Sampled}
 use Rattle.sampling.specs.declared.Sampled.the-variants as sampled
-use Rattle.refresh.specs.Edit.{edited}
+use Rattle.editing.specs.Edited.{edited}
 use Rattle.refresh.specs.RefreshDesk.{refreshCheck, renewed, newEvaluations}
 use Rattle.entries.specs.Input.{Input, unread, input, mostKept, positionsIn, channelsIn, inputOf}
 use Rattle.writing.specs.Printed.{unreadText, refusedText, listText}
-use Rattle.refresh.specs.declared.edit.Edit.{Edit}
+use Rattle.editing.specs.declared.Edit.{Edit}
+use Rattle.editing.specs.declared.Edit.the-variants.{Colour}
 use Rattle.entries.specs.declared.reading.Edited.{Edited}
 use Rattle.entries.specs.declared.reading.Edited.the-variants as edit
 use Rattle.desk.specs.declared.Desked.{Desked}
@@ -83,7 +84,7 @@ blank = heldOf (replicate recordLength f0) (replicate cells 0) (replicate marksL
 
 abbrev pub rampText : Ramp → Float → Edited → List ℕ
 rampText ramp asked edit.Not = freshText ramp asked blank
-rampText ramp asked (edit.By e) = editText ramp e asked blank
+rampText ramp asked (edit.By e) = editText ramp (Colour (e .stop) (e .colour)) asked blank
 
 -- more stops than the tool keeps are refused, whatever the library allows
 unfoldable pub inputText : Input → List ℕ

@@ -1,9 +1,9 @@
 // The calls that make a list, and the reply that tells of it.
+use editing::Edit;
 use entries::reading::Edited;
 use linearize::Listed;
 use linearize::Sampled;
 use linearize::Sampler;
-use refresh::edit::Edit;
 use stops::Kind;
 use writing::Reply;
 ghost use mathlib.Core.Path.{_≡_};
@@ -120,14 +120,11 @@ pub(crate) fn list_of(
 {
     match edited {
         Edited::Not => fresh(kind, positions, channels, threshold, places, colours),
-        Edited::By(edit) => edited_list(
-            kind,
-            positions,
-            channels,
-            threshold,
-            edit,
-            places,
-            colours,
-        ),
+        Edited::By(change) => {
+            let stop = change.stop;
+            let colour = change.colour;
+            let edit = Edit::Colour { stop, colour };
+            edited_list(kind, positions, channels, threshold, edit, places, colours)
+        }
     }
 }

@@ -21,7 +21,7 @@ use Rattle.linearize.specs.Lent.{outputOf}
 use Rattle.entries.specs.Entries.{entryOf}
 use Rattle.entries.specs.Input.{unread, ifThreshold, ifStop, ifChange, fromEnd, fromEdit, stopsOf, afterStops, fromStops, fromThreshold, positionsIn, channelsIn, afterThreshold}
 use Rattle.entries.specs.Steps.{StepAt, StartAt, BlockAt, endingOf, EndsAs}
-use Rattle.refresh.specs.declared.edit.Edit.{Edit}
+use Rattle.entries.specs.declared.fields.Recolour.{Recolour}
 use Rattle.entries.specs.declared.fields.Entry.{Entry}
 use Rattle.entries.specs.declared.fields.Entry.the-variants as entry
 use Rattle.entries.proofs.fields.Entry.{the-type}
@@ -198,7 +198,7 @@ module _ (s : List ℕ) (at line : ℕ) where
     unfolding endingOf
     ending-other o = record { is = λ k x stops. first-edit k x stops ∙ not-change e _ _ o }
 
-    module _ {d : Edit} (i : e ≡ entry.Change d) where
+    module _ {d : Recolour} (i : e ≡ entry.Change d) where
       to-end : (k : Kind) (x : Float) (stops : List Stop) → fromEdit k x stops line (lines (drop at s)) ≡ fromEnd k x stops d (line + 1) (lines (drop next s))
       to-end k x stops = first-edit k x stops ∙ ap (λ (f : Entry). ifChange f (λ y. fromEnd k x stops y (line + 1) (lines (drop next s))) (unread line)) i
 

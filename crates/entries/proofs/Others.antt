@@ -7,7 +7,7 @@ use denote.Enum.Declared.{tagOf}
 use Rattle.blend.specs.declared.Stop.{Stop}
 use Rattle.stops.specs.declared.Kind.{Kind}
 use Rattle.entries.specs.Input.{ifRamp, ifThreshold, ifStop, ifChange}
-use Rattle.refresh.specs.declared.edit.Edit.{Edit}
+use Rattle.entries.specs.declared.fields.Recolour.{Recolour}
 use Rattle.entries.specs.declared.fields.Entry.{Entry}
 use Rattle.entries.specs.declared.fields.Entry.the-variants as entry
 use Rattle.entries.proofs.fields.Entry.{the-type}
@@ -33,7 +33,7 @@ not-stop (entry.Stop s) f z h = absurd (miss (0 ∷ 1 ∷ 3 ∷ 4 ∷ []) 2 tt h
 not-stop (entry.Change e) f z h = refl
 not-stop entry.Unread f z h = refl
 
-pub not-change : {A : Type 0} (e : Entry) (f : Edit → A) (z : A) → OneOf (0 ∷ 1 ∷ 2 ∷ 4 ∷ []) (tagOf the-type e) → ifChange e f z ≡ z
+pub not-change : {A : Type 0} (e : Entry) (f : Recolour → A) (z : A) → OneOf (0 ∷ 1 ∷ 2 ∷ 4 ∷ []) (tagOf the-type e) → ifChange e f z ≡ z
 not-change (entry.Ramp k) f z h = refl
 not-change (entry.Threshold x) f z h = refl
 not-change (entry.Stop s) f z h = refl

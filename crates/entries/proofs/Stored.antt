@@ -18,7 +18,7 @@ use Rattle.text.specs.Text.{lines}
 use Rattle.text.proofs.Lines.{no-lines}
 use Rattle.sampling.specs.Constants.{defaultThreshold}
 use Rattle.linearize.specs.Lent.{Output}
-use Rattle.refresh.specs.declared.edit.Edit.{Edit}
+use Rattle.entries.specs.declared.fields.Recolour.{Recolour}
 use Rattle.entries.specs.Entries.{entryOf}
 use Rattle.entries.specs.Input.{Input, unread, input, mostBytes, ifRamp, ifThreshold, ifChange, fromEnd, fromEdit, stopsOf, afterStops, fromStops, fromThreshold, fromKind, inputOf, positionsIn, channelsIn, afterThreshold, stopsFrom, stopsIn, askedOf, Reads}
 use Rattle.entries.specs.Steps.{StepAt, StartAt, BlockAt, endingOf, EndsAs}
@@ -105,7 +105,7 @@ Same ss (unread line) = Unit {0}
 Same ss (input k x stops e) = stops ≡ ss
 
 module _ (k : Kind) (x : Float) where
-  same-end : (ss : List Stop) (e : Edit) (line : ℕ) (ls : List (List ℕ)) → Same ss (fromEnd k x ss e line ls)
+  same-end : (ss : List Stop) (e : Recolour) (line : ℕ) (ls : List (List ℕ)) → Same ss (fromEnd k x ss e line ls)
   unfolding fromEnd
   same-end ss e line [] = refl
   same-end ss e line (l ∷ ls) = tt

@@ -14,7 +14,7 @@ use Rattle.text.specs.Text.{lines}
 use Rattle.sampling.specs.Constants.{defaultThreshold}
 use Rattle.blend.specs.Channels.{channelsOf}
 use Rattle.linearize.specs.Lent.{Output}
-use Rattle.refresh.specs.declared.edit.Edit.{Edit}
+use Rattle.entries.specs.declared.fields.Recolour.{Recolour}
 use Rattle.entries.specs.Entries.{entryOf}
 use Rattle.entries.specs.declared.fields.Entry.{Entry}
 use Rattle.entries.specs.declared.fields.Entry.the-variants as entry
@@ -58,7 +58,7 @@ ifStop (entry.Stop s) f z = f s
 ifStop (entry.Change e) f z = z
 ifStop entry.Unread f z = z
 
-abbrev pub ifChange : {A : Type 0} → Entry → (Edit → A) → A → A
+abbrev pub ifChange : {A : Type 0} → Entry → (Recolour → A) → A → A
 ifChange (entry.Ramp k) f z = z
 ifChange (entry.Threshold x) f z = z
 ifChange (entry.Stop s) f z = z
@@ -68,7 +68,7 @@ ifChange entry.Unread f z = z
 -- ---- line by line, from the last kind of line to the first
 
 -- nothing after the edit
-unfoldable pub fromEnd : Kind → Float → List Stop → Edit → ℕ → List (List ℕ) → Input
+unfoldable pub fromEnd : Kind → Float → List Stop → Recolour → ℕ → List (List ℕ) → Input
 fromEnd k x stops e line [] = input k x stops (edited.By e)
 fromEnd k x stops e line (l ∷ ls) = unread line
 

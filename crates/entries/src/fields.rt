@@ -1,7 +1,6 @@
 // A line of the input: its fields, parted by single tabs, and what it says.
 use blend::Rgba;
 use blend::Stop;
-use refresh::edit::Edit;
 use rows::Parting;
 use rows::digits::Digits;
 use rows::digits::number_of;
@@ -21,12 +20,18 @@ ghost use Rattle.entries.specs.Entries.{entryOf, thresholdEntry, stopEnt
 // An index has at most this many digits.
 const INDEX_DIGITS: usize = 18;
 
+// A stop is given a colour.
+pub struct Recolour {
+    pub stop: usize,
+    pub colour: Rgba,
+}
+
 // What a line says.
 pub enum Entry {
     Ramp(Kind),
     Threshold(f32),
     Stop(Stop),
-    Change(Edit),
+    Change(Recolour),
     Unread,
 }
 
@@ -89,7 +94,7 @@ fn edit_entry(l: &[u8], from: usize) -> Entry
         b: d[2],
         a: d[3],
     };
-    let edit = Edit {
+    let edit = Recolour {
         stop: k as usize,
         colour,
     };

@@ -1,9 +1,9 @@
 // The input as a whole: the kind, the threshold, the stops, the edit, in this order.
 use crate::fields::Entry;
+use crate::fields::Recolour;
 use crate::fields::entry_of;
 use blend::Stop;
 use linearize::Sampler;
-use refresh::edit::Edit;
 use slices::put;
 use stops::Kind;
 use stops::channels::put_colour;
@@ -24,7 +24,7 @@ pub const MOST_KEPT: usize = 512;
 // Whether a stop is given a colour before the list is made.
 pub enum Edited {
     Not,
-    By(Edit),
+    By(Recolour),
 }
 
 // What the input asks for: the list of a ramp of so many stops; or the number of the line that cannot be read.

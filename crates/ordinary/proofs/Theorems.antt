@@ -32,6 +32,7 @@ use Rattle.linearize.specs.declared.Listed.{Listed}
 use Rattle.reach.specs.Stretch.{outsideOf, midsOutside, clearOf, cellClear}
 use Rattle.reach.specs.KeptCells.{isDomain}
 use Rattle.reach.proofs.Domains.{checked-domain}
+use Rattle.reach.specs.declared.stretch.Stretch.{Stretch}
 use Rattle.reach.proofs.Kept.{before-cell, after-cell}
 use Rattle.refresh.specs.AfterEdit.{Shaped}
 use Rattle.ordinary.specs.Ordinary.{Ordinary, Moderate, FiniteOnDomain, NeverRefused, NeverFalls, UnitColour, WithinUnit, OneOuterSide, NoMidpointInside}
@@ -89,15 +90,15 @@ never-falling ramp asked was is out out′ r call fine fl fh e =
     (ap (λ (c : Checked). numberBy c (refusalOf (colourOf ramp) (farOf asked) (room out) (pointsIn ramp (fresh ramp asked)))) (sym fine) ∙ sym (call .told .number) ∙ e)
 
 -- ---- for any domain within ±1e38, a cell whose two ends are on one and the same outer side of the stretch has no midpoint inside it
-module _ (reach : ℕ) (ps : List Float) (k : ℕ) (lo hi : Float) (domain : isDomain lo hi ≡ true) (i : ℕ) (l : i < cells) where
-  clear-mids : cellClear (outsideOf reach ps k) lo hi i ≡ true → NoMidpointInside reach ps k lo hi i
+module _ (s : Stretch) (lo hi : Float) (domain : isDomain lo hi ≡ true) (i : ℕ) (l : i < cells) where
+  clear-mids : cellClear (outsideOf s) lo hi i ≡ true → NoMidpointInside s lo hi i
   unfolding cellClear clearOf
   clear-mids h =
-      let out = outsideOf reach ps k in
+      let out = outsideOf s in
       let t0 = edgeOf lo hi i in
       let t1 = edgeOf lo hi (i + 1) in
       both-r (out t1) (midsOutside out depth t0 t1) (both-r (out t0) (out t1 && midsOutside out depth t0 t1) h)
 
-  pub no-midpoint-inside : OneOuterSide reach ps k lo hi i → NoMidpointInside reach ps k lo hi i
-  no-midpoint-inside (inl h) = clear-mids (before-cell reach ps k lo hi domain i l (h .0) (h .1))
-  no-midpoint-inside (inr h) = clear-mids (after-cell reach ps k lo hi domain i l (h .0) (h .1))
+  pub no-midpoint-inside : OneOuterSide s lo hi i → NoMidpointInside s lo hi i
+  no-midpoint-inside (inl h) = clear-mids (before-cell s lo hi domain i l (h .0) (h .1))
+  no-midpoint-inside (inr h) = clear-mids (after-cell s lo hi domain i l (h .0) (h .1))

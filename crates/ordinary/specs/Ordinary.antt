@@ -20,6 +20,7 @@ use Rattle.sampling.specs.Constants.{depth}
 use Rattle.sampling.specs.Cells.{edgeOf}
 use Rattle.reach.specs.Stretch.{beforeOf, afterOf, outsideOf, midsOutside}
 use Rattle.reach.specs.KeptCells.{isDomain}
+use Rattle.reach.specs.declared.stretch.Stretch.{Stretch}
 use Rattle.linearize.specs.Lent.{Output}
 use Rattle.linearize.specs.Desk.{stopsOfListed, evaluationsOfListed}
 use Rattle.linearize.specs.declared.Listed.{Listed}
@@ -112,13 +113,13 @@ WithinUnit out r = (i : ℕ) → i < stopsOfListed r → UnitColour (colourAt (o
 
 -- ---- cells and the stretch of an edit
 
-module _ (reach : ℕ) (ps : List Float) (k : ℕ) (lo hi : Float) (i : ℕ) where
-  -- the two ends of cell i are on one and the same outer side of the stretch of stop k
+module _ (s : Stretch) (lo hi : Float) (i : ℕ) where
+  -- the two ends of cell i are on one and the same outer side of a stretch
   abbrev pub OneOuterSide : Type 0
   OneOuterSide =
-      ((beforeOf reach ps k (edgeOf lo hi i) ≡ true) × (beforeOf reach ps k (edgeOf lo hi (i + 1)) ≡ true))
-      ⊎ ((afterOf reach ps k (edgeOf lo hi i) ≡ true) × (afterOf reach ps k (edgeOf lo hi (i + 1)) ≡ true))
+      ((beforeOf s (edgeOf lo hi i) ≡ true) × (beforeOf s (edgeOf lo hi (i + 1)) ≡ true))
+      ⊎ ((afterOf s (edgeOf lo hi i) ≡ true) × (afterOf s (edgeOf lo hi (i + 1)) ≡ true))
 
   -- none of the 127 midpoints of its full halving is inside the stretch
   abbrev pub NoMidpointInside : Type 0
-  NoMidpointInside = midsOutside (outsideOf reach ps k) depth (edgeOf lo hi i) (edgeOf lo hi (i + 1)) ≡ true
+  NoMidpointInside = midsOutside (outsideOf s) depth (edgeOf lo hi i) (edgeOf lo hi (i + 1)) ≡ true

@@ -1,3 +1,4 @@
 pub mod Coding
+pub mod Sorting
 pub mod Writing
 pub mod Stepping

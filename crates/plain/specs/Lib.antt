@@ -1,4 +1,5 @@
 pub mod Kinds
+pub mod Edits
 pub mod Ramps
 pub mod Lists
 pub mod Name

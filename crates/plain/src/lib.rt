@@ -1,4 +1,5 @@
-// What a C caller hands over and gets back: a kind by its code, and answers as plain fields.
+// What a C caller hands over and gets back: a kind and an edit by their codes, and answers as plain fields.
+pub mod edits;
 pub mod kinds;
 pub mod lists;
 pub mod name;

@@ -31,6 +31,8 @@ use Rattle.colorgrad_c.proofs.steps.colorgrad_next_stop.Reads as of-next-stop
 use Rattle.colorgrad_c.proofs.judging.colorgrad_judge.Reads as of-judge
 use Rattle.colorgrad_c.proofs.edits.colorgrad_refresh.Reads as of-refresh
 use Rattle.colorgrad_c.proofs.edits.colorgrad_refresh_list.Reads as of-refresh-list
+use Rattle.colorgrad_c.proofs.sorts.colorgrad_edit.Reads as of-edit
+use Rattle.colorgrad_c.proofs.sorts.colorgrad_edit_list.Reads as of-edit-list
 
 pub root : (κs : Lfts 0) (a : _) → Coincide (of-root.Learnt κs a) answer
 root κs a = coincide (λ r e w. w)
@@ -89,6 +91,12 @@ refresh κs a =
     (λ kind. coincide (λ r e w. both (w .answer) (both (rows-of (w .left)) (both (counts-of (w .left)) (marks-of (w .left))))))
     (coincide (λ r e w. both (w .0) (both (rows-of (w .1)) (both (counts-of (w .1)) (marks-of (w .1))))))
 
+pub edit : (κs : Lfts 6) (a : _) → Coincide (of-edit.Learnt κs a) (λ r e. r with now (e .1 .1 .1 .1 .1 .1 .1 .1 .1 .0) with now (e .1 .1 .1 .1 .1 .1 .1 .1 .1 .1 .0) with now (e .1 .1 .1 .1 .1 .1 .1 .1 .1 .1 .1 .0))
+edit κs a =
+    by-code (a .0)
+    (λ kind. coincide (λ r e w. both (w .answer) (both (rows-of (w .left)) (both (counts-of (w .left)) (marks-of (w .left))))))
+    (coincide (λ r e w. both (w .0) (both (rows-of (w .1)) (both (counts-of (w .1)) (marks-of (w .1))))))
+
 -- with both outputs
 pub thin : (κs : Lfts 8) (a : _) → Coincide (of-thin.Learnt κs a) (λ r e. r with now (e .1 .1 .1 .1 .1 .1 .1 .1 .0) with now (e .1 .1 .1 .1 .1 .1 .1 .1 .1 .0))
 thin κs a =
@@ -105,6 +113,12 @@ flatten κs a =
 
 pub refresh-list : (κs : Lfts 8) (a : _) → Coincide (of-refresh-list.Learnt κs a) (λ r e. r with now (e .1 .1 .1 .1 .1 .1 .1 .0) with now (e .1 .1 .1 .1 .1 .1 .1 .1 .0) with now (e .1 .1 .1 .1 .1 .1 .1 .1 .1 .0) with now (e .1 .1 .1 .1 .1 .1 .1 .1 .1 .1 .0) with now (e .1 .1 .1 .1 .1 .1 .1 .1 .1 .1 .1 .0))
 refresh-list κs a =
+    by-code (a .0)
+    (λ kind. coincide (λ r e w. both (w .told .answer) (both (rows-of (w .left)) (both (counts-of (w .left)) (both (marks-of (w .left)) (both (positions-of (w .output)) (channels-of (w .output))))))))
+    (coincide (λ r e w. both (w .0) (both (rows-of (w .1 .0)) (both (counts-of (w .1 .0)) (both (marks-of (w .1 .0)) (both (positions-of (w .1 .1)) (channels-of (w .1 .1))))))))
+
+pub edit-list : (κs : Lfts 8) (a : _) → Coincide (of-edit-list.Learnt κs a) (λ r e. r with now (e .1 .1 .1 .1 .1 .1 .1 .1 .1 .0) with now (e .1 .1 .1 .1 .1 .1 .1 .1 .1 .1 .0) with now (e .1 .1 .1 .1 .1 .1 .1 .1 .1 .1 .1 .0) with now (e .1 .1 .1 .1 .1 .1 .1 .1 .1 .1 .1 .1 .0) with now (e .1 .1 .1 .1 .1 .1 .1 .1 .1 .1 .1 .1 .1 .0))
+edit-list κs a =
     by-code (a .0)
     (λ kind. coincide (λ r e w. both (w .told .answer) (both (rows-of (w .left)) (both (counts-of (w .left)) (both (marks-of (w .left)) (both (positions-of (w .output)) (channels-of (w .output))))))))
     (coincide (λ r e w. both (w .0) (both (rows-of (w .1 .0)) (both (counts-of (w .1 .0)) (both (marks-of (w .1 .0)) (both (positions-of (w .1 .1)) (channels-of (w .1 .1))))))))

@@ -23,6 +23,7 @@ pub mod Places
 pub mod Linearize
 pub mod NextStop
 pub mod Reach
+pub mod Editing
 pub mod Refresh
 pub mod Judge
 pub mod Paint

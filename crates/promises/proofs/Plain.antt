@@ -1,8 +1,9 @@
--- `plain`: a kind by its code, and answers as plain fields.
+-- `plain`: a kind and an edit by their codes, and answers as plain fields.
 use contract.Lifetimes.{Lfts}
 use denote.Ref.{now}
 use Rattle.promises.specs.Law.{Coincide, coincide, answer, _with_, both}
 use Rattle.plain.proofs.kinds.kind_of.Reads as of-kind-of
+use Rattle.plain.proofs.edits.edit_of.Reads as of-edit-of
 use Rattle.plain.proofs.ramps.checked_number.Reads as of-checked-number
 use Rattle.plain.proofs.ramps.domain_by.Reads as of-domain-by
 use Rattle.plain.proofs.ramps.answer_shown.Reads as of-answer-shown
@@ -17,6 +18,9 @@ use Rattle.plain.proofs.steps.handed_shown.Reads as of-handed-shown
 
 pub kind-of : (κs : Lfts 0) (a : _) → Coincide (of-kind-of.Learnt κs a) answer
 kind-of κs a = coincide (λ r e w. w)
+
+pub edit-of : (κs : Lfts 0) (a : _) → Coincide (of-edit-of.Learnt κs a) answer
+edit-of κs a = coincide (λ r e w. w)
 
 pub checked-number : (κs : Lfts 0) (a : _) → Coincide (of-checked-number.Learnt κs a) answer
 checked-number κs a = coincide (λ r e w. w)

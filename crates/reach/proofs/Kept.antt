@@ -1,4 +1,4 @@
--- The cells kept, one after the other: without the stop or without a domain none is, and else those that are clear. Assumes nothing.
+-- The cells kept, one after the other: without a domain none is, and else those that are clear. Assumes nothing.
 use mathlib.Core.Path.{_≡_, refl, sym, ap, _∙_}
 use mathlib.Core.Bool.{Bool, true, false}
 use mathlib.Core.List.{List, [], _∷_, _++_}
@@ -7,21 +7,20 @@ use Prim.Native.Nat.{ℕ, zero, suc, _+_, _*_, _≤_, _<_}
 use native.Mathlib.Nat.{eq-or-lt-of-le}
 use native.Mathlib.Numerals.{add-one}
 use native.Mathlib.Omega.{arith}
-use borrow.Author.Tests.{lt-ltb, le-ltb}
 use lib.ListN.{length, getD, set, take, replicate, List·getD-append}
 use lib.Seq.{take-suc-set, take-length, getD-append-add}
 use lib.Ieee.{Float}
 use Rattle.stops.specs.Lent.{Ramp}
-use Rattle.stops.specs.declared.Kind.{Kind}
 use Rattle.stops.specs.declared.Checked.the-variants as checked
-use Rattle.gradient.specs.Ramp.{minIn, maxIn, minOf, maxOf}
+use Rattle.gradient.specs.Ramp.{minOf, maxOf}
 use Rattle.sampling.specs.Constants.{cells}
 use Rattle.slices.specs.Joined.{joined}
 use Rattle.sampling.specs.Cells.{edgeOf}
 use Rattle.sampling.specs.Lent.{Held}
 use Rattle.sampling.specs.Sampling.{heldCheck}
 use Rattle.slices.proofs.Joined.{length-joined}
-use Rattle.reach.specs.Stretch.{reachOf, beforeOf, afterOf, outsideOf, clearOf, cellClear}
+use Rattle.reach.specs.Stretch.{beforeOf, afterOf, outsideOf, clearOf, cellClear}
+use Rattle.reach.specs.declared.stretch.Stretch.{Stretch}
 use Rattle.reach.specs.KeptCells.{isDomain, cellKept, keptCells}
 use Rattle.reach.proofs.Sides.{before-clear, after-clear}
 use Rattle.reach.proofs.Domains.{end-within, checked-domain}
@@ -32,20 +31,20 @@ unfolding cellClear
 clear-is out lo hi t0 t1 i p q = rw (p, q)
 
 -- a cell whose two ends are on one and the same outer side of the stretch has no midpoint inside it
-module _ (reach : ℕ) (ps : List Float) (k : ℕ) (lo hi : Float) (domain : isDomain lo hi ≡ true) (i : ℕ) (l : i < cells) where
+module _ (s : Stretch) (lo hi : Float) (domain : isDomain lo hi ≡ true) (i : ℕ) (l : i < cells) where
   abbrev first : Float
   first = edgeOf lo hi i
 
   abbrev last : Float
   last = edgeOf lo hi (i + 1)
 
-  pub before-cell : beforeOf reach ps k first ≡ true → beforeOf reach ps k last ≡ true → cellClear (outsideOf reach ps k) lo hi i ≡ true
+  pub before-cell : beforeOf s first ≡ true → beforeOf s last ≡ true → cellClear (outsideOf s) lo hi i ≡ true
   unfolding cellClear
-  before-cell h j = before-clear reach ps k first last (end-within lo hi domain first i (omega arith) refl) (end-within lo hi domain last (i + 1) (omega arith) refl) h j
+  before-cell h j = before-clear s first last (end-within lo hi domain first i (omega arith) refl) (end-within lo hi domain last (i + 1) (omega arith) refl) h j
 
-  pub after-cell : afterOf reach ps k first ≡ true → afterOf reach ps k last ≡ true → cellClear (outsideOf reach ps k) lo hi i ≡ true
+  pub after-cell : afterOf s first ≡ true → afterOf s last ≡ true → cellClear (outsideOf s) lo hi i ≡ true
   unfolding cellClear
-  after-cell h j = after-clear reach ps k first last (end-within lo hi domain first i (omega arith) refl) (end-within lo hi domain last (i + 1) (omega arith) refl) h j
+  after-cell h j = after-clear s first last (end-within lo hi domain first i (omega arith) refl) (end-within lo hi domain last (i + 1) (omega arith) refl) h j
 
 -- ---- a list of single items
 abbrev pub each : {A : Type 0} → (ℕ → A) → ℕ → List A
@@ -79,45 +78,33 @@ each-at f (suc n) i d l = ⊎-elim last (λ b. List·getD-append (each f n) (f n
         rw e (rw at at (getD-append-add (each f n) (f n ∷ []) 0 d))
 
 -- ---- all cells
-module _ (kind : Kind) (ps : List Float) (k : ℕ) where
+module _ (lo hi : Float) (s : Stretch) where
   abbrev clear : ℕ → Bool
-  clear i = cellClear (outsideOf (reachOf kind) ps k) (minIn kind ps) (maxIn kind ps) i
+  clear i = cellClear (outsideOf s) lo hi i
 
-  pub no-stop : length ps ≤ k → replicate cells false ≡ keptCells kind ps k
+  pub no-domain : isDomain lo hi ≡ false → replicate cells false ≡ keptCells lo hi s
   unfolding keptCells
-  no-stop h = none ∙ sym (each-same (cellKept kind ps k) (λ i. false) cells not-kept)
+  no-domain h = none ∙ sym (each-same (cellKept lo hi s) (λ i. false) cells not-kept)
     where
-      not-kept : (i : ℕ) → cellKept kind ps k i ≡ false
-      not-kept i = unfold cellKept in rw (le-ltb k (length ps) h)
+      not-kept : (i : ℕ) → cellKept lo hi s i ≡ false
+      not-kept i = unfold cellKept in rw h
 
-  module _ (there : k < length ps) where
-    kept-clear : isDomain (minIn kind ps) (maxIn kind ps) ≡ true → (i : ℕ) → cellKept kind ps k i ≡ clear i
+  module _ (domain : isDomain lo hi ≡ true) where
+    kept-clear : (i : ℕ) → cellKept lo hi s i ≡ clear i
     unfolding cellKept
-    kept-clear domain i = rw (lt-ltb k (length ps) there, domain)
+    kept-clear i = rw domain
 
     -- a cell is kept just where it is clear
-    pub kept-is : isDomain (minIn kind ps) (maxIn kind ps) ≡ true → (i : ℕ) → i < cells → getD (keptCells kind ps k) i false ≡ clear i
+    pub kept-is : (i : ℕ) → i < cells → getD (keptCells lo hi s) i false ≡ clear i
     unfolding keptCells
-    kept-is domain i l = each-at (cellKept kind ps k) cells i false l ∙ kept-clear domain i
+    kept-is i l = each-at (cellKept lo hi s) cells i false l ∙ kept-clear i
 
-    -- the same with the ends in hand
-    module _ (lo hi : Float) (first : lo ≡ minIn kind ps) (last : hi ≡ maxIn kind ps) where
-      pub no-domain : isDomain lo hi ≡ false → replicate cells false ≡ keptCells kind ps k
-      unfolding keptCells
-      no-domain h = none ∙ sym (each-same (cellKept kind ps k) (λ i. false) cells not-kept)
-        where
-          not-kept : (i : ℕ) → cellKept kind ps k i ≡ false
-          not-kept i = unfold cellKept in rw (lt-ltb k (length ps) there, ← first, ← last, h)
+    pub filled : (keep : List Bool) (i : ℕ) → length keep ≡ cells → i ≡ cells → take i keep ≡ each clear i → keep ≡ keptCells lo hi s
+    unfolding keptCells
+    filled keep i long end same =
+        sym (take-length keep) ∙ ap (λ (n : ℕ). take n keep) (long ∙ sym end) ∙ same ∙ ap (each clear) end ∙ sym (each-same (cellKept lo hi s) clear cells kept-clear)
 
-      pub filled : (reach : ℕ) → reach ≡ reachOf kind → isDomain lo hi ≡ true → (keep : List Bool) (i : ℕ) → length keep ≡ cells → i ≡ cells
-          → take i keep ≡ each (cellClear (outsideOf reach ps k) lo hi) i → keep ≡ keptCells kind ps k
-      unfolding keptCells
-      filled reach r domain keep i long end same =
-          sym (take-length keep) ∙ ap (λ (n : ℕ). take n keep) (long ∙ sym end) ∙ same ∙ ap (each (cellClear (outsideOf reach ps k) lo hi)) end
-          ∙ each-same (cellClear (outsideOf reach ps k) lo hi) clear cells (λ i. rw (r, first, last))
-          ∙ sym (each-same (cellKept kind ps k) clear cells (kept-clear (rw (first, last) at domain)))
-
--- ---- of a ramp that may be sampled, and a stop of it
-pub checked-kept : (ramp : Ramp) (was : Held) (k : ℕ) → heldCheck ramp was ≡ checked.Fine → k < length (ramp .positions) → (i : ℕ) → i < cells
-    → getD (keptCells (ramp .kind) (ramp .positions) k) i false ≡ cellClear (outsideOf (reachOf (ramp .kind)) (ramp .positions) k) (minOf ramp) (maxOf ramp) i
-checked-kept ramp was k fine there i l = kept-is (ramp .kind) (ramp .positions) k there (checked-domain ramp (length (was .rows)) (length (was .counts)) (length (was .marks)) fine) i l
+-- ---- of a ramp that may be sampled
+pub checked-kept : (ramp : Ramp) (was : Held) (s : Stretch) → heldCheck ramp was ≡ checked.Fine → (i : ℕ) → i < cells
+    → getD (keptCells (minOf ramp) (maxOf ramp) s) i false ≡ cellClear (outsideOf s) (minOf ramp) (maxOf ramp) i
+checked-kept ramp was s fine i l = kept-is (minOf ramp) (maxOf ramp) s (checked-domain ramp (length (was .rows)) (length (was .counts)) (length (was .marks)) fine) i l

@@ -1,5 +1,5 @@
--- What each test of a point and of a cell against the stretch tells. Assumes nothing.
-use mathlib.Core.Path.{_≡_, refl}
+-- The ends of a stretch, test by test, and what each test of a point and of a cell against the stretch tells. Assumes nothing.
+use mathlib.Core.Path.{_≡_, refl, sym, _∙_}
 use mathlib.Core.Bool.{Bool, true, false}
 use mathlib.Core.List.{List}
 use Prim.Native.Nat.{ℕ, zero, suc, _+_, _-_, _≤_, _<_}
@@ -7,46 +7,63 @@ use native.Mathlib.Numerals.{sub-one}
 use native.Mathlib.Omega.{arith}
 use borrow.Author.Tests.{lt-ltb, le-ltb, le-leb, lt-leb}
 use lib.ListN.{length}
-use lib.Ieee.{Float, le, lt}
+use lib.Ieee.{Float, nan, inf, le, lt}
 use Rattle.stops.specs.Stops.{posAt}
+use Rattle.stops.proofs.Reading.{past-end}
 use Rattle.sampling.specs.Constants.{depth}
 use Rattle.sampling.specs.Midpoints.{midOf}
-use Rattle.reach.specs.Stretch.{beforeOf, afterOf, outsideOf, midsOutside, clearOf}
+use Rattle.reach.specs.Stretch.{leftEnd, ownEnd, rightEnd, colourStretch, stretchBetween, beforeOf, afterOf, outsideOf, midsOutside, clearOf}
+use Rattle.reach.specs.declared.stretch.Stretch.{Stretch}
 
-module _ (reach : ℕ) (ps : List Float) (k : ℕ) (t : Float) where
-  pub no-left : k < reach → false ≡ beforeOf reach ps k t
-  unfolding beforeOf
+-- ---- the ends of the stretch of stop k
+module _ (ps : List Float) (k : ℕ) where
+  pub not-last : k + 1 < length ps → inf false ≡ ownEnd ps k
+  unfolding ownEnd
+  not-last h = simp (lt-ltb (k + 1) (length ps) h)
+
+  pub is-last : length ps ≤ k + 1 → posAt ps k ≡ ownEnd ps k
+  unfolding ownEnd
+  is-last h = simp (le-ltb (k + 1) (length ps) h)
+
+  pub no-stop : length ps ≤ k → nan ≡ ownEnd ps k
+  no-stop h = past-end ps k h ∙ is-last (omega arith)
+
+module _ (reach : ℕ) (ps : List Float) (k : ℕ) where
+  pub no-left : k < reach → nan ≡ leftEnd reach ps k
+  unfolding leftEnd
   no-left h = simp (lt-leb reach k h)
 
-  module _ (far : reach ≤ k) where
-    pub past-left : le t (posAt ps (k - reach)) ≡ false → false ≡ beforeOf reach ps k t
-    unfolding beforeOf
-    past-left h = simp (le-leb reach k far, h)
+  pub some-left : reach ≤ k → posAt ps (k - reach) ≡ leftEnd reach ps k
+  unfolding leftEnd
+  some-left h = simp (le-leb reach k h)
 
-    module _ (left : le t (posAt ps (k - reach)) ≡ true) where
-      pub left-inner : k + 1 < length ps → true ≡ beforeOf reach ps k t
-      unfolding beforeOf
-      left-inner h = simp (le-leb reach k far, left, lt-ltb (k + 1) (length ps) h)
+  pub no-right : length ps ≤ k + reach → nan ≡ rightEnd reach ps k
+  no-right h = past-end ps (k + reach) h
 
-      pub left-last : length ps ≤ k + 1 → lt t (posAt ps k) ≡ beforeOf reach ps k t
-      unfolding beforeOf
-      left-last h = simp (le-leb reach k far, left, le-ltb (k + 1) (length ps) h)
+  pub by-ends : {l o h : Float} → l ≡ leftEnd reach ps k → o ≡ ownEnd ps k → h ≡ rightEnd reach ps k → record { low = l; below = o; high = h } ≡ colourStretch reach ps k
+  unfolding colourStretch
+  by-ends p q r = rw (p, q, r)
 
-  pub right-inner : reach < length ps - k → lt (posAt ps (k + reach)) t ≡ afterOf reach ps k t
-  unfolding afterOf
-  right-inner h = simp (lt-ltb (k + reach) (length ps) (omega arith))
+pub by-stops : (ps : List Float) (i j : ℕ) {l h : Float} → l ≡ posAt ps i → h ≡ posAt ps j → record { low = l; below = inf false; high = h } ≡ stretchBetween ps i j
+unfolding stretchBetween
+by-stops ps i j p r = rw (p, r)
 
-  pub no-right : k < length ps → length ps - k ≤ reach → false ≡ afterOf reach ps k t
-  unfolding afterOf
-  no-right l h = simp (le-ltb (k + reach) (length ps) (omega arith))
+module _ (s : Stretch) (t : Float) where
+  pub not-low : le t (s .low) ≡ false → false ≡ beforeOf s t
+  unfolding beforeOf
+  not-low h = rw h
 
-  pub outside-before : beforeOf reach ps k t ≡ true → true ≡ outsideOf reach ps k t
+  pub is-low : le t (s .low) ≡ true → lt t (s .below) ≡ beforeOf s t
+  unfolding beforeOf
+  is-low h = rw h
+
+  pub outside-before : beforeOf s t ≡ true → true ≡ outsideOf s t
   unfolding outsideOf
-  outside-before h = simp h
+  outside-before h = rw h
 
-  pub outside-after : beforeOf reach ps k t ≡ false → afterOf reach ps k t ≡ outsideOf reach ps k t
+  pub outside-after : beforeOf s t ≡ false → afterOf s t ≡ outsideOf s t
   unfolding outsideOf
-  outside-after h = simp h
+  outside-after h = rw h
 
 module _ (out : Float → Bool) (t0 t1 : Float) where
   -- ---- the midpoints

@@ -2,19 +2,17 @@
 -- the midpoint of two points on a side is on that side. Asked of the ends is only that they are below 2 ^ 127 in size. Assumes nothing.
 use mathlib.Core.Path.{_≡_, sym, subst}
 use mathlib.Core.Bool.{Bool, true, false, _&&_, _||_}
-use mathlib.Core.List.{List}
-use Prim.Native.Nat.{ℕ, zero, suc, _+_, _-_}
-use lib.Dec.{T, leb, ltb}
-use lib.ListN.{length}
+use Prim.Native.Nat.{ℕ, zero, suc}
+use lib.Dec.{T}
 use lib.Ieee.{Float, lt, le}
 use lib.Ieee.Fits.{and-l, and-r, and-i}
 use lib.Ieee.Bits.{is-true}
 use Rattle.float.specs.Number.{Within}
 use Rattle.float.proofs.Midpoint.{mid-le, mid-lt, lt-mid, mid-within}
-use Rattle.stops.specs.Stops.{posAt}
 use Rattle.sampling.specs.Constants.{depth}
 use Rattle.sampling.specs.Midpoints.{midOf}
 use Rattle.reach.specs.Stretch.{beforeOf, afterOf, outsideOf, midsOutside, clearOf}
+use Rattle.reach.specs.declared.stretch.Stretch.{Stretch}
 
 -- a rule that holds of a midpoint where it holds of both ends
 abbrev pub Side : (Float → Bool) → Type 0
@@ -47,41 +45,29 @@ or-r : (a b : Bool) → T b → T (a || b)
 or-r true b t = tt
 or-r false b t = t
 
-module _ (reach : ℕ) (ps : List Float) (k : ℕ) where
-  below-last : (b : Bool) (p : Float) → Side (λ t. b || lt t p)
-  unfolding midOf
-  below-last true p x y wx wy h j = tt
-  below-last false p x y wx wy h j = mid-lt x y wx wy p h j
-
-  before-side : Side (beforeOf reach ps k)
+module _ (s : Stretch) where
+  before-side : Side (beforeOf s)
   unfolding beforeOf midOf
   before-side x y wx wy h j =
-      let a = leb reach k in
-      let p = posAt ps (k - reach) in
-      let b = ltb (k + 1) (length ps) in
-      let q = posAt ps k in
-      let m = midOf x y in
-      and-i (a && le m p) (b || lt m q)
-      (and-i a (le m p) (and-l a (le x p) (and-l (a && le x p) (b || lt x q) h))
-      (mid-le x y wx wy p (and-r a (le x p) (and-l (a && le x p) (b || lt x q) h)) (and-r a (le y p) (and-l (a && le y p) (b || lt y q) j))))
-      (below-last b q x y wx wy (and-r (a && le x p) (b || lt x q) h) (and-r (a && le y p) (b || lt y q) j))
+      let p = s .low in
+      let q = s .below in
+      and-i (le (midOf x y) p) (lt (midOf x y) q)
+      (mid-le x y wx wy p (and-l (le x p) (lt x q) h) (and-l (le y p) (lt y q) j))
+      (mid-lt x y wx wy q (and-r (le x p) (lt x q) h) (and-r (le y p) (lt y q) j))
 
-  after-side : Side (afterOf reach ps k)
+  after-side : Side (afterOf s)
   unfolding afterOf midOf
-  after-side x y wx wy h j =
-      let b = ltb (k + reach) (length ps) in
-      let p = posAt ps (k + reach) in
-      and-i b (lt p (midOf x y)) (and-l b (lt p x) h) (lt-mid x y wx wy p (and-r b (lt p x) h) (and-r b (lt p y) j))
+  after-side x y wx wy h j = lt-mid x y wx wy (s .high) h j
 
   module _ (t0 t1 : Float) (w0 : Within t0) (w1 : Within t1) where
-    pub before-clear : beforeOf reach ps k t0 ≡ true → beforeOf reach ps k t1 ≡ true → clearOf (outsideOf reach ps k) t0 t1 ≡ true
+    pub before-clear : beforeOf s t0 ≡ true → beforeOf s t1 ≡ true → clearOf (outsideOf s) t0 t1 ≡ true
     unfolding outsideOf
     before-clear h j =
-        side-clear (beforeOf reach ps k) (outsideOf reach ps k) before-side (λ t s. or-l (beforeOf reach ps k t) (afterOf reach ps k t) s) t0 t1 w0 w1
+        side-clear (beforeOf s) (outsideOf s) before-side (λ t b. or-l (beforeOf s t) (afterOf s t) b) t0 t1 w0 w1
         (subst T (sym h) tt) (subst T (sym j) tt)
 
-    pub after-clear : afterOf reach ps k t0 ≡ true → afterOf reach ps k t1 ≡ true → clearOf (outsideOf reach ps k) t0 t1 ≡ true
+    pub after-clear : afterOf s t0 ≡ true → afterOf s t1 ≡ true → clearOf (outsideOf s) t0 t1 ≡ true
     unfolding outsideOf
     after-clear h j =
-        side-clear (afterOf reach ps k) (outsideOf reach ps k) after-side (λ t s. or-r (beforeOf reach ps k t) (afterOf reach ps k t) s) t0 t1 w0 w1
+        side-clear (afterOf s) (outsideOf s) after-side (λ t a. or-r (beforeOf s t) (afterOf s t) a) t0 t1 w0 w1
         (subst T (sym h) tt) (subst T (sym j) tt)

@@ -1,17 +1,34 @@
--- The stretch of an edit of stop k: which points are outside it, and which cells are clear of it.
-use mathlib.Core.Bool.{Bool, true, _&&_, _||_}
+-- The stretch of an edit: which points are outside it, and which cells are clear of it. One rule for every edit.
+use mathlib.Core.Bool.{Bool, true, false, cond, _&&_, _||_}
 use mathlib.Core.List.{List}
 use Prim.Native.Nat.{ℕ, zero, suc, _+_, _-_}
 use lib.Dec.{leb, ltb}
 use lib.ListN.{length}
-use lib.Ieee.{Float, lt, le}
+use lib.Ieee.{Float, nan, inf, lt, le}
 use Rattle.stops.specs.Stops.{posAt}
 use Rattle.stops.specs.declared.Kind.{Kind}
 use Rattle.stops.specs.declared.Kind.the-variants.{Linear, Smoothstep, Sharp, Basis, CatmullRom, Gimp}
 use Rattle.sampling.specs.Constants.{depth}
 use Rattle.sampling.specs.Midpoints.{midOf}
 use Rattle.sampling.specs.Cells.{edgeOf}
+use Rattle.reach.specs.declared.stretch.Stretch.{Stretch}
 
+-- ---- which points are outside. What is compared with not-a-number is neither at most nor above
+module _ (s : Stretch) (t : Float) where
+  unfoldable pub beforeOf : Bool
+  beforeOf = le t (s .low) && lt t (s .below)
+
+  unfoldable pub afterOf : Bool
+  afterOf = lt (s .high) t
+
+  unfoldable pub outsideOf : Bool
+  outsideOf = beforeOf || afterOf
+
+-- ---- of a stop moved, added or removed: from the neighbour before to the neighbour after, and t = the one after is inside
+unfoldable pub stretchBetween : List Float → ℕ → ℕ → Stretch
+stretchBetween ps i j = record { low = posAt ps i; below = inf false; high = posAt ps j }
+
+-- ---- of a change of the colour of stop k
 -- how many pairs a stop's colour reaches on each side: one, and two where a pair reads the stops beside it as well. GIMP segments have no stops
 abbrev pub reachOf : Kind → ℕ
 reachOf Linear = 1
@@ -21,17 +38,21 @@ reachOf Basis = 2
 reachOf CatmullRom = 2
 reachOf Gimp = 1
 
-module _ (reach : ℕ) (ps : List Float) (k : ℕ) (t : Float) where
-  -- t is at most the position `reach` places to the left, and nowhere where no stop stands there; for the last stop it must also lie below its position
-  unfoldable pub beforeOf : Bool
-  beforeOf = leb reach k && le t (posAt ps (k - reach)) && (ltb (k + 1) (length ps) || lt t (posAt ps k))
+-- for the last stop an outside point must also lie below its position; ∞ says nothing
+unfoldable pub ownEnd : List Float → ℕ → Float
+ownEnd ps k = cond (ltb (k + 1) (length ps)) (inf false) (posAt ps k)
 
-  -- t is above the position `reach` places to the right, and nowhere where no stop stands there
-  unfoldable pub afterOf : Bool
-  afterOf = ltb (k + reach) (length ps) && lt (posAt ps (k + reach)) t
+module _ (reach : ℕ) (ps : List Float) (k : ℕ) where
+  -- the position `reach` places to the left, and none where no stop stands there
+  unfoldable pub leftEnd : Float
+  leftEnd = cond (leb reach k) (posAt ps (k - reach)) nan
 
-  unfoldable pub outsideOf : Bool
-  outsideOf = beforeOf || afterOf
+  -- the position `reach` places to the right, and none where no stop stands there
+  abbrev pub rightEnd : Float
+  rightEnd = posAt ps (k + reach)
+
+  unfoldable pub colourStretch : Stretch
+  colourStretch = record { low = leftEnd; below = ownEnd ps k; high = rightEnd }
 
 -- ---- of any rule that says which points are outside
 module _ (out : Float → Bool) where

@@ -31,13 +31,16 @@ use Rattle.sampling.proofs.Checks.{ramp-fine, record-lengths}
 use Rattle.sampling.proofs.Words.{same-threshold}
 use Rattle.records.proofs.Marking.{marks-pass, marks-either, marks-equal}
 use Rattle.reach.specs.Stretch.{cellClear}
-use Rattle.refresh.specs.Edit.{edited}
-use Rattle.refresh.specs.RefreshDesk.{numberOfRefreshed, editCheck, refreshCheck, away, clearCell, renewed, refreshAnswer, refreshHeld, refreshOutput, Refreshes, RefreshLists}
+use Rattle.editing.specs.Edited.{edited}
+use Rattle.editing.specs.Rules.{editCheck}
+use Rattle.editing.specs.Reached.{away, clearCell}
+use Rattle.editing.proofs.EditSound.{Sound, edit-sound}
+use Rattle.refresh.specs.RefreshDesk.{numberOfRefreshed, refreshCheck, renewed, refreshAnswer, refreshHeld, refreshOutput, Refreshes, RefreshLists}
 use Rattle.refresh.specs.AfterEdit.{Shaped, OneList, ByThreshold, Fresh, RefreshedThenThinned, FreshList, SameCell}
-use Rattle.refresh.specs.declared.edit.Edit.{Edit}
+use Rattle.editing.specs.declared.Edit.{Edit}
 use Rattle.refresh.specs.declared.Refreshed.{Refreshed}
 use Rattle.refresh.specs.declared.Refreshed.the-variants as refreshed
-use Rattle.refresh.proofs.EditChecks.{Allowed, edit-allowed, thin-fine, edited-sampling}
+use Rattle.refresh.proofs.EditChecks.{thin-fine, edited-sampling, same-marks}
 use Rattle.refresh.proofs.Agree.{row-at, count-at}
 use Rattle.refresh.proofs.Keeping.{kept-row, kept-count}
 use Rattle.refresh.proofs.ThenThinned.{by-check}
@@ -60,8 +63,8 @@ module _ (ramp : Ramp) (e : Edit) (edit : editCheck ramp e ≡ checked.Fine) whe
     taken : Sampling.Fresh ramp asked held n
     taken = Sampling.fresh-is ramp asked held n s done sampling
 
-    allowed : Allowed ramp e
-    allowed = edit-allowed ramp e (ramp-fine ramp _ _ _ (taken .fine)) edit
+    allowed : Sound ramp e
+    allowed = edit-sound ramp e (ramp-fine ramp _ _ _ (taken .fine)) edit
 
     by-words : refreshCheck ramp e mine (held .exit) ≡ marksCheck (marksOf ramp mine) (marksOf ramp asked)
     by-words = rw (taken .left) (theorem.words-decide ramp e asked mine (held .entry) (taken .fine) edit)
@@ -162,7 +165,7 @@ module _ (ramp : Ramp) (e : Edit) (asked : Float) (i : ℕ) (clear : cellClear (
     pub clear-cells-agree : (cellRow (colourOf ramp) (farOf asked) (minOf ramp) (maxOf ramp) i ≡ cellRow (colourOf (edited ramp e)) (farOf asked) (minOf ramp) (maxOf ramp) i)
         × (cellCount (colourOf ramp) (farOf asked) (minOf ramp) (maxOf ramp) i ≡ cellCount (colourOf (edited ramp e)) (farOf asked) (minOf ramp) (maxOf ramp) i)
     clear-cells-agree =
-        let ok = edit-allowed ramp e ramp-passes edit in
+        let ok = edit-sound ramp e ramp-passes edit in
         (theorem.clear-row ramp e ok asked i clear, theorem.clear-count ramp e ok asked i clear)
 
     fresh-cells : i < cells → SameCell i (fresh ramp asked) (fresh (edited ramp e) asked)
@@ -172,7 +175,8 @@ module _ (ramp : Ramp) (e : Edit) (asked : Float) (i : ℕ) (clear : cellClear (
         let new = row-at (colourOf (edited ramp e)) (farOf asked) (minOf ramp) (maxOf ramp) i cell in
         let count = count-at (colourOf ramp) (farOf asked) (minOf ramp) (maxOf ramp) i cell in
         let anew = count-at (colourOf (edited ramp e)) (farOf asked) (minOf ramp) (maxOf ramp) i cell in
-        record { same-row = at ∙ clear-cells-agree .0 ∙ sym new; same-count = count ∙ clear-cells-agree .1 ∙ sym anew }
+        let ok = edit-sound ramp e ramp-passes edit in
+        rw (ok .same-min, ok .same-max) (record { same-row = at ∙ clear-cells-agree .0 ∙ sym new; same-count = count ∙ clear-cells-agree .1 ∙ sym anew })
 
     -- so any two samplings, of the one and of the other, that leave the same words leave them alike
     pub clear-cells-same : i < cells → (mine : Float) → T (fits binary32 asked) → T (fits binary32 mine) → (held other : Change Held) (n m : ℕ) (s q : Sampled) → s ≡ sampled.Done n → q ≡ sampled.Done m

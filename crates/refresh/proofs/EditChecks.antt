@@ -1,129 +1,109 @@
--- Laws of refusal 6, and what a refresh that passes its check may lean on. Assumes nothing.
+-- The check of a refresh, and what a refresh that passes it may lean on. Assumes nothing.
 use mathlib.Core.Path.{_≡_, refl, sym, ap, _∙_}
-use mathlib.Core.Bool.{Bool, true, false, cond, _&&_}
+use mathlib.Core.List.{List}
 use Prim.Native.Nat.{ℕ, _+_, _*_, _≤_, _<_}
 use native.Mathlib.Omega.{arith}
-use borrow.Author.Tests.{lt-ltb, le-ltb, ltb-true}
-use lib.Dec.{ltb}
-use lib.ListN.{length}
-use Rattle.refusals.specs.Refusals.{badEdit}
+use lib.ListN.{length, take}
+use lib.Ieee.{Float}
 use Rattle.refusals.specs.Limits.{mostStops}
-use Rattle.float.proofs.Flags.{both-l, both-r}
-use Rattle.stops.specs.Lent.{Ramp}
-use Rattle.stops.specs.Stops.{finiteRgba}
-use Rattle.stops.specs.declared.Kind.{Kind}
-use Rattle.stops.specs.declared.Kind.the-variants.{Linear, Smoothstep, Sharp, Basis, CatmullRom, Gimp}
+use Rattle.stops.specs.Lent.{Ramp, rampOf}
+use Rattle.stops.specs.Answers.{onFine}
 use Rattle.stops.specs.declared.Checked.{Checked}
 use Rattle.stops.specs.declared.Checked.the-variants as checked
-use Rattle.stops.proofs.Valid.{Valid}
-use Rattle.gradient.specs.Ramp.{isGimp, checkOf}
+use Rattle.gradient.specs.Ramp.{checkOf}
 use Rattle.gradient.proofs.Valid.{valid}
 use Rattle.sampling.specs.Lent.{Held}
 use Rattle.sampling.specs.Constants.{cells}
 use Rattle.sampling.specs.Sampling.{andThen, marksOf, sampleCheck, heldCheck}
-use lib.Ieee.{Float}
 use Rattle.records.specs.Fitness.{thinCheck}
 use Rattle.sampling.specs.Anew.{keptBy}
-use Rattle.refresh.specs.RefreshDesk.{refreshable, editAllowed, editCheck, refreshCheck, clearCell}
-use Rattle.refresh.specs.Edit.{edited}
-use Rattle.refresh.specs.declared.edit.Edit.{Edit}
-use Rattle.reach.specs.KeptCells.{keptCells}
-use Rattle.reach.proofs.Kept.{checked-kept}
 use Rattle.sampling.proofs.Checks.{passes-both, ramp-fine}
 use Rattle.records.proofs.Passing.{sample-fine, marks-own}
-use Rattle.refresh.proofs.Edits.{edited-fine}
-
-refused : {n : ℕ} → checked.Refused n ≡ checked.Fine → ⊥
-refused h = let z : _≡_ {A = ℕ} 0 1 = cc in omega arith
-
--- ---- refusal 6
-abbrev sixth : Bool → Checked
-sixth b = cond b checked.Fine (checked.Refused badEdit)
-
-module _ (kind : Kind) (n : ℕ) (e : Edit) where
-  pub other-kind : refreshable kind ≡ false → checked.Refused badEdit ≡ editAllowed kind n e
-  unfolding editAllowed
-  other-kind h = ap (λ (b : Bool). sixth (b && (ltb (e .stop) n && finiteRgba (e .colour)))) (sym h)
-
-  module _ (ok : refreshable kind ≡ true) where
-    by-kind : sixth (ltb (e .stop) n && finiteRgba (e .colour)) ≡ editAllowed kind n e
-    unfolding editAllowed
-    by-kind = ap (λ (b : Bool). sixth (b && (ltb (e .stop) n && finiteRgba (e .colour)))) (sym ok)
-
-    pub no-stop : n ≤ e .stop → checked.Refused badEdit ≡ editAllowed kind n e
-    no-stop h = ap (λ (b : Bool). sixth (b && finiteRgba (e .colour))) (sym (le-ltb (e .stop) n h)) ∙ by-kind
-
-    module _ (l : e .stop < n) where
-      by-stop : sixth (finiteRgba (e .colour)) ≡ editAllowed kind n e
-      by-stop = ap (λ (b : Bool). sixth (b && finiteRgba (e .colour))) (sym (lt-ltb (e .stop) n l)) ∙ by-kind
-
-      pub no-colour : finiteRgba (e .colour) ≡ false → checked.Refused badEdit ≡ editAllowed kind n e
-      no-colour h = ap sixth (sym h) ∙ by-stop
-
-      pub edit-fine : finiteRgba (e .colour) ≡ true → checked.Fine ≡ editAllowed kind n e
-      edit-fine h = ap sixth (sym h) ∙ by-stop
+use Rattle.reach.proofs.Kept.{checked-kept}
+use Rattle.editing.specs.Edited.{stopsAfter, edited}
+use Rattle.editing.specs.Rules.{editCheck}
+use Rattle.editing.specs.Reached.{stretchOf, cellsKept, clearCell}
+use Rattle.editing.specs.Copied.{copyCheck, Copies}
+use Rattle.editing.specs.declared.Edit.{Edit}
+use Rattle.editing.specs.declared.copy.Copied.{Copied}
+use Rattle.editing.specs.declared.copy.Copied.the-variants as copied
+use Rattle.editing.proofs.Splices.{written-is}
+use Rattle.editing.proofs.Copying.{Room, copy-check, fits-are}
+use Rattle.editing.proofs.EditSound.{Sound, edit-sound}
+use Rattle.refresh.specs.RefreshDesk.{refreshCheck}
 
 -- ---- the check of a refresh
 module _ (ramp : Ramp) (e : Edit) (asked : Float) (was : Held) where
-  pub thin-refuses : (m : ℕ) → thinCheck ramp asked was ≡ checked.Refused m → checked.Refused m ≡ refreshCheck ramp e asked was
+  pub thin-refuses : (m : ℕ) → thinCheck ramp asked was ≡ checked.Refused m → refreshCheck ramp e asked was ≡ checked.Refused m
   unfolding refreshCheck
-  thin-refuses m h = ap (λ (x : Checked). andThen x (editCheck ramp e)) (sym h)
+  thin-refuses m h = ap (λ (x : Checked). andThen x (editCheck ramp e)) h
 
-  pub thin-passes : (r : Checked) → thinCheck ramp asked was ≡ checked.Fine → r ≡ editCheck ramp e → r ≡ refreshCheck ramp e asked was
+  pub by-edit : thinCheck ramp asked was ≡ checked.Fine → {r : Checked} → editCheck ramp e ≡ r → refreshCheck ramp e asked was ≡ r
   unfolding refreshCheck
-  thin-passes r h k = k ∙ ap (λ (x : Checked). andThen x (editCheck ramp e)) (sym h)
+  by-edit h k = ap (λ (x : Checked). andThen x (editCheck ramp e)) h ∙ k
 
--- ---- what a check that is passed tells
-sixth-true : (b : Bool) → sixth b ≡ checked.Fine → b ≡ true
-sixth-true true h = refl
-sixth-true false h = absurd (refused h)
+  pub thinned-fine : thinCheck ramp asked was ≡ checked.Fine → checkOf ramp ≡ checked.Fine
+  thinned-fine h = ramp-fine ramp (length (was .rows)) (length (was .counts)) (length (was .marks)) (sample-fine ramp asked was h)
 
-no-gimp : (kind : Kind) → refreshable kind ≡ true → isGimp kind ≡ false
-no-gimp Linear h = refl
-no-gimp Smoothstep h = refl
-no-gimp Sharp h = refl
-no-gimp Basis h = refl
-no-gimp CatmullRom h = refl
-no-gimp Gimp h = sym h
-
--- an edit whose ramp and colour are fine
-pub record Allowed (ramp : Ramp) (e : Edit) : Type 0 where
-  pub ramp-passes : checkOf ramp ≡ checked.Fine
-  pub stops : isGimp (ramp .kind) ≡ false
-  pub there : e .stop < length (ramp .positions)
-  pub colour-fine : finiteRgba (e .colour) ≡ true
-
-module _ (ramp : Ramp) (e : Edit) (ok : Allowed ramp e) where
-  pub allowed-valid : Valid ramp
-  allowed-valid = valid ramp (ok .stops) (ok .ramp-passes)
-
-  -- the channels of the stop are there, and all channels fit the copy
-  pub channels-there : (4 * e .stop + 4 ≤ length (ramp .channels)) × (length (ramp .channels) ≤ 8192)
-  unfolding mostStops
-  channels-there = let s = allowed-valid .sized in let l = ok .there in (omega (arith, s .four, l), omega (arith, s .four, s .most))
-
-  -- the changed ramp is fine, and may be sampled where the ramp may be
-  pub edited-passes : checkOf (edited ramp e) ≡ checked.Fine
-  edited-passes = edited-fine ramp e (channels-there .0) (ok .colour-fine) (ok .stops) (ok .ramp-passes)
-
+-- ---- the changed ramp
+module _ (ramp : Ramp) (e : Edit) (ok : Sound ramp e) where
+  -- it may be sampled where the ramp may be
   pub edited-sampling : (was : Held) → heldCheck ramp was ≡ checked.Fine → heldCheck (edited ramp e) was ≡ checked.Fine
   unfolding sampleCheck
-  edited-sampling was h = rw edited-passes (rw (ok .ramp-passes) at h)
+  edited-sampling was h = rw (ok .still-fine, ok .same-min, ok .same-max) (rw (ramp-fine ramp (length (was .rows)) (length (was .counts)) (length (was .marks)) h) at h)
 
--- a ramp that passes its check, and an edit that passes 6
-pub edit-allowed : (ramp : Ramp) (e : Edit) → checkOf ramp ≡ checked.Fine → editCheck ramp e ≡ checked.Fine → Allowed ramp e
-unfolding editAllowed
-edit-allowed ramp e passes edit =
-    let n = length (ramp .positions) in
-    let t = sixth-true (refreshable (ramp .kind) && (ltb (e .stop) n && finiteRgba (e .colour))) edit in
-    let u = both-r (refreshable (ramp .kind)) (ltb (e .stop) n && finiteRgba (e .colour)) t in
-    record {
-      ramp-passes = passes;
-      stops = no-gimp (ramp .kind) (both-l (refreshable (ramp .kind)) (ltb (e .stop) n && finiteRgba (e .colour)) t);
-      there = ltb-true (e .stop) n (both-l (ltb (e .stop) n) (finiteRgba (e .colour)) u);
-      colour-fine = both-r (ltb (e .stop) n) (finiteRgba (e .colour)) u;
-    }
+  -- and has the same words
+  pub same-marks : (asked : Float) → marksOf (edited ramp e) asked ≡ marksOf ramp asked
+  same-marks asked = rw (ok .same-min, ok .same-max)
 
+-- ---- the copy of the changed ramp, in arrays with room for one stop more
+module _ (ramp : Ramp) (e : Edit) (fine : checkOf ramp ≡ checked.Fine) (places colours places′ colours′ : List Float) (long : length places ≡ 2049) (wide : length colours ≡ 8196) (r : Copied)
+    (w : Copies (ramp .kind) (ramp .positions) (ramp .channels) e places colours places′ colours′ r) where
+  checked-by : copyCheck (ramp .kind) (ramp .positions) (ramp .channels) e places colours ≡ editCheck ramp e
+  unfolding mostStops
+  checked-by =
+      copy-check (ramp .kind) (ramp .positions) (ramp .channels) e places colours
+      (λ h.
+      let s = valid ramp (edit-sound ramp e fine h .stops) fine .sized in
+      fits-are _ _ _ _ (record { most = s .most; four = s .four; some = omega (arith, s .most); wide = omega (arith, s .most, s .four) }))
+
+  copied-refused : (c : Checked) (k n : ℕ) → copied.Refused n ≡ onFine c (copied.Stops k) copied.Refused → c ≡ checked.Refused n
+  copied-refused checked.Fine k n h = let z : _≡_ {A = ℕ} 0 1 = cc in absurd (omega arith)
+  copied-refused (checked.Refused m) k n h = let z : n ≡ m = cc in ap checked.Refused (sym z)
+
+  copied-done : (c : Checked) (k n : ℕ) → copied.Stops n ≡ onFine c (copied.Stops k) copied.Refused → (c ≡ checked.Fine) × (n ≡ k)
+  copied-done checked.Fine k n h = let z : n ≡ k = cc in (refl, z)
+  copied-done (checked.Refused m) k n h = let z : _≡_ {A = ℕ} 0 1 = cc in absurd (omega arith)
+
+  pub edit-refused : (n : ℕ) → r ≡ copied.Refused n → editCheck ramp e ≡ checked.Refused n
+  edit-refused n is = copied-refused (editCheck ramp e) (stopsAfter (length (ramp .positions)) e) n (sym is ∙ w .answer ∙ rw checked-by)
+
+  -- what a copy that was made holds
+  pub record Holds (n : ℕ) : Type 0 where
+    pub edit-fine : editCheck ramp e ≡ checked.Fine
+    pub few : n ≤ 2048
+    pub positions-are : take n places′ ≡ edited ramp e .positions
+    pub channels-are : take (4 * n) colours′ ≡ edited ramp e .channels
+
+  pub copy-holds : (n : ℕ) → r ≡ copied.Stops n → Holds n
+  unfolding mostStops
+  copy-holds n is =
+      let d = copied-done (editCheck ramp e) (stopsAfter (length (ramp .positions)) e) n (sym is ∙ w .answer ∙ rw checked-by) in
+      let ok = edit-sound ramp e fine (d .0) in
+      let most = valid (edited ramp e) (ok .stops) (ok .still-fine) .sized .most in
+      let many : length (edited ramp e .positions) ≡ n = ok .as-many ∙ sym (d .1) in
+      let four : length (edited ramp e .channels) ≡ 4 * n = ok .four ∙ ap (λ (m : ℕ). 4 * m) (sym (d .1)) in
+      record {
+        edit-fine = d .0;
+        few = omega (arith, most, many);
+        positions-are = ap (take n) (w .written ∙ rw (checked-by, d .0)) ∙ written-is places (edited ramp e .positions) n many (omega (arith, most, many, long));
+        channels-are = ap (take (4 * n)) (w .coloured ∙ rw (checked-by, d .0)) ∙ written-is colours (edited ramp e .channels) (4 * n) four (omega (arith, most, many, wide));
+      }
+
+  pub copy-is : (n : ℕ) → Holds n → rampOf (ramp .kind) (take n places′) (take (4 * n) colours′) (ramp .codes) ≡ edited ramp e
+  copy-is n h = rw (h .positions-are, h .channels-are)
+
+-- ---- what a check that is passed tells
 module _ (ramp : Ramp) (e : Edit) (asked : Float) (was : Held) (h : refreshCheck ramp e asked was ≡ checked.Fine) where
   both : (thinCheck ramp asked was ≡ checked.Fine) × (editCheck ramp e ≡ checked.Fine)
   unfolding refreshCheck
@@ -139,9 +119,10 @@ module _ (ramp : Ramp) (e : Edit) (asked : Float) (was : Held) (h : refreshCheck
   pub own-words : was .marks ≡ marksOf ramp asked
   own-words = marks-own ramp asked was thin-fine
 
-  pub allowed : Allowed ramp e
-  allowed = edit-allowed ramp e (ramp-fine ramp (length (was .rows)) (length (was .counts)) (length (was .marks)) sampled) (both .1)
+  pub allowed : Sound ramp e
+  allowed = edit-sound ramp e (thinned-fine ramp e asked was thin-fine) (both .1)
 
   -- the cells that the code keeps are those that are clear
-  pub kept : (i : ℕ) → i < cells → keptBy (keptCells (ramp .kind) (ramp .positions) (e .stop)) i ≡ clearCell ramp e i
-  kept i l = checked-kept ramp was (e .stop) sampled (allowed .there) i l
+  pub kept : (i : ℕ) → i < cells → keptBy (cellsKept (ramp .kind) (ramp .positions) e) i ≡ clearCell ramp e i
+  unfolding cellsKept
+  kept i l = checked-kept ramp was (stretchOf (ramp .kind) (ramp .positions) e) sampled i l

@@ -1,10 +1,7 @@
 pub mod Agree
 pub mod Keeping
-pub mod Edits
-pub mod Outside
 pub mod EditChecks
 pub mod Theorem
-pub mod Changes
 pub mod RefreshAnswers
 pub mod ThenThinned
 pub mod Calls

@@ -28,17 +28,17 @@ use Rattle.linearize.proofs.Checks.{ready}
 use Rattle.linearize.proofs.Answers.{tells}
 use Rattle.linearize.proofs.Bounds.{list-bound}
 use Rattle.places.proofs.Following.{list-some, list-most}
-use Rattle.reach.specs.KeptCells.{keptCells}
-use Rattle.refresh.specs.Edit.{edited}
+use Rattle.editing.specs.Edited.{edited}
+use Rattle.editing.specs.Reached.{cellsKept, clearCell}
 use Rattle.linearize.specs.Relist.{countFits, countsFit, relistCheck, relistHeld, relistOutput, Relists}
 use Rattle.sampling.specs.Anew.{keptBy, anewTries, anewEvaluations, resampled, resampledEvaluations, resampleAnswer, resampleHeld}
 use Rattle.sampling.specs.Promises.{Resamples}
 use Rattle.refresh.specs.Within.{refreshedBy}
-use Rattle.refresh.specs.RefreshDesk.{evaluationsOfRefreshed, clearCell, renewed, newEvaluations, refreshCheck, refreshAnswer, refreshEvaluations, refreshHeld, refreshOutput, Refreshes, RefreshLists}
-use Rattle.refresh.specs.declared.edit.Edit.{Edit}
+use Rattle.refresh.specs.RefreshDesk.{evaluationsOfRefreshed, renewed, newEvaluations, refreshCheck, refreshAnswer, refreshEvaluations, refreshHeld, refreshOutput, Refreshes, RefreshLists}
+use Rattle.editing.specs.declared.Edit.{Edit}
 use Rattle.refresh.specs.declared.Refreshed.{Refreshed}
 use Rattle.refresh.specs.declared.Refreshed.the-variants as refreshed
-use Rattle.refresh.proofs.EditChecks.{thin-fine, sampled, own-words, allowed, edited-sampling, kept}
+use Rattle.refresh.proofs.EditChecks.{thin-fine, sampled, own-words, allowed, edited-sampling, same-marks, kept}
 use Rattle.sampling.proofs.Renewing.{anew-tries-most}
 use Rattle.refresh.proofs.Keeping.{renewed-ready, same-rows, same-counts, same-evaluations}
 
@@ -52,7 +52,7 @@ fits false n h l = refl
 module _ (ramp : Ramp) (e : Edit) (asked : Float) (was : Held) (fine : refreshCheck ramp e asked was ≡ checked.Fine) where
   -- the cells that are left, and the changed ramp in the copy
   abbrev kept-cells : List Bool
-  kept-cells = keptCells (ramp .kind) (ramp .positions) (e .stop)
+  kept-cells = cellsKept (ramp .kind) (ramp .positions) e
 
   pub edited-held : heldCheck (edited ramp e) was ≡ checked.Fine
   edited-held = edited-sampling ramp e (allowed ramp e asked was fine) was (sampled ramp e asked was fine)
@@ -74,11 +74,15 @@ module _ (ramp : Ramp) (e : Edit) (asked : Float) (was : Held) (fine : refreshCh
   unfolding resampled renewed
   resampled-is =
       let same = kept ramp e asked was fine in
-      same-held _ _ (same-rows _ _ _ _ _ _ same (was .rows)) (same-counts _ _ _ _ _ _ same (was .counts)) (sym (own-words ramp e asked was fine))
+      let ok = allowed ramp e asked was fine in
+      rw (same-marks ramp e ok asked, ok .same-min, ok .same-max)
+      (same-held _ _ (same-rows _ _ _ _ _ _ same (was .rows)) (same-counts _ _ _ _ _ _ same (was .counts)) (sym (own-words ramp e asked was fine)))
 
   spent-is : resampledEvaluations (edited ramp e) asked kept-cells ≡ newEvaluations ramp e asked
   unfolding resampledEvaluations newEvaluations
-  spent-is = same-evaluations _ _ _ _ _ _ (kept ramp e asked was fine)
+  spent-is =
+      let ok = allowed ramp e asked was fine in
+      rw (ok .same-min, ok .same-max) (same-evaluations _ _ _ _ _ _ (kept ramp e asked was fine))
 
 -- ---- the answers
 module _ (ramp : Ramp) (e : Edit) (asked : Float) where
@@ -92,12 +96,12 @@ module _ (ramp : Ramp) (e : Edit) (asked : Float) where
   refresh-list-refused was out n h = record { told = tells _ _ _ _ _ (rw h); left = rw h; output = rw h }
 
   -- the changed ramp in a copy, and the kept cells
-  module _ (held : Change Held) (h : refreshCheck ramp e asked (held .entry) ≡ checked.Fine) (copy : Ramp) (ks : List Bool) (is-edited : copy ≡ edited ramp e) (are-kept : ks ≡ keptCells (ramp .kind) (ramp .positions) (e .stop)) where
+  module _ (held : Change Held) (h : refreshCheck ramp e asked (held .entry) ≡ checked.Fine) (copy : Ramp) (ks : List Bool) (is-edited : copy ≡ edited ramp e) (are-kept : ks ≡ cellsKept (ramp .kind) (ramp .positions) e) where
     pub refresh-done : (s : Sampled) (r : Refreshed) → Resamples copy asked ks held s → r ≡ refreshedBy s → Refreshes ramp e asked held r
     unfolding resampleAnswer resampleHeld refreshAnswer refreshEvaluations refreshHeld
     refresh-done s r v by =
         let was = held .entry in
-        let w : Resamples (edited ramp e) asked (keptCells (ramp .kind) (ramp .positions) (e .stop)) held s = rw (← is-edited, ← are-kept) v in
+        let w : Resamples (edited ramp e) asked (cellsKept (ramp .kind) (ramp .positions) e) held s = rw (← is-edited, ← are-kept) v in
         let fine = edited-held ramp e asked was h in
         let done : r ≡ refreshed.Done (newEvaluations ramp e asked) = by ∙ rw (w .answer, fine, spent-is ramp e asked was h) in
         record { answer = done ∙ rw h; number = rw (done, h); evaluations = rw (done, h); left = w .left ∙ rw (fine, h, resampled-is ramp e asked was h) }
@@ -106,7 +110,7 @@ module _ (ramp : Ramp) (e : Edit) (asked : Float) where
     unfolding relistHeld relistOutput refreshHeld refreshOutput
     refresh-list-done out r v =
         let was = held .entry in
-        let w : Relists (edited ramp e) asked (keptCells (ramp .kind) (ramp .positions) (e .stop)) held out r = rw (← is-edited, ← are-kept) v in
+        let w : Relists (edited ramp e) asked (cellsKept (ramp .kind) (ramp .positions) e) held out r = rw (← is-edited, ← are-kept) v in
         let fine = relist-fine ramp e asked was h in
         let is = resampled-is ramp e asked was h in
         record {
@@ -155,7 +159,7 @@ module _ (ramp : Ramp) (e : Edit) (asked : Float) (was : Held) where
   relist-most h =
       let is = renewed ramp e asked was in
       let ok = renewed-thins h in
-      let hi = maxOf ramp in
+      let hi = maxOf (edited ramp e) in
       omega (arith, new-most ramp e asked, list-bound (colourOf (edited ramp e)) (farOf asked) (listOf (is .rows) (is .counts) hi) (omega (arith, list-some (is .rows) (is .counts) hi ok)) (list-most (is .rows) (is .counts) hi ok))
 
 pub refresh-list-most : (ramp : Ramp) (e : Edit) (asked : Float) (held : Change Held) (out : Change Output) (r : Listed) → RefreshLists ramp e asked held out r → evaluationsOfListed r ≤ 32146

@@ -17,12 +17,12 @@ use Rattle.linearize.specs.Promises.{Thins}
 use Rattle.linearize.specs.declared.Listed.{Listed}
 use Rattle.linearize.proofs.Checks.{ready, ready-counts}
 use Rattle.linearize.proofs.Answers.{added}
-use Rattle.refresh.specs.Edit.{edited}
+use Rattle.editing.specs.Edited.{edited}
 use Rattle.refresh.specs.RefreshDesk.{refreshCheck, renewed, newEvaluations, refreshAnswer, refreshHeld, refreshOutput, Refreshes, RefreshLists}
 use Rattle.refresh.specs.AfterEdit.{RefreshedThenThinned}
-use Rattle.refresh.specs.declared.edit.Edit.{Edit}
+use Rattle.editing.specs.declared.Edit.{Edit}
 use Rattle.refresh.specs.declared.Refreshed.{Refreshed}
-use Rattle.refresh.proofs.EditChecks.{thin-fine, own-words}
+use Rattle.refresh.proofs.EditChecks.{thin-fine, own-words, allowed, same-marks}
 use Rattle.refresh.proofs.RefreshAnswers.{edited-held, renewed-thins, words-stay}
 
 -- the refreshed record may be thinned, with the changed ramp: it has the lengths and the words that it had
@@ -34,7 +34,7 @@ thins ramp e asked was h =
     thin-passes (edited ramp e) asked (renewed ramp e asked was)
     (rw (after .long ∙ sym (before .long), after .many ∙ sym (before .many), words) (edited-held ramp e asked was h))
     (ready-counts _ _ after)
-    (words ∙ own-words ramp e asked was h)
+    (words ∙ own-words ramp e asked was h ∙ sym (same-marks ramp e (allowed ramp e asked was h) asked))
 
 module _ (ramp : Ramp) (e : Edit) (asked : Float) (held : Change Held) (all : Held) (thinned : Change Output) (out : Output) (q : Refreshed) (l r : Listed)
     (first : Refreshes ramp e asked held q)

@@ -21,17 +21,19 @@ use Rattle.sampling.proofs.Checks.{record-lengths}
 use Rattle.linearize.proofs.Checks.{ready-counts}
 use Rattle.linearize.proofs.Records.{fresh-ready}
 use Rattle.reach.specs.Stretch.{cellClear}
-use Rattle.refresh.specs.Edit.{edited}
-use Rattle.refresh.specs.RefreshDesk.{editCheck, refreshCheck, away, renewed}
-use Rattle.refresh.specs.declared.edit.Edit.{Edit}
+use Rattle.editing.specs.Edited.{edited}
+use Rattle.editing.specs.Rules.{editCheck}
+use Rattle.editing.specs.Reached.{away}
+use Rattle.refresh.specs.RefreshDesk.{refreshCheck, renewed}
+use Rattle.editing.specs.declared.Edit.{Edit}
 use Rattle.refresh.proofs.Agree.{same-row, same-count, refreshed-rows, refreshed-counts}
-use Rattle.refresh.proofs.Outside.{outside-same}
-use Rattle.refresh.proofs.EditChecks.{Allowed, allowed-valid}
+use Rattle.editing.proofs.EditSound.{Sound}
+use Rattle.refresh.proofs.EditChecks.{same-marks}
 
-module _ (ramp : Ramp) (e : Edit) (ok : Allowed ramp e) (asked : Float) where
+module _ (ramp : Ramp) (e : Edit) (ok : Sound ramp e) (asked : Float) where
   -- outside the stretch the two ramps agree
   pub agree : (t : Float) → away ramp e t ≡ true → colourOf ramp t ≡ colourOf (edited ramp e) t
-  agree t h = outside-same ramp e (ok .stops) (allowed-valid ramp e ok .rising) (ok .there) t h
+  agree = ok .agree
 
   -- so every clear cell has one row and one count
   module _ (i : ℕ) (clear : cellClear (away ramp e) (minOf ramp) (maxOf ramp) i ≡ true) where
@@ -46,6 +48,9 @@ module _ (ramp : Ramp) (e : Edit) (ok : Allowed ramp e) (asked : Float) where
   unfolding renewed fresh
   fresh-renewed =
       rw (
+        same-marks ramp e ok asked,
+        ok .same-min,
+        ok .same-max,
         refreshed-rows (colourOf ramp) (colourOf (edited ramp e)) (farOf asked) (away ramp e) agree (minOf ramp) (maxOf ramp),
         refreshed-counts (colourOf ramp) (colourOf (edited ramp e)) (farOf asked) (away ramp e) agree (minOf ramp) (maxOf ramp),
       )

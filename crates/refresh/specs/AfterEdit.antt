@@ -1,5 +1,5 @@
 -- What holds after an edit, said of the calls: of any results that the contracts of sampling, refreshing, thinning and flattening allow.
--- Demand 3, for linear, smoothstep, basis and Catmull-Rom ramps: after an edit the refreshed record and its list equal those made afresh, and rows clear of the change keep every byte. That the threshold is the
+-- Demand 3, for a change of colour of linear, smoothstep, basis and Catmull-Rom ramps, and a stop moved, added or removed of the first two: after an edit the refreshed record and its list equal those made afresh, and rows clear of the change keep every byte. That the threshold is the
 -- one the record was sampled with is nothing that a caller must see to: a refresh with another one is refused.
 use mathlib.Core.Path.{_≡_}
 use Prim.Native.Nat.{ℕ, _*_}
@@ -17,9 +17,9 @@ use Rattle.sampling.specs.declared.Sampled.{Sampled}
 use Rattle.sampling.specs.declared.Sampled.the-variants as sampled
 use Rattle.linearize.specs.declared.Listed.{Listed}
 use Rattle.linearize.specs.declared.Listed.the-variants as listed
-use Rattle.refresh.specs.Edit.{edited}
+use Rattle.editing.specs.Edited.{edited}
 use Rattle.refresh.specs.RefreshDesk.{newEvaluations}
-use Rattle.refresh.specs.declared.edit.Edit.{Edit}
+use Rattle.editing.specs.declared.Edit.{Edit}
 use Rattle.refresh.specs.declared.Refreshed.{Refreshed}
 use Rattle.refresh.specs.declared.Refreshed.the-variants as refreshed
 

@@ -1,4 +1,3 @@
-pub mod Edit
 pub mod RefreshDesk
 pub mod AfterEdit
 pub mod Within

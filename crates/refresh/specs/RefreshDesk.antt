@@ -1,18 +1,10 @@
 -- When the desk says no to a refresh, and what its calls answer and leave in lent memory. Document 01's number and values for each case of the answer.
 use mathlib.Core.Path.{_≡_}
-use mathlib.Core.Bool.{Bool, true, false, cond, _&&_}
 use Prim.Native.Nat.{ℕ, _+_}
-use lib.Dec.{ltb}
-use lib.ListN.{length}
 use lib.Ieee.{Float}
-use Rattle.refusals.specs.Refusals.{badEdit}
 use Rattle.stops.specs.Lent.{Ramp, Change}
-use Rattle.stops.specs.Stops.{finiteRgba}
 use Rattle.stops.specs.Answers.{numberOfChecked, onFine}
-use Rattle.stops.specs.declared.Kind.{Kind}
-use Rattle.stops.specs.declared.Kind.the-variants.{Linear, Smoothstep, Sharp, Basis, CatmullRom, Gimp}
 use Rattle.stops.specs.declared.Checked.{Checked}
-use Rattle.stops.specs.declared.Checked.the-variants as checked
 use Rattle.gradient.specs.Ramp.{minOf, maxOf, colourOf}
 use Rattle.thinning.specs.Kept.{listEvaluations}
 use Rattle.sampling.specs.Lent.{Held, heldOf}
@@ -22,10 +14,11 @@ use Rattle.records.specs.Fitness.{thinCheck}
 use Rattle.linearize.specs.Desk.{pointsIn, written}
 use Rattle.linearize.specs.Promises.{TellsOf}
 use Rattle.linearize.specs.declared.Listed.{Listed}
-use Rattle.reach.specs.Stretch.{reachOf, outsideOf, cellClear}
 use Rattle.sampling.specs.Anew.{anewRows, anewCounts, anewEvaluations}
-use Rattle.refresh.specs.Edit.{edited}
-use Rattle.refresh.specs.declared.edit.Edit.{Edit}
+use Rattle.editing.specs.Edited.{edited}
+use Rattle.editing.specs.Rules.{editCheck}
+use Rattle.editing.specs.Reached.{clearCell}
+use Rattle.editing.specs.declared.Edit.{Edit}
 use Rattle.refresh.specs.declared.Refreshed.{Refreshed}
 use Rattle.refresh.specs.declared.Refreshed.the-variants as refreshed
 
@@ -38,45 +31,21 @@ abbrev pub evaluationsOfRefreshed : Refreshed → ℕ
 evaluationsOfRefreshed (refreshed.Done e) = e
 evaluationsOfRefreshed (refreshed.Refused n) = 0
 
--- the kinds that can be refreshed: all but sharp and GIMP
-abbrev pub refreshable : Kind → Bool
-refreshable Linear = true
-refreshable Smoothstep = true
-refreshable Sharp = false
-refreshable Basis = true
-refreshable CatmullRom = true
-refreshable Gimp = false
-
--- 6 of an edit of a ramp of n stops
-unfoldable pub editAllowed : Kind → ℕ → Edit → Checked
-editAllowed kind n e = cond (refreshable kind && (ltb (e .stop) n && finiteRgba (e .colour))) checked.Fine (checked.Refused badEdit)
-
 module _ (ramp : Ramp) (e : Edit) where
-  abbrev pub editCheck : Checked
-  editCheck = editAllowed (ramp .kind) (length (ramp .positions)) e
-
-  -- refusals 1, then stop by stop 2, 3; then 4, 5, 20, 6
+  -- refusals 1, then stop by stop 2, 3; then 4, 5, 20; then those of the edit, 6, 1, 3
   unfoldable pub refreshCheck : Float → Held → Checked
-  refreshCheck asked was = andThen (thinCheck ramp asked was) editCheck
-
-  -- the points outside the stretch of the edit
-  abbrev pub away : Float → Bool
-  away = outsideOf (reachOf (ramp .kind)) (ramp .positions) (e .stop)
-
-  -- the cells that lie outside it
-  abbrev pub clearCell : ℕ → Bool
-  clearCell = cellClear away (minOf ramp) (maxOf ramp)
+  refreshCheck asked was = andThen (thinCheck ramp asked was) (editCheck ramp e)
 
   module _ (asked : Float) where
     -- the record once the edit is made, whose words stay; and the evaluations
     unfoldable pub renewed : Held → Held
     renewed was =
-        heldOf (anewRows (colourOf (edited ramp e)) (farOf asked) clearCell (minOf ramp) (maxOf ramp) (was .rows))
-        (anewCounts (colourOf (edited ramp e)) (farOf asked) clearCell (minOf ramp) (maxOf ramp) (was .counts))
+        heldOf (anewRows (colourOf (edited ramp e)) (farOf asked) (clearCell ramp e) (minOf ramp) (maxOf ramp) (was .rows))
+        (anewCounts (colourOf (edited ramp e)) (farOf asked) (clearCell ramp e) (minOf ramp) (maxOf ramp) (was .counts))
         (was .marks)
 
     unfoldable pub newEvaluations : ℕ
-    newEvaluations = anewEvaluations (colourOf (edited ramp e)) (farOf asked) clearCell (minOf ramp) (maxOf ramp)
+    newEvaluations = anewEvaluations (colourOf (edited ramp e)) (farOf asked) (clearCell ramp e) (minOf ramp) (maxOf ramp)
 
     -- ---- the calls
     module _ (was : Held) where

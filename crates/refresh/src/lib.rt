@@ -1,12 +1,11 @@
-// Refreshing a record after the colour of one stop changed: a cell clear of the change keeps what it holds,
-// any other is sampled anew.
-use crate::edit::Edit;
-use crate::edit::change;
-use crate::edit::check_edit;
+// Refreshing a record after an edit of its ramp: a cell clear of the change keeps what it holds, any other is sampled anew.
+use editing::Edit;
+use editing::copy::Copied;
+use editing::copy::copy;
+use editing::kept;
 use linearize::Listed;
 use linearize::Sampled;
 use linearize::relist;
-use reach::kept_cells;
 use records::check_thin;
 use refusals::MOST_STOPS;
 use sampling::resample;
@@ -16,35 +15,13 @@ ghost use mathlib.Core.Path.{_≡_};
 ghost use Rattle.stops.specs.Lent.{lentRamp};
 ghost use Rattle.sampling.specs.Lent.{lentHeld};
 ghost use Rattle.linearize.specs.Lent.{lentOutput};
-ghost use Rattle.refresh.specs.RefreshDesk.{refreshCheck, Refreshes, RefreshLists};
+ghost use Rattle.refresh.specs.RefreshDesk.{Refreshes, RefreshLists};
 ghost use Rattle.refresh.specs.Within.{refreshedBy};
-
-pub mod edit;
 
 // What a refresh answers: the evaluations, or the number of the refusal.
 pub enum Refreshed {
     Done(usize),
     Refused(u8),
-}
-
-// Refusals 1 to 5, 20 and 6 of a refresh.
-fn check_refresh(
-    kind: Kind,
-    positions: &[f32],
-    channels: &[f32],
-    codes: &[u8],
-    edit: Edit,
-    asked: f32,
-    rows: &[f32],
-    counts: &[u8],
-    marks: &[u32],
-) -> Checked
-    ensures { λ r. ⌜ r ≡ refreshCheck (lentRamp kind positions channels codes) edit asked (lentHeld rows counts marks .entry) ⌝ }
-{
-    match check_thin(kind, positions, channels, codes, asked, rows, counts, marks) {
-        Checked::Refused(n) => Checked::Refused(n),
-        Checked::Fine => check_edit(kind, positions.len(), edit),
-    }
 }
 
 // The answer of a refresh, by that of sampling the cells that are not kept.
@@ -58,7 +35,8 @@ fn refreshed_by(made: Sampled) -> Refreshed
 }
 
 // Refreshes the lent record after an edit of the lent ramp; the ramp itself is not written, and the record's words stay: they
-// are this call's own, or it is refused. A refusal leaves the record as it was.
+// are this call's own, or it is refused. A refusal leaves the record as it was. The copy with the edit made has room for
+// one stop more.
 pub fn refresh(
     kind: Kind,
     positions: &[f32],
@@ -72,12 +50,11 @@ pub fn refresh(
 ) -> Refreshed
     ensures { λ r. ⌜ Refreshes (lentRamp kind positions channels codes) edit threshold (lentHeld rows counts marks) r ⌝ }
 {
-    match check_refresh(
+    match check_thin(
         kind,
         positions,
         channels,
         codes,
-        edit,
         threshold,
         rows,
         counts,
@@ -85,22 +62,27 @@ pub fn refresh(
     ) {
         Checked::Refused(n) => Refreshed::Refused(n),
         Checked::Fine => {
-            let mut copy = [0.0f32; 4 * MOST_STOPS];
-            change(channels, edit.stop, edit.colour, &mut copy);
-            let m = channels.len();
-            let keep = kept_cells(kind, positions, edit.stop);
-            let made = resample(
-                kind,
-                positions,
-                &copy[..m],
-                codes,
-                threshold,
-                keep,
-                rows,
-                counts,
-                marks,
-            );
-            refreshed_by(made)
+            let mut places = [0.0f32; MOST_STOPS + 1];
+            let mut colours = [0.0f32; 4 * (MOST_STOPS + 1)];
+            match copy(kind, positions, channels, edit, &mut places, &mut colours) {
+                Copied::Refused(n) => Refreshed::Refused(n),
+                Copied::Stops(n) => {
+                    let m = 4 * n;
+                    let keep = kept(kind, positions, edit);
+                    let made = resample(
+                        kind,
+                        &places[..n],
+                        &colours[..m],
+                        codes,
+                        threshold,
+                        keep,
+                        rows,
+                        counts,
+                        marks,
+                    );
+                    refreshed_by(made)
+                }
+            }
         }
     }
 }
@@ -122,12 +104,11 @@ pub fn refresh_list(
 ) -> Listed
     ensures { λ r. ⌜ RefreshLists (lentRamp kind positions channels codes) edit threshold (lentHeld rows counts marks) (lentOutput «out_positions» «out_channels») r ⌝ }
 {
-    match check_refresh(
+    match check_thin(
         kind,
         positions,
         channels,
         codes,
-        edit,
         threshold,
         rows,
         counts,
@@ -135,22 +116,27 @@ pub fn refresh_list(
     ) {
         Checked::Refused(n) => Listed::Refused(n),
         Checked::Fine => {
-            let mut copy = [0.0f32; 4 * MOST_STOPS];
-            change(channels, edit.stop, edit.colour, &mut copy);
-            let m = channels.len();
-            relist(
-                kind,
-                positions,
-                &copy[..m],
-                codes,
-                threshold,
-                kept_cells(kind, positions, edit.stop),
-                rows,
-                counts,
-                marks,
-                out_positions,
-                out_channels,
-            )
+            let mut places = [0.0f32; MOST_STOPS + 1];
+            let mut colours = [0.0f32; 4 * (MOST_STOPS + 1)];
+            match copy(kind, positions, channels, edit, &mut places, &mut colours) {
+                Copied::Refused(n) => Listed::Refused(n),
+                Copied::Stops(n) => {
+                    let m = 4 * n;
+                    relist(
+                        kind,
+                        &places[..n],
+                        &colours[..m],
+                        codes,
+                        threshold,
+                        kept(kind, positions, edit),
+                        rows,
+                        counts,
+                        marks,
+                        out_positions,
+                        out_channels,
+                    )
+                }
+            }
         }
     }
 }

@@ -2,9 +2,9 @@
 use crate::Tally;
 use crate::words;
 use blend::Rgba;
+use editing::Edit;
 use linearize::Listed;
 use linearize::Sampler;
-use refresh::edit::Edit;
 use stops::Kind;
 
 const RECORD: usize = Sampler::CELLS * Sampler::ROW;
@@ -201,7 +201,7 @@ fn refresh(
         positions,
         channels,
         codes,
-        Edit { stop, colour },
+        Edit::Colour { stop, colour },
         threshold,
         rows,
         &mut counts,

@@ -19,19 +19,19 @@ edge-requires-2 c κs = search needs
 
 is-clear-requires : tie.Need-is-clear-requires
 is-clear-requires c κs =
-    let s = c .before .before .before in
+    let s = c .before .before in
     let a = s .args in
     let h = s .pre in
-    let first = c .before .edge .ensures ∙ end-is (a .min) (a .max) (a .i) (omega (arith, h .1 .1)) in
-    let last = c .edge2 .ensures ∙ end-is (a .min) (a .max) _ (omega (arith, h .1 .1)) in
-    (h .0, (end-within _ _ (h .1 .0) _ _ (omega (arith, h .1 .1)) first, end-within _ _ (h .1 .0) _ _ (omega (arith, h .1 .1)) last))
+    let first = c .before .edge .ensures ∙ end-is (a .min) (a .max) (a .i) (omega (arith, h .1)) in
+    let last = c .edge2 .ensures ∙ end-is (a .min) (a .max) _ (omega (arith, h .1)) in
+    (end-within _ _ (h .0) _ _ (omega (arith, h .1)) first, end-within _ _ (h .0) _ _ (omega (arith, h .1)) last)
 
 returns : tie.Need-returns
 returns c =
-    let s = c .before .before .before .before in
+    let s = c .before .before .before in
     let a = s .args in
-    let first = c .before .before .edge .ensures ∙ end-is (a .min) (a .max) (a .i) (omega (arith, s .pre .1 .1)) in
-    let last = c .before .edge2 .ensures ∙ end-is (a .min) (a .max) _ (omega (arith, s .pre .1 .1)) in
+    let first = c .before .before .edge .ensures ∙ end-is (a .min) (a .max) (a .i) (omega (arith, s .pre .1)) in
+    let last = c .before .edge2 .ensures ∙ end-is (a .min) (a .max) _ (omega (arith, s .pre .1)) in
     c .is-clear .ensures ∙ clear-is _ _ _ _ _ _ first last
 
 pub is-cell-clear-spec : {M : Type 1} → statement M

@@ -1,19 +1,18 @@
 -- `refresh` meets its contract: a refusal changes nothing; else the cells that are not kept are sampled anew from the changed ramp. Assumes nothing.
-use mathlib.Core.Path.{sym, ap, _∙_}
-use mathlib.Core.List.{List}
+use mathlib.Core.Path.{_≡_, sym, ap, _∙_}
 use native.Mathlib.Omega.{arith}
-use lib.ListN.{length, take}
-use lib.Ieee.{Float}
+use lib.ListN.{length, take, replicate, length-replicate}
 use lib.Seq.{length-take-le}
+use Rattle.float.specs.F32.{f0}
 use Rattle.stops.specs.Lent.{rampOf}
-use Rattle.refresh.proofs.EditChecks.{channels-there, allowed}
+use Rattle.refresh.proofs.EditChecks.{thin-refuses, by-edit, thinned-fine, edit-refused, copy-holds, copy-is}
 use Rattle.refresh.proofs.RefreshAnswers.{refresh-refused, refresh-done}
 use borrow.Author.Needs.{needs}
 use Rattle.refresh.proofs.refresh.Statement.{statement}
 use Rattle.refresh.proofs.refresh.Tie as tie
 
-check-refresh-requires : tie.Need-check-refresh-requires
-check-refresh-requires c κs = search needs
+check-thin-requires : tie.Need-check-thin-requires
+check-thin-requires c κs = search needs
 
 enum-known-n : tie.Need-enum-known-n
 enum-known-n c = search needs
@@ -21,32 +20,98 @@ enum-known-n c = search needs
 enum-told : tie.Need-enum-told
 enum-told c = search needs
 
-slice-aggregate-change : tie.Need-slice-aggregate-change
-slice-aggregate-change c = search needs
+slice-aggregate-copy : tie.Need-slice-aggregate-copy
+slice-aggregate-copy c = search needs
 
-change-requires : tie.Need-change-requires
-change-requires c κs =
+slice-aggregate-copy-2 : tie.Need-slice-aggregate-copy-2
+slice-aggregate-copy-2 c = search needs
+
+copy-requires : tie.Need-copy-requires
+copy-requires c κs = search needs
+
+enum-known-n-2 : tie.Need-enum-known-n-2
+enum-known-n-2 c = search needs
+
+enum-known-n-3 : tie.Need-enum-known-n-3
+enum-known-n-3 c = search needs
+
+mul-m : tie.Need-mul-m
+mul-m c =
+    let told = c in
+    let copied = told .before .before .before .before .before in
+    let passed = copied .before .before .before in
+    let thinned = passed .before .before in
+    let a = thinned .before .before .before .before .before .before .before .before .before .before .args in
+    let ramp = rampOf (a .kind) (a .positions .now) (a .channels .now) (a .codes .now) in
+    let thin = sym (thinned .check-thin .ensures .answer) ∙ passed .enum-told .given .1 in
+    let fine = thinned-fine ramp (a .edit) (a .threshold) _ thin in
+    let places = copied .copy .last .1 .1 .1 .1 .0 in
+    let colours = copied .copy .last .1 .1 .1 .1 .1 .0 in
+    let holds = copy-holds ramp (a .edit) fine (replicate 2049 f0) (replicate 8196 f0) places colours (length-replicate 2049 f0) (length-replicate 8196 f0) _ (copied .copy .ensures) _ (told .before .n3 .given .1) in
+    omega (arith, holds .few)
+
+kept-requires : tie.Need-kept-requires
+kept-requires c κs = search needs
+
+array-share-prefix-places : tie.Need-array-share-prefix-places
+array-share-prefix-places c =
     let told = c .before in
-    let fine = sym (told .before .before .check-refresh .ensures) ∙ told .enum-told .given .1 in
-    let there = channels-there _ _ (allowed _ _ _ _ fine) in
-    (there .0, there .1)
-
-kept-cells-requires : tie.Need-kept-cells-requires
-kept-cells-requires c κs = search needs
-
-array-share-prefix-copy : tie.Need-array-share-prefix-copy
-array-share-prefix-copy c =
-    let changed = c .before .before in
-    let told = changed .before .before in
-    let fine = sym (told .before .before .check-refresh .ensures) ∙ told .enum-told .given .1 in
-    omega (arith, channels-there _ _ (allowed _ _ _ _ fine) .1, changed .change .kept .1 .1 .1 .0)
+    let copied = told .before .before .before .before .before in
+    let passed = copied .before .before .before in
+    let thinned = passed .before .before in
+    let a = thinned .before .before .before .before .before .before .before .before .before .before .args in
+    let ramp = rampOf (a .kind) (a .positions .now) (a .channels .now) (a .codes .now) in
+    let thin = sym (thinned .check-thin .ensures .answer) ∙ passed .enum-told .given .1 in
+    let fine = thinned-fine ramp (a .edit) (a .threshold) _ thin in
+    let places = copied .copy .last .1 .1 .1 .1 .0 in
+    let colours = copied .copy .last .1 .1 .1 .1 .1 .0 in
+    let holds = copy-holds ramp (a .edit) fine (replicate 2049 f0) (replicate 8196 f0) places colours (length-replicate 2049 f0) (length-replicate 8196 f0) _ (copied .copy .ensures) _ (told .before .n3 .given .1) in
+    omega (arith, holds .few, copied .copy .kept .1 .1 .1 .1 .0)
 
 slice-aggregate-resample : tie.Need-slice-aggregate-resample
 slice-aggregate-resample c =
-    let changed = c .before .before .before in
-    let told = changed .before .before in
-    let fine = sym (told .before .before .check-refresh .ensures) ∙ told .enum-told .given .1 in
-    sym (length-take-le _ (changed .change .last .1 .1 .1 .0) (omega (arith, channels-there _ _ (allowed _ _ _ _ fine) .1, changed .change .kept .1 .1 .1 .0)))
+    let told = c .before .before in
+    let copied = told .before .before .before .before .before in
+    let passed = copied .before .before .before in
+    let thinned = passed .before .before in
+    let a = thinned .before .before .before .before .before .before .before .before .before .before .args in
+    let ramp = rampOf (a .kind) (a .positions .now) (a .channels .now) (a .codes .now) in
+    let thin = sym (thinned .check-thin .ensures .answer) ∙ passed .enum-told .given .1 in
+    let fine = thinned-fine ramp (a .edit) (a .threshold) _ thin in
+    let places = copied .copy .last .1 .1 .1 .1 .0 in
+    let colours = copied .copy .last .1 .1 .1 .1 .1 .0 in
+    let holds = copy-holds ramp (a .edit) fine (replicate 2049 f0) (replicate 8196 f0) places colours (length-replicate 2049 f0) (length-replicate 8196 f0) _ (copied .copy .ensures) _ (told .before .n3 .given .1) in
+    sym (length-take-le _ places (omega (arith, holds .few, copied .copy .kept .1 .1 .1 .1 .0)))
+
+array-share-prefix-colours : tie.Need-array-share-prefix-colours
+array-share-prefix-colours c =
+    let told = c .before .before in
+    let copied = told .before .before .before .before .before in
+    let passed = copied .before .before .before in
+    let thinned = passed .before .before in
+    let a = thinned .before .before .before .before .before .before .before .before .before .before .args in
+    let ramp = rampOf (a .kind) (a .positions .now) (a .channels .now) (a .codes .now) in
+    let thin = sym (thinned .check-thin .ensures .answer) ∙ passed .enum-told .given .1 in
+    let fine = thinned-fine ramp (a .edit) (a .threshold) _ thin in
+    let places = copied .copy .last .1 .1 .1 .1 .0 in
+    let colours = copied .copy .last .1 .1 .1 .1 .1 .0 in
+    let holds = copy-holds ramp (a .edit) fine (replicate 2049 f0) (replicate 8196 f0) places colours (length-replicate 2049 f0) (length-replicate 8196 f0) _ (copied .copy .ensures) _ (told .before .n3 .given .1) in
+    omega (arith, holds .few, copied .copy .kept .1 .1 .1 .1 .1 .0)
+
+slice-aggregate-resample-2 : tie.Need-slice-aggregate-resample-2
+slice-aggregate-resample-2 c =
+    let told = c .before .before .before in
+    let copied = told .before .before .before .before .before in
+    let passed = copied .before .before .before in
+    let thinned = passed .before .before in
+    let a = thinned .before .before .before .before .before .before .before .before .before .before .args in
+    let ramp = rampOf (a .kind) (a .positions .now) (a .channels .now) (a .codes .now) in
+    let thin = sym (thinned .check-thin .ensures .answer) ∙ passed .enum-told .given .1 in
+    let fine = thinned-fine ramp (a .edit) (a .threshold) _ thin in
+    let places = copied .copy .last .1 .1 .1 .1 .0 in
+    let colours = copied .copy .last .1 .1 .1 .1 .1 .0 in
+    let holds = copy-holds ramp (a .edit) fine (replicate 2049 f0) (replicate 8196 f0) places colours (length-replicate 2049 f0) (length-replicate 8196 f0) _ (copied .copy .ensures) _ (told .before .n3 .given .1) in
+    sym (length-take-le _ colours (omega (arith, holds .few, copied .copy .kept .1 .1 .1 .1 .1 .0)))
 
 resample-requires : tie.Need-resample-requires
 resample-requires c κs = search needs
@@ -64,7 +129,7 @@ same-length-3 : tie.Need-same-length-3
 same-length-3 c = search needs
 
 returns : tie.Need-returns
-returns c = refresh-refused _ _ _ _ _ (sym (c .before .before .before .check-refresh .ensures) ∙ c .before .n .given .1)
+returns c = refresh-refused _ _ _ _ _ (thin-refuses _ _ _ _ _ (sym (c .before .before .before .check-thin .ensures .answer) ∙ c .before .n .given .1))
 
 same-length-4 : tie.Need-same-length-4
 same-length-4 c = search needs
@@ -77,30 +142,64 @@ same-length-6 c = search needs
 
 returns-2 : tie.Need-returns-2
 returns-2 c =
+    let told = c in
+    let copied = told .before .before .before .before .before in
+    let passed = copied .before .before .before in
+    let thinned = passed .before .before in
+    let a = thinned .before .before .before .before .before .before .before .before .before .before .args in
+    let ramp = rampOf (a .kind) (a .positions .now) (a .channels .now) (a .codes .now) in
+    let thin = sym (thinned .check-thin .ensures .answer) ∙ passed .enum-told .given .1 in
+    let fine = thinned-fine ramp (a .edit) (a .threshold) _ thin in
+    let places = copied .copy .last .1 .1 .1 .1 .0 in
+    let colours = copied .copy .last .1 .1 .1 .1 .1 .0 in
+    let refused = edit-refused ramp (a .edit) fine (replicate 2049 f0) (replicate 8196 f0) places colours (length-replicate 2049 f0) (length-replicate 8196 f0) _ (copied .copy .ensures) _ (told .before .n2 .given .1) in
+    refresh-refused _ _ _ _ _ (by-edit ramp (a .edit) (a .threshold) _ thin refused)
+
+same-length-7 : tie.Need-same-length-7
+same-length-7 c = search needs
+
+same-length-8 : tie.Need-same-length-8
+same-length-8 c = search needs
+
+same-length-9 : tie.Need-same-length-9
+same-length-9 c = search needs
+
+returns-3 : tie.Need-returns-3
+returns-3 c =
     let sampled = c .before .before .before .before .before .before .before in
-    let kept = sampled .before .before .before .before .before in
-    let changed = kept .before .before in
-    let told = changed .before .before in
-    let checked = told .before .before in
-    let a = checked .before .before .before .before .before .before .before .before .before .before .args in
-    let fine = sym (checked .check-refresh .ensures) ∙ told .enum-told .given .1 in
-    let copy = take (length (a .channels .now)) (changed .change .last .1 .1 .1 .0) in
-    refresh-done _ _ _ _ fine (rampOf (a .kind) (a .positions .now) copy (a .codes .now)) _
-    (ap (λ (l : List Float). rampOf (a .kind) (a .positions .now) l (a .codes .now)) (changed .change .ensures))
-    (kept .kept-cells .ensures) _ _ (sampled .resample .ensures) (c .refreshed-by .ensures)
+    let kept = sampled .before .before .before .before .before .before in
+    let told = kept .before in
+    let copied = told .before .before .before .before .before in
+    let passed = copied .before .before .before in
+    let thinned = passed .before .before in
+    let a = thinned .before .before .before .before .before .before .before .before .before .before .args in
+    let ramp = rampOf (a .kind) (a .positions .now) (a .channels .now) (a .codes .now) in
+    let thin = sym (thinned .check-thin .ensures .answer) ∙ passed .enum-told .given .1 in
+    let fine = thinned-fine ramp (a .edit) (a .threshold) _ thin in
+    let places = copied .copy .last .1 .1 .1 .1 .0 in
+    let colours = copied .copy .last .1 .1 .1 .1 .1 .0 in
+    let holds = copy-holds ramp (a .edit) fine (replicate 2049 f0) (replicate 8196 f0) places colours (length-replicate 2049 f0) (length-replicate 8196 f0) _ (copied .copy .ensures) _ (told .before .n3 .given .1) in
+    let same = copy-is ramp (a .edit) fine (replicate 2049 f0) (replicate 8196 f0) places colours (length-replicate 2049 f0) (length-replicate 8196 f0) _ (copied .copy .ensures) _ holds in
+    refresh-done _ _ _ _ (by-edit ramp (a .edit) (a .threshold) _ thin (holds .edit-fine)) _ _ same (kept .kept .ensures) _ _ (sampled .resample .ensures) (c .refreshed-by .ensures)
 
 pub refresh-spec : {M : Type 1} → statement M
 refresh-spec =
     tie.close
     (tie.spec
-    check-refresh-requires
+    check-thin-requires
     enum-known-n
     enum-told
-    slice-aggregate-change
-    change-requires
-    kept-cells-requires
-    array-share-prefix-copy
+    slice-aggregate-copy
+    slice-aggregate-copy-2
+    copy-requires
+    enum-known-n-2
+    enum-known-n-3
+    mul-m
+    kept-requires
+    array-share-prefix-places
     slice-aggregate-resample
+    array-share-prefix-colours
+    slice-aggregate-resample-2
     resample-requires
     refreshed-by-requires
     same-length
@@ -110,4 +209,8 @@ refresh-spec =
     same-length-4
     same-length-5
     same-length-6
-    returns-2)
+    returns-2
+    same-length-7
+    same-length-8
+    same-length-9
+    returns-3)

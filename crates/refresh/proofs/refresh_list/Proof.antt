@@ -1,19 +1,18 @@
 -- `refresh_list` meets its contract: a refusal changes nothing; else the record is refreshed from the changed ramp and the list made of it. Assumes nothing.
-use mathlib.Core.Path.{sym, ap, _∙_}
-use mathlib.Core.List.{List}
+use mathlib.Core.Path.{_≡_, sym, ap, _∙_}
 use native.Mathlib.Omega.{arith}
-use lib.ListN.{length, take}
-use lib.Ieee.{Float}
+use lib.ListN.{length, take, replicate, length-replicate}
 use lib.Seq.{length-take-le}
+use Rattle.float.specs.F32.{f0}
 use Rattle.stops.specs.Lent.{rampOf}
-use Rattle.refresh.proofs.EditChecks.{channels-there, allowed}
+use Rattle.refresh.proofs.EditChecks.{thin-refuses, by-edit, thinned-fine, edit-refused, copy-holds, copy-is}
 use Rattle.refresh.proofs.RefreshAnswers.{refresh-list-refused, refresh-list-done}
 use borrow.Author.Needs.{needs}
 use Rattle.refresh.proofs.refresh_list.Statement.{statement}
 use Rattle.refresh.proofs.refresh_list.Tie as tie
 
-check-refresh-requires : tie.Need-check-refresh-requires
-check-refresh-requires c κs = search needs
+check-thin-requires : tie.Need-check-thin-requires
+check-thin-requires c κs = search needs
 
 enum-known-n : tie.Need-enum-known-n
 enum-known-n c = search needs
@@ -21,32 +20,98 @@ enum-known-n c = search needs
 enum-told : tie.Need-enum-told
 enum-told c = search needs
 
-slice-aggregate-change : tie.Need-slice-aggregate-change
-slice-aggregate-change c = search needs
+slice-aggregate-copy : tie.Need-slice-aggregate-copy
+slice-aggregate-copy c = search needs
 
-change-requires : tie.Need-change-requires
-change-requires c κs =
-    let told = c .before in
-    let fine = sym (told .before .before .check-refresh .ensures) ∙ told .enum-told .given .1 in
-    let there = channels-there _ _ (allowed _ _ _ _ fine) in
-    (there .0, there .1)
+slice-aggregate-copy-2 : tie.Need-slice-aggregate-copy-2
+slice-aggregate-copy-2 c = search needs
 
-array-share-prefix-copy : tie.Need-array-share-prefix-copy
-array-share-prefix-copy c =
-    let changed = c .before in
-    let told = changed .before .before in
-    let fine = sym (told .before .before .check-refresh .ensures) ∙ told .enum-told .given .1 in
-    omega (arith, channels-there _ _ (allowed _ _ _ _ fine) .1, changed .change .kept .1 .1 .1 .0)
+copy-requires : tie.Need-copy-requires
+copy-requires c κs = search needs
+
+enum-known-n-2 : tie.Need-enum-known-n-2
+enum-known-n-2 c = search needs
+
+enum-known-n-3 : tie.Need-enum-known-n-3
+enum-known-n-3 c = search needs
+
+mul-m : tie.Need-mul-m
+mul-m c =
+    let told = c in
+    let copied = told .before .before .before .before .before in
+    let passed = copied .before .before .before in
+    let thinned = passed .before .before in
+    let a = thinned .before .before .before .before .before .before .before .before .before .before .before .before .args in
+    let ramp = rampOf (a .kind) (a .positions .now) (a .channels .now) (a .codes .now) in
+    let thin = sym (thinned .check-thin .ensures .answer) ∙ passed .enum-told .given .1 in
+    let fine = thinned-fine ramp (a .edit) (a .threshold) _ thin in
+    let places = copied .copy .last .1 .1 .1 .1 .0 in
+    let colours = copied .copy .last .1 .1 .1 .1 .1 .0 in
+    let holds = copy-holds ramp (a .edit) fine (replicate 2049 f0) (replicate 8196 f0) places colours (length-replicate 2049 f0) (length-replicate 8196 f0) _ (copied .copy .ensures) _ (told .before .n3 .given .1) in
+    omega (arith, holds .few)
+
+array-share-prefix-places : tie.Need-array-share-prefix-places
+array-share-prefix-places c =
+    let told = c in
+    let copied = told .before .before .before .before .before in
+    let passed = copied .before .before .before in
+    let thinned = passed .before .before in
+    let a = thinned .before .before .before .before .before .before .before .before .before .before .before .before .args in
+    let ramp = rampOf (a .kind) (a .positions .now) (a .channels .now) (a .codes .now) in
+    let thin = sym (thinned .check-thin .ensures .answer) ∙ passed .enum-told .given .1 in
+    let fine = thinned-fine ramp (a .edit) (a .threshold) _ thin in
+    let places = copied .copy .last .1 .1 .1 .1 .0 in
+    let colours = copied .copy .last .1 .1 .1 .1 .1 .0 in
+    let holds = copy-holds ramp (a .edit) fine (replicate 2049 f0) (replicate 8196 f0) places colours (length-replicate 2049 f0) (length-replicate 8196 f0) _ (copied .copy .ensures) _ (told .before .n3 .given .1) in
+    omega (arith, holds .few, copied .copy .kept .1 .1 .1 .1 .0)
 
 slice-aggregate-relist : tie.Need-slice-aggregate-relist
 slice-aggregate-relist c =
-    let changed = c .before .before in
-    let told = changed .before .before in
-    let fine = sym (told .before .before .check-refresh .ensures) ∙ told .enum-told .given .1 in
-    sym (length-take-le _ (changed .change .last .1 .1 .1 .0) (omega (arith, channels-there _ _ (allowed _ _ _ _ fine) .1, changed .change .kept .1 .1 .1 .0)))
+    let told = c .before in
+    let copied = told .before .before .before .before .before in
+    let passed = copied .before .before .before in
+    let thinned = passed .before .before in
+    let a = thinned .before .before .before .before .before .before .before .before .before .before .before .before .args in
+    let ramp = rampOf (a .kind) (a .positions .now) (a .channels .now) (a .codes .now) in
+    let thin = sym (thinned .check-thin .ensures .answer) ∙ passed .enum-told .given .1 in
+    let fine = thinned-fine ramp (a .edit) (a .threshold) _ thin in
+    let places = copied .copy .last .1 .1 .1 .1 .0 in
+    let colours = copied .copy .last .1 .1 .1 .1 .1 .0 in
+    let holds = copy-holds ramp (a .edit) fine (replicate 2049 f0) (replicate 8196 f0) places colours (length-replicate 2049 f0) (length-replicate 8196 f0) _ (copied .copy .ensures) _ (told .before .n3 .given .1) in
+    sym (length-take-le _ places (omega (arith, holds .few, copied .copy .kept .1 .1 .1 .1 .0)))
 
-kept-cells-requires : tie.Need-kept-cells-requires
-kept-cells-requires c κs = search needs
+array-share-prefix-colours : tie.Need-array-share-prefix-colours
+array-share-prefix-colours c =
+    let told = c .before in
+    let copied = told .before .before .before .before .before in
+    let passed = copied .before .before .before in
+    let thinned = passed .before .before in
+    let a = thinned .before .before .before .before .before .before .before .before .before .before .before .before .args in
+    let ramp = rampOf (a .kind) (a .positions .now) (a .channels .now) (a .codes .now) in
+    let thin = sym (thinned .check-thin .ensures .answer) ∙ passed .enum-told .given .1 in
+    let fine = thinned-fine ramp (a .edit) (a .threshold) _ thin in
+    let places = copied .copy .last .1 .1 .1 .1 .0 in
+    let colours = copied .copy .last .1 .1 .1 .1 .1 .0 in
+    let holds = copy-holds ramp (a .edit) fine (replicate 2049 f0) (replicate 8196 f0) places colours (length-replicate 2049 f0) (length-replicate 8196 f0) _ (copied .copy .ensures) _ (told .before .n3 .given .1) in
+    omega (arith, holds .few, copied .copy .kept .1 .1 .1 .1 .1 .0)
+
+slice-aggregate-relist-2 : tie.Need-slice-aggregate-relist-2
+slice-aggregate-relist-2 c =
+    let told = c .before .before in
+    let copied = told .before .before .before .before .before in
+    let passed = copied .before .before .before in
+    let thinned = passed .before .before in
+    let a = thinned .before .before .before .before .before .before .before .before .before .before .before .before .args in
+    let ramp = rampOf (a .kind) (a .positions .now) (a .channels .now) (a .codes .now) in
+    let thin = sym (thinned .check-thin .ensures .answer) ∙ passed .enum-told .given .1 in
+    let fine = thinned-fine ramp (a .edit) (a .threshold) _ thin in
+    let places = copied .copy .last .1 .1 .1 .1 .0 in
+    let colours = copied .copy .last .1 .1 .1 .1 .1 .0 in
+    let holds = copy-holds ramp (a .edit) fine (replicate 2049 f0) (replicate 8196 f0) places colours (length-replicate 2049 f0) (length-replicate 8196 f0) _ (copied .copy .ensures) _ (told .before .n3 .given .1) in
+    sym (length-take-le _ colours (omega (arith, holds .few, copied .copy .kept .1 .1 .1 .1 .1 .0)))
+
+kept-requires : tie.Need-kept-requires
+kept-requires c κs = search needs
 
 relist-requires : tie.Need-relist-requires
 relist-requires c κs = search needs
@@ -61,7 +126,7 @@ same-length-3 : tie.Need-same-length-3
 same-length-3 c = search needs
 
 returns : tie.Need-returns
-returns c = refresh-list-refused _ _ _ _ _ _ (sym (c .before .before .before .check-refresh .ensures) ∙ c .before .n .given .1)
+returns c = refresh-list-refused _ _ _ _ _ _ (thin-refuses _ _ _ _ _ (sym (c .before .before .before .check-thin .ensures .answer) ∙ c .before .n .given .1))
 
 same-length-4 : tie.Need-same-length-4
 same-length-4 c = search needs
@@ -72,39 +137,72 @@ same-length-5 c = search needs
 same-length-6 : tie.Need-same-length-6
 same-length-6 c = search needs
 
+returns-2 : tie.Need-returns-2
+returns-2 c =
+    let told = c in
+    let copied = told .before .before .before .before .before in
+    let passed = copied .before .before .before in
+    let thinned = passed .before .before in
+    let a = thinned .before .before .before .before .before .before .before .before .before .before .before .before .args in
+    let ramp = rampOf (a .kind) (a .positions .now) (a .channels .now) (a .codes .now) in
+    let thin = sym (thinned .check-thin .ensures .answer) ∙ passed .enum-told .given .1 in
+    let fine = thinned-fine ramp (a .edit) (a .threshold) _ thin in
+    let places = copied .copy .last .1 .1 .1 .1 .0 in
+    let colours = copied .copy .last .1 .1 .1 .1 .1 .0 in
+    let refused = edit-refused ramp (a .edit) fine (replicate 2049 f0) (replicate 8196 f0) places colours (length-replicate 2049 f0) (length-replicate 8196 f0) _ (copied .copy .ensures) _ (told .before .n2 .given .1) in
+    refresh-list-refused _ _ _ _ _ _ (by-edit ramp (a .edit) (a .threshold) _ thin refused)
+
 same-length-7 : tie.Need-same-length-7
 same-length-7 c = search needs
 
 same-length-8 : tie.Need-same-length-8
 same-length-8 c = search needs
 
-returns-2 : tie.Need-returns-2
-returns-2 c =
+same-length-9 : tie.Need-same-length-9
+same-length-9 c = search needs
+
+same-length-10 : tie.Need-same-length-10
+same-length-10 c = search needs
+
+same-length-11 : tie.Need-same-length-11
+same-length-11 c = search needs
+
+returns-3 : tie.Need-returns-3
+returns-3 c =
     let listed = c .before .before .before .before .before .before .before .before .before .before in
     let kept = listed .before .before .before .before .before .before in
-    let changed = kept .before .before .before in
-    let told = changed .before .before in
-    let checked = told .before .before in
-    let lent = checked .before .before .before .before .before .before .before .before in
-    let a = lent .before .before .before .before .args in
-    let fine = sym (checked .check-refresh .ensures) ∙ told .enum-told .given .1 in
-    let copy = take (length (a .channels .now)) (changed .change .last .1 .1 .1 .0) in
-    refresh-list-done _ _ _ _ fine (rampOf (a .kind) (a .positions .now) copy (a .codes .now)) _
-    (ap (λ (l : List Float). rampOf (a .kind) (a .positions .now) l (a .codes .now)) (changed .change .ensures))
-    (kept .kept-cells .ensures) _ _ (listed .relist .ensures)
+    let told = kept .before .before .before in
+    let copied = told .before .before .before .before .before in
+    let passed = copied .before .before .before in
+    let thinned = passed .before .before in
+    let a = thinned .before .before .before .before .before .before .before .before .before .before .before .before .args in
+    let ramp = rampOf (a .kind) (a .positions .now) (a .channels .now) (a .codes .now) in
+    let thin = sym (thinned .check-thin .ensures .answer) ∙ passed .enum-told .given .1 in
+    let fine = thinned-fine ramp (a .edit) (a .threshold) _ thin in
+    let places = copied .copy .last .1 .1 .1 .1 .0 in
+    let colours = copied .copy .last .1 .1 .1 .1 .1 .0 in
+    let holds = copy-holds ramp (a .edit) fine (replicate 2049 f0) (replicate 8196 f0) places colours (length-replicate 2049 f0) (length-replicate 8196 f0) _ (copied .copy .ensures) _ (told .before .n3 .given .1) in
+    let same = copy-is ramp (a .edit) fine (replicate 2049 f0) (replicate 8196 f0) places colours (length-replicate 2049 f0) (length-replicate 8196 f0) _ (copied .copy .ensures) _ holds in
+    refresh-list-done _ _ _ _ (by-edit ramp (a .edit) (a .threshold) _ thin (holds .edit-fine)) _ _ same (kept .kept .ensures) _ _ (listed .relist .ensures)
 
 pub refresh-list-spec : {M : Type 1} → statement M
 refresh-list-spec =
     tie.close
     (tie.spec
-    check-refresh-requires
+    check-thin-requires
     enum-known-n
     enum-told
-    slice-aggregate-change
-    change-requires
-    array-share-prefix-copy
+    slice-aggregate-copy
+    slice-aggregate-copy-2
+    copy-requires
+    enum-known-n-2
+    enum-known-n-3
+    mul-m
+    array-share-prefix-places
     slice-aggregate-relist
-    kept-cells-requires
+    array-share-prefix-colours
+    slice-aggregate-relist-2
+    kept-requires
     relist-requires
     same-length
     same-length-2
@@ -113,6 +211,10 @@ refresh-list-spec =
     same-length-4
     same-length-5
     same-length-6
+    returns-2
     same-length-7
     same-length-8
-    returns-2)
+    same-length-9
+    same-length-10
+    same-length-11
+    returns-3)

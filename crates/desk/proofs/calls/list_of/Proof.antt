@@ -33,7 +33,7 @@ same-length-4 : tie.Need-same-length-4
 same-length-4 c = search needs
 
 returns-2 : tie.Need-returns-2
-returns-2 c = let r = c .before .before .before .before in let i = r .before .before .before .before in
+returns-2 c = let r = c .before .before .before .before in let i = r .before .before .before .before .before in
     says-as (r .edited-list .ensures) (ramp-edited _ _ (i .edited .given .1))
 
 pub list-of-spec : {M : Type 1} → statement M

@@ -14,19 +14,19 @@ use Rattle.reach.proofs.stretch.outside.Reads as outside-reads
 use Rattle.reach.proofs.stretch.+mids_outside.{statement}
 use Rattle.reach.proofs.stretch.+mids_outside.Tie.{close}
 
-abbrev μ-mids-outside : Measures 1 mids-outside-kinds.ps ℕ
-μ-mids-outside κs a = a .1 .1 .1 .1 .1 .0
+abbrev μ-mids-outside : Measures 0 mids-outside-kinds.ps ℕ
+μ-mids-outside κs a = a .1 .1 .1 .0
 
-abbrev mids-outside-at : ℕ → In 1 mids-outside-kinds.ps
+abbrev mids-outside-at : ℕ → In 0 mids-outside-kinds.ps
 mids-outside-at t =
-    and 1 mids-outside-kinds.ps (is 1 mids-outside-kinds.ps μ-mids-outside t) mids-outside.Pre
+    and 0 mids-outside-kinds.ps (is 0 mids-outside-kinds.ps μ-mids-outside t) mids-outside.Pre
 
-abbrev mids-outside-below : ℕ → In 1 mids-outside-kinds.ps
+abbrev mids-outside-below : ℕ → In 0 mids-outside-kinds.ps
 mids-outside-below t =
     and
-    1
+    0
     mids-outside-kinds.ps
-    (falls 1 mids-outside-kinds.ps _<_ μ-mids-outside t)
+    (falls 0 mids-outside-kinds.ps _<_ μ-mids-outside t)
     mids-outside.Pre
 
 mids-outside-returns : (t : ℕ) → mids-outside-lts.Need-returns (
@@ -51,7 +51,7 @@ mids-outside-outside-requires : (t : ℕ) → mids-outside-lts.Need-outside-requ
   mids-outside-below t,
   mids-outside.Post,
 ) (mids-outside-at t) mids-outside.Post
-mids-outside-outside-requires t c κs = c .before .before .pre .1
+mids-outside-outside-requires t c κs = tt
 
 mids-outside-returns-2 : (t : ℕ) → mids-outside-lts.Need-returns-2 (
   outside-reads.Asked,
@@ -68,7 +68,7 @@ mids-outside-mids-outside-requires : (t : ℕ) → mids-outside-lts.Need-mids-ou
   mids-outside-below t,
   mids-outside.Post,
 ) (mids-outside-at t) mids-outside.Post
-mids-outside-mids-outside-requires t c κs = (omega (arith, c .before .before .before .before .pre .0, c .before .before .if1 .left), c .before .before .before .before .pre .1)
+mids-outside-mids-outside-requires t c κs = (omega (arith, c .before .before .before .pre .0, c .before .before .if1 .left), tt)
 
 mids-outside-returns-3 : (t : ℕ) → mids-outside-lts.Need-returns-3 (
   outside-reads.Asked,
@@ -85,7 +85,7 @@ mids-outside-mids-outside-requires-2 : (t : ℕ) → mids-outside-lts.Need-mids-
   mids-outside-below t,
   mids-outside.Post,
 ) (mids-outside-at t) mids-outside.Post
-mids-outside-mids-outside-requires-2 t c κs = (omega (arith, c .before .before .before .before .before .before .pre .0, c .before .before .before .before .if1 .left), c .before .before .before .before .before .before .pre .1)
+mids-outside-mids-outside-requires-2 t c κs = (omega (arith, c .before .before .before .before .before .pre .0, c .before .before .before .before .if1 .left), tt)
 
 mids-outside-returns-4 : (t : ℕ) → mids-outside-lts.Need-returns-4 (
   outside-reads.Asked,

@@ -14,7 +14,7 @@ lies-before-requires-2 : tie.Need-lies-before-requires-2
 lies-before-requires-2 c κs = search needs
 
 returns : tie.Need-returns
-returns c = sym (before-clear _ _ _ _ _ (c .before .before .before .before .before .pre .1 .0) (c .before .before .before .before .before .pre .1 .1) (sym (c .before .before .before .lies-before .ensures) ∙ c .before .before .if1 .taken) (sym (c .before .lies-before2 .ensures) ∙ c .if2 .taken))
+returns c = sym (before-clear _ _ _ (c .before .before .before .before .pre .0) (c .before .before .before .before .pre .1) (sym (c .before .before .before .lies-before .ensures) ∙ c .before .before .if1 .taken) (sym (c .before .lies-before2 .ensures) ∙ c .if2 .taken))
 
 lies-after-requires : tie.Need-lies-after-requires
 lies-after-requires c κs = search needs
@@ -23,7 +23,7 @@ lies-after-requires-2 : tie.Need-lies-after-requires-2
 lies-after-requires-2 c κs = search needs
 
 returns-2 : tie.Need-returns-2
-returns-2 c = sym (after-clear _ _ _ _ _ (c .before .before .before .before .before .before .before .pre .1 .0) (c .before .before .before .before .before .before .before .pre .1 .1) (sym (c .before .before .before .lies-after .ensures) ∙ c .before .before .if3 .taken) (sym (c .before .lies-after2 .ensures) ∙ c .if4 .taken))
+returns-2 c = sym (after-clear _ _ _ (c .before .before .before .before .before .before .pre .0) (c .before .before .before .before .before .before .pre .1) (sym (c .before .before .before .lies-after .ensures) ∙ c .before .before .if3 .taken) (sym (c .before .lies-after2 .ensures) ∙ c .if4 .taken))
 
 outside-requires : tie.Need-outside-requires
 outside-requires c κs = search needs

@@ -1,0 +1,9 @@
+pub mod Splices
+pub mod Recoloured
+pub mod ColourAway
+pub mod Shared
+pub mod SharedStops
+pub mod StillValid
+pub mod EditRules
+pub mod Copying
+pub mod EditSound

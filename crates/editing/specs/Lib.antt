@@ -1,0 +1,4 @@
+pub mod Edited
+pub mod Rules
+pub mod Reached
+pub mod Copied

@@ -1,0 +1,15 @@
+-- The sorts of edit by their codes. A code that names none is an edit of no place: the first stop cannot be removed.
+use Prim.Native.Nat.{ℕ}
+use mathlib.Core.Bool.{cond}
+use lib.Dec.{eqb}
+use lib.Ieee.{Float}
+use Rattle.blend.specs.declared.Rgba.{Rgba}
+use Rattle.editing.specs.declared.Edit.{Edit}
+use Rattle.editing.specs.declared.Edit.the-variants.{Colour, Move, Add, Remove}
+
+unfoldable pub editOf : ℕ → ℕ → Float → Rgba → Edit
+editOf sort k p c =
+    cond (eqb sort 0) (Colour k c)
+    (cond (eqb sort 1) (Move k p)
+    (cond (eqb sort 2) (Add k p c)
+    (cond (eqb sort 3) (Remove k) (Remove 0))))
