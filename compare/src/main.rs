@@ -7,6 +7,7 @@ mod count;
 mod counts;
 mod files;
 mod gimp_texts;
+mod hues;
 mod limits;
 mod list_limits;
 mod lists;
@@ -24,6 +25,7 @@ mod report;
 mod roots;
 mod sample;
 mod sharp;
+mod shown;
 mod sine;
 mod smallest;
 mod texts;
@@ -37,23 +39,25 @@ use std::path::Path;
 use std::process::ExitCode;
 
 const USAGE: &str = "compare COMMAND [N] [--seed S] [--case I]
-  roots tokens colours sine sharp texts counts torn lists refresh marks many   one comparison, of N inputs
+  roots tokens colours sine hues sharp texts counts torn lists refresh marks many   one comparison, of N inputs
   all [PERCENT]      every comparison, at its full size or at that part of it
   differences        the smallest inputs of docs/DIFFERENCES.md, with the Rust's answers and ours
   files FOLDER       the .ggr files in it, as compare/fetch gets them
   bench [TABLE]      times beside the Rust's: root token paint files read flatten refresh
   count [TABLE]      instructions in place of times, by valgrind's callgrind
   typing             request (x): how much of a fresh flattening a keystroke is, and whether its two figures hold
+  shown FILE ..      the colours of .ggr files at 256 points, as text, for compare/gimp.py
   sample FOLDER      the stored answers of the program replay, as FOLDER/stdin and FOLDER/stdout";
 
 type Comparison = (&'static str, fn(&Options) -> Vec<Tally>, u64);
 
 /// Each comparison with its full size.
-const COMPARISONS: [Comparison; 12] = [
+const COMPARISONS: [Comparison; 13] = [
     ("roots", roots::run, 1 << 32),
     ("tokens", tokens::run, 100_000_000),
     ("colours", colours::run, 2_000_000),
     ("sine", sine::run, 12_000_000),
+    ("hues", hues::run, 12_000_000),
     ("sharp", sharp::run, 1_000_000),
     ("texts", texts::run, 200_000),
     ("counts", counts::run, 400_000),
@@ -97,6 +101,10 @@ fn run(words: &[String]) -> Result<bool, String> {
         }
         "count" => count::run(rest),
         "typing" => Ok(typing::run()),
+        "shown" => {
+            shown::run(rest, 256);
+            Ok(true)
+        }
         "differences" => {
             smallest::run();
             Ok(true)
