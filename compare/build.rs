@@ -4,5 +4,7 @@ fn main() {
     let folder = root.join("target").join("staticlib");
     println!("cargo:rustc-link-search=native={}", folder.display());
     println!("cargo:rustc-link-lib=static=colorgrad_c");
+    // `%` of two f32 is a call of fmodf
+    println!("cargo:rustc-link-lib=m");
     println!("cargo:rerun-if-changed={}", folder.join("libcolorgrad_c.a").display());
 }

@@ -60,7 +60,7 @@ def segment_of(line, at, foreground, background):
     if any(not 0 <= code <= most for code, most in zip(codes, (5, 2, 4, 4))):
         raise Refusal(12, at)
     outside = codes[0] == 2 and not numbers[0] <= numbers[1] <= numbers[2]
-    if codes[0] == 1 or codes[1] != 0 or outside:
+    if codes[0] == 1 or outside:
         raise Refusal(16, at)
     left, right = (colour_of(code, tuple(own), foreground, background) for code, own in ((codes[2], numbers[3:7]), (codes[3], numbers[7:11])))
     return numbers[:3], left + right, codes[:2]

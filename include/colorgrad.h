@@ -1,7 +1,8 @@
 /* Guineaplume: colour ramps checked, evaluated, flattened to lists of stops, and refreshed after an edit.
  *
- * C99, and usable from C++. Link target/staticlib/libcolorgrad_c.a, which `rt staticlib colorgrad_c` makes. The library
- * has no state and takes nothing from the heap: any threads may call it at once.
+ * C99, and usable from C++. Link target/staticlib/libcolorgrad_c.a, which `rt staticlib colorgrad_c` makes, and C's own
+ * -lm, for the remainder of two floats. The library has no state and takes nothing from the heap: any threads may call it at
+ * once.
  *
  * A slice is a pointer and how many items it has. No call needs a check before it: with length 0 the pointer may be null,
  * lengths may disagree, numbers may be anything; what cannot be used is refused with a number below. The one thing to keep
@@ -35,14 +36,17 @@ extern "C" {
 #define COLORGRAD_EDIT_ADD 2u    /* a stop more, with the position and the colour; stop is the index that it gets */
 #define COLORGRAD_EDIT_REMOVE 3u /* stop goes */
 
-/* ---- codes of a GIMP segment that are carried: five of blending, one of colouring. The middle of a sinusoidal segment must
- * not be outside its ends, or the segment counts as not carried. */
+/* ---- codes of a GIMP segment that are carried: five of blending, three of colouring. The middle of a sinusoidal segment
+ * must not be outside its ends, or the segment counts as not carried. With HSV the colours are mixed as hue, saturation and
+ * value, by docs/HSV.md: hues rise, or fall, from the left one to the right one, and equal hues go the full turn. */
 #define COLORGRAD_BLEND_LINEAR 0u
 #define COLORGRAD_BLEND_SINUSOIDAL 2u
 #define COLORGRAD_BLEND_SPHERICAL_INCREASING 3u
 #define COLORGRAD_BLEND_SPHERICAL_DECREASING 4u
 #define COLORGRAD_BLEND_STEP 5u
 #define COLORGRAD_COLOURING_RGB 0u
+#define COLORGRAD_COLOURING_HSV_COUNTER_CLOCKWISE 1u /* hues rise */
+#define COLORGRAD_COLOURING_HSV_CLOCKWISE 2u         /* hues fall */
 
 /* ---- limits */
 #define COLORGRAD_MOST_STOPS 2048u     /* of a ramp */
@@ -110,7 +114,7 @@ static inline const char *colorgrad_message(uint32_t refusal)
     case COLORGRAD_FEW_LINES: return "the GIMP text has fewer segments than it counts";
     case COLORGRAD_NO_SEGMENT: return "the GIMP text has no segment";
     case COLORGRAD_TOO_MANY_SEGMENTS: return "the GIMP text counts more segments than there is room for";
-    case COLORGRAD_NOT_CARRIED: return "a segment is curved or coloured by hue, or sinusoidal with its middle outside its ends";
+    case COLORGRAD_NOT_CARRIED: return "a segment is curved, or sinusoidal with its middle outside its ends";
     case COLORGRAD_NOT_BUILT: return "no sharp ramp can be built of so many colours on this domain";
     case COLORGRAD_TORN: return "the segments of the GIMP text do not run from 0 to 1, each joined to the next";
     case COLORGRAD_UNWRITABLE: return "a number of the list cannot be written, or it does not run from 0 to 1";

@@ -1,5 +1,6 @@
 //! Real GIMP files: read or refused as the Rust's reader and document 01 have it, with the Rust's colours and lists.
 
+use crate::hues;
 use crate::lists::{self, MOST_POINTS};
 use crate::options::Options;
 use crate::oracle;
@@ -30,6 +31,12 @@ pub fn run(options: &Options, folder: &Path) -> Vec<Tally> {
 pub fn ramps(folder: &Path) -> Vec<Ramp> {
     let texts = sorted(folder).into_iter().filter_map(|file| std::fs::read(file).ok());
     texts.filter_map(|text| ramp(&whole(text))).collect()
+}
+
+/// The segments of one file, or why there are none.
+pub fn read_ramp(path: &Path) -> Result<Ramp, String> {
+    let text = std::fs::read(path).map_err(|e| e.to_string())?;
+    ramp(&whole(text)).ok_or_else(|| "by the library".to_string())
 }
 
 /// A text to be read, with room for all that may be.
@@ -68,13 +75,15 @@ fn compare([tally, colours, flat]: [&mut Tally; 3], case: u64, text: &[u8]) {
     colours.inputs(POINTS as u64);
     colours.answered(POINTS as u64);
     let sine = sine::has_sine(&ramp);
-    let near = got.iter().zip(&want).all(|(a, b)| (a - b).abs() <= sine::MOST_GAP);
+    let (most, class) =
+        if hues::has_hue(&ramp) { (hues::MOST_GAP, hues::CLASS) } else { (sine::MOST_GAP, sine::CLASS) };
+    let near = got.iter().zip(&want).all(|(a, b)| (a - b).abs() <= most);
     if refusal != 0 || !(all_same(&got, &want) || sine && near) {
         colours.differs(case, || format!("painted with {refusal}"));
     }
     if sine {
         // its list is of its own colours
-        colours.listed(sine::CLASS);
+        colours.listed(class);
         return;
     }
     for threshold in [0.001, 0.007] {

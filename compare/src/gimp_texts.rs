@@ -78,7 +78,7 @@ fn segment(random: &mut Random, i: usize, n: usize, plain: bool) -> String {
         &["1", "2.9", "6", "-1", "0.9", "-0.9", "5.99", "5.99999999", "+3."],
         rare,
     ));
-    words.push(code(random, &["0"], &["1", "2", "3", "0.99", "-0.5", "-1", "0.99999999"], rare));
+    words.push(code(random, &["0", "0", "0", "1", "2"], &["2.9", "3", "0.99", "-0.5", "-1", "0.99999999"], rare));
     if random.one_in(2) {
         for _ in 0..2 {
             words.push(code(random, &["0", "1", "2", "3", "4"], &["5", "-1", "4.9", "-0.0", "9999999999"], rare));

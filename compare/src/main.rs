@@ -9,6 +9,7 @@ mod edits;
 mod files;
 mod gimp_texts;
 mod judge;
+mod hues;
 mod limits;
 mod list_limits;
 mod lists;
@@ -28,6 +29,7 @@ mod report;
 mod roots;
 mod sample;
 mod sharp;
+mod shown;
 mod sine;
 mod smallest;
 mod steps;
@@ -52,16 +54,18 @@ const USAGE: &str = "compare COMMAND [N] [--seed S] [--case I]
   count [TABLE]      instructions in place of times, by valgrind's callgrind
   own [N] [FOLDER]   how many of our own lists are turned down, of N random ramps and of the .ggr files in FOLDER
   typing             request (x): how much of a fresh flattening a keystroke is, and whether its two figures hold
+  shown FILE ..      the colours of .ggr files at 256 points, as text, for compare/gimp_colours.py
   sample FOLDER      the stored answers of the program replay, as FOLDER/stdin and FOLDER/stdout";
 
 type Comparison = (&'static str, fn(&Options) -> Vec<Tally>, u64);
 
 /// Each comparison with its full size.
-const COMPARISONS: [Comparison; 18] = [
+const COMPARISONS: [Comparison; 19] = [
     ("roots", roots::run, 1 << 32),
     ("tokens", tokens::run, 100_000_000),
     ("colours", colours::run, 2_000_000),
     ("sine", sine::run, 12_000_000),
+    ("hues", hues::run, 12_000_000),
     ("sharp", sharp::run, 1_000_000),
     ("texts", texts::run, 200_000),
     ("counts", counts::run, 400_000),
@@ -118,6 +122,10 @@ fn run(words: &[String]) -> Result<bool, String> {
         "count" => count::run(rest),
         "typing" => Ok(typing::run()),
         "own" => Ok(own_lists::run(&Options::read(rest, 100_000)?)),
+        "shown" => {
+            shown::run(rest, 256);
+            Ok(true)
+        }
         "differences" => {
             smallest::run();
             Ok(true)

@@ -31,7 +31,7 @@ pub fn built(positions: &[f32], reds: &[f32]) -> Result<Boxed, String> {
 
 /// What the Rust makes of a ramp that is refused here.
 pub enum Unchecked {
-    /// Lengths that disagree, and lent sharp stops that do not pass the check; colouring by hue is not run.
+    /// Lengths that disagree, and lent sharp stops that do not pass the check; codes of colouring that there are not.
     NoSuchInput,
     Refused,
     Panics,
@@ -42,7 +42,7 @@ pub fn unchecked(ramp: &Ramp) -> Unchecked {
     let (positions, channels, codes) = (ramp.positions.len(), ramp.channels.len(), ramp.codes.len());
     let is_whole = match ramp.kind {
         Kind::Gimp => {
-            (3 * codes, 8 * codes) == (2 * positions, 2 * channels) && ramp.codes.chunks(2).all(|c| c[1..] == [0])
+            (3 * codes, 8 * codes) == (2 * positions, 2 * channels) && ramp.codes.chunks(2).all(|c| c[1] <= 2)
         }
         Kind::Sharp => ramp.refusal() == 0,
         _ => channels == 4 * positions && codes == 0,
@@ -90,6 +90,12 @@ fn segments_text(ramp: &Ramp) -> String {
 }
 
 pub type Segments = Vec<door::Segment>;
+
+/// A colour as the Rust keeps it in a segment: of one coloured by hue, its hue, saturation and value.
+pub fn kept(colouring: u8, c: &[f32]) -> [f32; 4] {
+    let colour = Color::new(c[0], c[1], c[2], c[3]);
+    if colouring == 0 { colour.to_array() } else { colour.to_hsva() }
+}
 
 /// A GIMP text: gradient, segments and name, or the message and its line.
 pub fn read(

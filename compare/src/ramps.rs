@@ -93,7 +93,7 @@ impl Ramp {
 
 /// A sinusoidal segment only where its middle is not outside its ends.
 fn carried(codes: &[u8], p: &[f32]) -> bool {
-    codes[1] == 0 && (matches!(codes[0], 0 | 3 | 4 | 5) || codes[0] == 2 && p[0] <= p[1] && p[1] <= p[2])
+    codes[1] <= 2 && (matches!(codes[0], 0 | 3 | 4 | 5) || codes[0] == 2 && p[0] <= p[1] && p[1] <= p[2])
 }
 
 /// A ramp that passes the check; no segment is sinusoidal, since these are compared by themselves (`sine`).
@@ -201,7 +201,8 @@ fn random_segments(random: &mut Random) -> Ramp {
         positions.extend([left, if middle.is_finite() { middle } else { left }, right]);
     }
     let channels = random_channels(random, 8 * n);
-    let codes = (0..n).flat_map(|_| [random.pick(&[0, 0, 3, 4, 5]), 0]).collect();
+    let colourings: &[u8] = random.pick(&[&[0], &[0], &[0], &[0, 1, 2]]);
+    let codes = (0..n).flat_map(|_| [random.pick(&[0, 0, 3, 4, 5]), random.pick(colourings)]).collect();
     Ramp { kind: Kind::Gimp, positions, channels, codes }
 }
 

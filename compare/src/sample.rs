@@ -386,8 +386,11 @@ fn gimp(options: &Options, words: &mut Words) {
         let mut random = Random::of_case(options.seed, case);
         let input = loop {
             let input = texts::Input { room: MOST_SEGMENTS, ..texts::random_input(&mut random) };
-            let refusal = texts::expected(&input).0.err().map_or(0, |refused| refused.0);
-            if input.text.len() <= LONG_TEXT && is_wanted(&OF_TEXTS, case, refusal) {
+            let answer = texts::expected(&input).0;
+            // of a segment coloured by hue the Rust keeps no channels
+            let by_hue = answer.as_ref().is_ok_and(|(segments, _)| segments.iter().any(|s| s.2[1] != 0));
+            let refusal = answer.err().map_or(0, |refused| refused.0);
+            if !by_hue && input.text.len() <= LONG_TEXT && is_wanted(&OF_TEXTS, case, refusal) {
                 break input;
             }
         };

@@ -43,7 +43,7 @@ pub fn has_sine(ramp: &Ramp) -> bool {
 }
 
 /// A ramp's segments run from 0 to 1, with random ends, middles and channels; or there is one from 0 to 1.
-fn random_ramp(random: &mut Random) -> Ramp {
+pub fn random_ramp(random: &mut Random) -> Ramp {
     let n = random.from_to(1, 6);
     let mut ends: Vec<f32> = (1..n).map(|_| random.unit()).collect();
     ends.extend([0.0, 1.0]);
@@ -60,7 +60,7 @@ fn random_ramp(random: &mut Random) -> Ramp {
 }
 
 /// Points inside a segment, each with its segment.
-fn random_points(random: &mut Random, ramp: &Ramp) -> Vec<(usize, f32)> {
+pub fn random_points(random: &mut Random, ramp: &Ramp) -> Vec<(usize, f32)> {
     let n = ramp.codes.len() / 2;
     let mut points = Vec::new();
     for _ in 0..2 * POINTS {

@@ -129,7 +129,7 @@ fn texts() {
     let many = format!("{head}257\n{}", format!("{SEGMENT}\n").repeat(257));
     let one = |segment: &str| format!("{head}1\n{segment}\n").into_bytes();
     let count = |count: &str| format!("{head}{count}\n{SEGMENT}\n").into_bytes();
-    let inputs: [(&str, Vec<u8>, f32); 16] = [
+    let inputs: [(&str, Vec<u8>, f32); 15] = [
         ("a name in UTF-8", format!("GIMP Gradient\nName: \u{e9}\n1\n{SEGMENT}\n").into_bytes(), 0.0),
         ("line 1 not UTF-8", [b"\xff", &long.as_bytes()[13..]].concat(), 0.0),
         ("65,537 bytes", [long.as_bytes(), &vec![b' '; 65_537 - long.len()]].concat(), 0.0),
@@ -143,7 +143,6 @@ fn texts() {
         ("blending 1", one("0 .5 1 0 0 0 1 1 1 1 1 1 0"), 0.0),
         ("blending 2, middle outside", one("0 1.5 1 0 0 0 1 1 1 1 1 2 0"), 0.0),
         ("blending 2, .6 .5 .4", one(".6 .5 .4 0 0 0 1 1 1 1 1 2 0"), 0.0),
-        ("colouring 1", one("0 .5 1 0 0 0 1 1 1 1 1 0 1"), 0.0),
         ("blending 1, then no segment", format!("{head}2\n0 .5 1 0 0 0 1 1 1 1 1 1 0\nx\n").into_bytes(), 0.0),
         ("foreground red not-a-number", long.clone().into_bytes(), NAN),
     ];

@@ -79,7 +79,8 @@ pub fn read(tally: &mut Tally, case: u64, input: &Input) {
 fn holds(segments: &oracle::Segments, out: (&[f32], &[f32], &[u8])) -> bool {
     let n = segments.len();
     segments.iter().enumerate().all(|(i, (p, c, k))| {
-        all_same(&out.0[3 * i..3 * i + 3], p) && all_same(&out.1[8 * i..8 * i + 8], c) && out.2[2 * i..2 * i + 2] == *k
+        let ends = out.1[8 * i..8 * i + 8].chunks(4).flat_map(|end| oracle::kept(k[1], end));
+        all_same(&out.0[3 * i..3 * i + 3], p) && all_same(&ends.collect::<Vec<f32>>(), c) && out.2[2 * i..2 * i + 2] == *k
     }) && out.0[3 * n..].iter().chain(&out.1[8 * n..]).all(|x| *x == RUBBISH)
         && out.2[2 * n..].iter().all(|k| *k == RUBBISH_CODE)
 }
@@ -134,7 +135,7 @@ fn listed(input: &Input, error: Option<(&'static str, usize)>) -> Option<(u32, u
             return Some((12, i + 1, "12: an exponent, or more than 18 digits"));
         }
         if not_carried(line) {
-            return Some((16, i + 1, "16: curved or by hue"));
+            return Some((16, i + 1, "16: curved"));
         }
         if sine_outside(line) {
             return Some((16, i + 1, "16: sinusoidal, its middle outside"));
@@ -191,9 +192,9 @@ fn foreign_number(line: &[u8]) -> bool {
     words(line).into_iter().any(|word| !grammar(word) && parsed(word).is_some())
 }
 
-/// A blending or a colouring that is not carried, in a line that the Rust takes.
+/// A blending that is not carried, in a line that the Rust takes.
 fn not_carried(line: &[u8]) -> bool {
-    code(line, 11) == 1 || code(line, 12) != 0
+    code(line, 11) == 1
 }
 
 /// A sinusoidal segment whose middle is outside its ends.

@@ -60,7 +60,8 @@ pub enum Kind {
 /// A ramp as it is lent.
 ///
 /// Stops are n positions and 4n channels, with no codes. GIMP segments are 3n positions (left, middle, right), 8n channels
-/// (left, then right) and 2n codes (blending, colouring).
+/// (left, then right) and 2n codes (blending, colouring). Colouring 0 is RGB; 1 and 2 are HSV, with hues that rise and that
+/// fall from the left colour to the right one.
 #[derive(Clone, Copy, PartialEq, Debug)]
 pub struct Ramp<'a> {
     /// What the slices stand for.

@@ -47,7 +47,7 @@ pub enum Refusal {
     NoSegment = 14,
     /// 15: more segments counted than 256, or than there is room for.
     TooManySegments = 15,
-    /// 16: a valid segment that is curved or coloured by hue, or sinusoidal with its middle outside its ends.
+    /// 16: a valid segment that is curved, or sinusoidal with its middle outside its ends.
     NotCarried = 16,
     /// 17: a sharp ramp of no colours or more than 256, or on a domain on which it cannot be built.
     NotBuilt = 17,
@@ -112,7 +112,7 @@ impl Refusal {
             Refusal::NoSegment => "the GIMP text has no segment",
             Refusal::TooManySegments => "the GIMP text counts more segments than there is room for",
             Refusal::NotCarried => {
-                "a segment is curved or coloured by hue, or sinusoidal with its middle outside its ends"
+                "a segment is curved, or sinusoidal with its middle outside its ends"
             }
             Refusal::NotBuilt => "no sharp ramp can be built of so many colours on this domain",
             Refusal::Torn => "the segments of the GIMP text do not run from 0 to 1, each joined to the next",

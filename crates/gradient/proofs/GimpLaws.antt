@@ -13,12 +13,13 @@ use Rattle.refusals.specs.Refusals.{misshapen, notFinite}
 use Rattle.refusals.specs.Limits.{mostSegments}
 use Rattle.float.proofs.Flags.{both-l, both-r}
 use Rattle.sine.specs.Wave.{waveOf}
+use Rattle.hsv.specs.Mix.{thereAndBack, counterClockwise, clockwise}
 use Rattle.blend.specs.Blend.{linear, black}
 use Rattle.blend.specs.Finite.{allFinite}
 use Rattle.blend.specs.declared.Rgba.{Rgba}
 use Rattle.stops.specs.Stops.{colourAt}
 use Rattle.stops.specs.declared.Checked.the-variants.{Fine, Refused}
-use Rattle.gradient.specs.Gimp.{segments, leftAt, middleAt, rightAt, blendingAt, colouringAt, stepCode, sinusoidalCode, increasingCode, decreasingCode, inOrder, carried, carriedAt, allCarried, gimpShaped, gimpCheck, segmentFound, along, linearFactor, increasing, decreasing, bent, unwaved, waved, blended, gimpSegment, segmentColour, offDomain, gimpColour}
+use Rattle.gradient.specs.Gimp.{segments, leftAt, middleAt, rightAt, blendingAt, colouringAt, stepCode, sinusoidalCode, increasingCode, decreasingCode, risingCode, fallingCode, inOrder, carried, carriedAt, allCarried, gimpShaped, gimpCheck, segmentFound, along, linearFactor, increasing, decreasing, bent, unwaved, waved, isHued, factorOf, turned, hued, blended, gimpSegment, segmentColour, offDomain, gimpColour}
 use Rattle.gradient.specs.declared.gimp.Segment.{Segment}
 
 -- ---- a code past the end
@@ -133,14 +134,50 @@ module _ (g : Segment) (pivot place : Float) where
   unfolding waved
   waved-at e h z = z ∙ ap (λ (w : Float). linear (g .lcolor) (g .rcolor) w) (h ∙ ap waveOf e)
 
-  -- the one rule, by the blending
-  pub by-wave : {z : Rgba} → g .blending ≡ sinusoidalCode → z ≡ waved g pivot place → z ≡ blended g pivot place
-  unfolding blended
-  by-wave a z = z ∙ simp (eq-eqb (g .blending) sinusoidalCode a)
+  -- by hue
+  pub hued-right : {z : Rgba} → g .blending ≡ stepCode → le pivot place ≡ true → z ≡ thereAndBack (g .rcolor) → z ≡ hued g pivot place
+  unfolding hued
+  hued-right a b z = z ∙ simp (eq-eqb (g .blending) stepCode a, b)
 
-  pub by-rest : {z : Rgba} → (g .blending ≡ sinusoidalCode → ⊥) → z ≡ unwaved g pivot place → z ≡ blended g pivot place
+  pub hued-left : {z : Rgba} → g .blending ≡ stepCode → le pivot place ≡ false → z ≡ thereAndBack (g .lcolor) → z ≡ hued g pivot place
+  unfolding hued
+  hued-left a b z = z ∙ simp (eq-eqb (g .blending) stepCode a, b)
+
+  pub hued-at : (g .blending ≡ stepCode → ⊥) → {x : Float} {z : Rgba} → x ≡ factorOf (g .blending) pivot place → z ≡ turned (g .colouring) (g .lcolor) (g .rcolor) x → z ≡ hued g pivot place
+  unfolding hued
+  hued-at a e z = z ∙ ap (turned (g .colouring) (g .lcolor) (g .rcolor)) e ∙ simp (ne-eqb (g .blending) stepCode a)
+
+  -- the one rule, by the colouring and the blending
+  pub by-hue : {b : Bool} {z : Rgba} → b ≡ isHued (g .colouring) → b ≡ true → z ≡ hued g pivot place → z ≡ blended g pivot place
   unfolding blended
-  by-rest a z = z ∙ simp (ne-eqb (g .blending) sinusoidalCode a)
+  by-hue a e z = z ∙ simp (sym a ∙ e)
+
+  pub by-wave : {b : Bool} {z : Rgba} → b ≡ isHued (g .colouring) → b ≡ false → g .blending ≡ sinusoidalCode → z ≡ waved g pivot place → z ≡ blended g pivot place
+  unfolding blended
+  by-wave a e d z = z ∙ simp (sym a ∙ e, eq-eqb (g .blending) sinusoidalCode d)
+
+  pub by-rest : {b : Bool} {z : Rgba} → b ≡ isHued (g .colouring) → b ≡ false → (g .blending ≡ sinusoidalCode → ⊥) → z ≡ unwaved g pivot place → z ≡ blended g pivot place
+  unfolding blended
+  by-rest a e d z = z ∙ simp (sym a ∙ e, ne-eqb (g .blending) sinusoidalCode d)
+
+-- ---- the factor and the turn of a segment coloured by hue
+module _ (k : ℕ) (pivot place : Float) {x y : Float} (e : x ≡ linearFactor pivot place) where
+  pub factor-wave : k ≡ sinusoidalCode → y ≡ waveOf x → y ≡ factorOf k pivot place
+  unfolding factorOf
+  factor-wave a h = h ∙ ap waveOf e ∙ simp (eq-eqb k sinusoidalCode a)
+
+  pub factor-bent : (k ≡ sinusoidalCode → ⊥) → y ≡ bent k x → y ≡ factorOf k pivot place
+  unfolding factorOf
+  factor-bent a h = h ∙ ap (bent k) e ∙ simp (ne-eqb k sinusoidalCode a)
+
+module _ (k : ℕ) (p q : Rgba) (f : Float) {z : Rgba} where
+  pub turned-down : k ≡ fallingCode → z ≡ clockwise p q f → z ≡ turned k p q f
+  unfolding turned
+  turned-down a e = e ∙ simp (eq-eqb k fallingCode a)
+
+  pub turned-up : (k ≡ fallingCode → ⊥) → z ≡ counterClockwise p q f → z ≡ turned k p q f
+  unfolding turned
+  turned-up a e = e ∙ simp (ne-eqb k fallingCode a)
 
 pub segment-coloured : (g : Segment) (t : Float) {pivot place : Float} {z : Rgba} → pivot ≡ along (g .left) (g .right) (g .middle) → place ≡ along (g .left) (g .right) t → z ≡ blended g pivot place → z ≡ segmentColour g t
 unfolding segmentColour

@@ -1,4 +1,4 @@
--- GIMP segments: their check, and their colour at t. The evaluation of item 6 of document 01's 'Ramps carried', and the last point of 'What a GIMP file may hold'; document 02 (i).
+-- GIMP segments: their check, and their colour at t. The evaluation of item 6 of document 01's 'Ramps carried', and the last point of 'What a GIMP file may hold'; document 02 (i), (ix).
 -- Segment i has positions 3i, 3i + 1, 3i + 2 (left, middle, right), channels 8i to 8i + 7 (left r g b a, right r g b a) and codes 2i, 2i + 1 (blending, colouring).
 -- Past the end of a list a number is not-a-number and a code is 0, so that any lists at all have a colour.
 use Prim.Native.Nat.{ℕ, zero, suc, _+_, _*_, _/_}
@@ -12,6 +12,7 @@ use Rattle.refusals.specs.Limits.{mostSegments}
 use Rattle.float.specs.F32.{_⊕_, _⊖_, _⊗_, _⊘_, f0, f1, half, epsilon}
 use Rattle.sqrt.specs.Root.{rootOf}
 use Rattle.sine.specs.Wave.{waveOf}
+use Rattle.hsv.specs.Mix.{thereAndBack, counterClockwise, clockwise}
 use Rattle.blend.specs.Blend.{linear, black}
 use Rattle.blend.specs.Finite.{allFinite}
 use Rattle.blend.specs.declared.Rgba.{Rgba}
@@ -51,7 +52,7 @@ gimpSegment ps cs ks i = record {
   colouring = colouringAt ks i;
 }
 
--- ---- the kinds carried: blending linear, sinusoidal, spherical increasing, spherical decreasing, step; colouring RGB
+-- ---- the kinds carried: blending linear, sinusoidal, spherical increasing, spherical decreasing, step; colouring RGB, and HSV with hues that rise or fall
 abbrev pub linearCode : ℕ
 linearCode = 0
 
@@ -70,6 +71,12 @@ stepCode = 5
 abbrev pub rgbCode : ℕ
 rgbCode = 0
 
+abbrev pub risingCode : ℕ
+risingCode = 1
+
+abbrev pub fallingCode : ℕ
+fallingCode = 2
+
 -- the middle is not outside the ends. Values are compared, so that -0 is 0
 abbrev pub inOrder : Float → Float → Float → Bool
 inOrder left middle right = le left middle && le middle right
@@ -77,7 +84,7 @@ inOrder left middle right = le left middle && le middle right
 -- A sinusoidal segment is carried where its middle is not outside its ends: document 02 (i). Of the others nothing is asked but the codes.
 unfoldable pub carried : ℕ → ℕ → Float → Float → Float → Bool
 carried blending colouring left middle right =
-    eqb colouring rgbCode
+    leb colouring fallingCode
     && cond (eqb blending sinusoidalCode) (inOrder left middle right)
     (eqb blending linearCode || eqb blending increasingCode || eqb blending decreasingCode || eqb blending stepCode)
 
@@ -143,9 +150,8 @@ unfoldable pub bent : ℕ → Float → Float
 bent blending f =
     cond (eqb blending increasingCode) (increasing f) (cond (eqb blending decreasingCode) (decreasing f) f)
 
--- ---- the colour
--- a segment's colour at a place, where `pivot` is the place of its middle and the sine is not asked for. A step gives one of the two colours itself, and a
--- colouring that is not carried is taken as RGB
+-- ---- the colour, channel by channel
+-- a segment's colour at a place, where `pivot` is the place of its middle and the sine is not asked for. A step gives one of the two colours itself
 unfoldable pub unwaved : Segment → Float → Float → Rgba
 unwaved g pivot place =
     cond (eqb (g .blending) stepCode)
@@ -156,9 +162,30 @@ unwaved g pivot place =
 unfoldable pub waved : Segment → Float → Float → Rgba
 waved g pivot place = linear (g .lcolor) (g .rcolor) (waveOf (linearFactor pivot place))
 
--- the one rule of blending
+-- ---- the colour, by hue
+abbrev pub isHued : ℕ → Bool
+isHued colouring = eqb colouring risingCode || eqb colouring fallingCode
+
+-- the factor of any blending
+unfoldable pub factorOf : ℕ → Float → Float → Float
+factorOf blending pivot place =
+    cond (eqb blending sinusoidalCode) (waveOf (linearFactor pivot place)) (bent blending (linearFactor pivot place))
+
+unfoldable pub turned : ℕ → Rgba → Rgba → Float → Rgba
+turned colouring p q f = cond (eqb colouring fallingCode) (clockwise p q f) (counterClockwise p q f)
+
+-- a step shows one of the two colours, converted there and back
+unfoldable pub hued : Segment → Float → Float → Rgba
+hued g pivot place =
+    cond (eqb (g .blending) stepCode)
+    (thereAndBack (cond (le pivot place) (g .rcolor) (g .lcolor)))
+    (turned (g .colouring) (g .lcolor) (g .rcolor) (factorOf (g .blending) pivot place))
+
+-- ---- the one rule of blending. A colouring that is not carried is taken as RGB
 unfoldable pub blended : Segment → Float → Float → Rgba
-blended g pivot place = cond (eqb (g .blending) sinusoidalCode) (waved g pivot place) (unwaved g pivot place)
+blended g pivot place =
+    cond (isHued (g .colouring)) (hued g pivot place)
+    (cond (eqb (g .blending) sinusoidalCode) (waved g pivot place) (unwaved g pivot place))
 
 -- a segment at t, which need not lie in it
 unfoldable pub segmentColour : Segment → Float → Rgba

@@ -4,6 +4,7 @@ use crate::gimp::SPHERICAL_DECREASING;
 use crate::gimp::SPHERICAL_INCREASING;
 use crate::gimp::STEP;
 use crate::gimp::Segment;
+use crate::hued;
 use blend::Rgba;
 use blend::utils;
 ghost use mathlib.Core.Path.{_≡_};
@@ -23,7 +24,7 @@ pub fn place_along(left: f32, right: f32, x: f32) -> f32
     (x - left) / length
 }
 
-fn calc_linear_factor(middle: f32, place: f32) -> f32
+pub(crate) fn calc_linear_factor(middle: f32, place: f32) -> f32
     ensures { λ r. ⌜ r ≡ linearFactor middle place ⌝ }
 {
     if place <= middle {
@@ -51,7 +52,7 @@ fn spherical_decreasing(f: f32) -> f32
 }
 
 // The factor of every blending but the sinusoidal one.
-fn bend(blending: u8, f: f32) -> f32
+pub(crate) fn bend(blending: u8, f: f32) -> f32
     ensures { λ r. ⌜ r ≡ bent blending f ⌝ }
 {
     if blending == SPHERICAL_INCREASING {
@@ -94,6 +95,9 @@ pub(crate) fn segment_colour(g: Segment, t: f32) -> Rgba
 {
     let pivot = place_along(g.left, g.right, g.middle);
     let place = place_along(g.left, g.right, t);
+    if hued::is_hued(g.colouring) {
+        return hued::blend_hued(g, pivot, place);
+    }
     if g.blending == SINUSOIDAL {
         return blend_wave(g, pivot, place);
     }

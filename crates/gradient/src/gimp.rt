@@ -16,6 +16,8 @@ ghost use Rattle.gradient.specs.Gimp.{segments, inOrder, carried, carrie
 pub use crate::blending::blend;
 pub use crate::blending::blend_wave;
 pub use crate::blending::place_along;
+pub use crate::hued::blend_hued;
+pub use crate::hued::is_hued;
 
 // The codes carried: of blending, and of colouring.
 pub const LINEAR: u8 = 0;
@@ -29,6 +31,10 @@ pub const SPHERICAL_DECREASING: u8 = 4;
 pub const STEP: u8 = 5;
 
 pub const RGB: u8 = 0;
+
+pub const HSV_COUNTER_CLOCKWISE: u8 = 1;
+
+pub const HSV_CLOCKWISE: u8 = 2;
 
 // A segment: its ends and the point between them where the blend is half done, the colours at the ends, and the codes of
 // how one turns into the other.
@@ -56,7 +62,7 @@ fn is_in_order(left: f32, middle: f32, right: f32) -> bool
 pub fn is_carried(blending: u8, colouring: u8, left: f32, middle: f32, right: f32) -> bool
     ensures { λ r. ⌜ r ≡ carried blending colouring left middle right ⌝ }
 {
-    if colouring != RGB {
+    if colouring > HSV_CLOCKWISE {
         return false;
     }
     if blending == SINUSOIDAL {

@@ -9,6 +9,7 @@ ghost use Rattle.gradient.specs.Ramp.{isGimp, checkOf, anyColour, minIn,
 
 pub mod blending;
 pub mod gimp;
+pub mod hued;
 
 pub fn is_gimp(kind: Kind) -> bool
     ensures { λ r. ⌜ r ≡ isGimp kind ⌝ }

@@ -87,6 +87,9 @@ fn is_strictly_inside(left: f32, right: f32, t: f32) -> bool
 fn shade(g: Segment, pivot: f32, place: f32) -> Rgba
     ensures { λ r. ⌜ r ≡ blended g pivot place ⌝ }
 {
+    if gimp::is_hued(g.colouring) {
+        return gimp::blend_hued(g, pivot, place);
+    }
     if g.blending == gimp::SINUSOIDAL {
         return gimp::blend_wave(g, pivot, place);
     }

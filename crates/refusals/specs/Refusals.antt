@@ -61,7 +61,7 @@ noSegment = 14
 abbrev pub tooManySegments : ℕ
 tooManySegments = 15
 
--- segment valid but curved or HSV, or sinusoidal with its middle outside its ends (its line)
+-- segment valid but curved, or sinusoidal with its middle outside its ends (its line)
 abbrev pub notCarried : ℕ
 notCarried = 16
 

@@ -46,7 +46,7 @@ pub const NO_SEGMENT: u8 = 14;
 // The count is above 256, or above the lent room.
 pub const TOO_MANY_SEGMENTS: u8 = 15;
 
-// A segment is valid, and curved, HSV, or sinusoidal with its middle outside its ends.
+// A segment is valid, and curved, or sinusoidal with its middle outside its ends.
 pub const NOT_CARRIED: u8 = 16;
 
 // A sharp ramp cannot be built of these colours on this domain.

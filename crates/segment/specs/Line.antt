@@ -1,4 +1,4 @@
--- A segment line of a GIMP file: 12, then 16. Document 01, 'What a GIMP file may hold'; document 02 (i).
+-- A segment line of a GIMP file: 12, then 16. Document 01, 'What a GIMP file may hold'; document 02 (i), (ix).
 use Prim.Native.Nat.{ℕ, min}
 use mathlib.Core.Path.{_≡_}
 use mathlib.Core.Bool.{Bool, not, cond, _&&_}
@@ -43,7 +43,7 @@ endColour code own fg bg =
 
 -- ---- the segment
 
--- of a kind that is carried: not curved, not HSV, and if sinusoidal with a middle that is not outside its ends; or 16
+-- of a kind that is carried: not curved, and if sinusoidal with a middle that is not outside its ends; or 16
 unfoldable pub judge : Segment → SegmentRead
 judge g = cond (carriedOf g) (Valid g) (Fault notCarried)
 

@@ -1,6 +1,8 @@
-//! Stands in for the colour dependency. `interpolate_rgb` and `clamp` are document 01's; the other colour
-//! spaces and the parser are there for their names alone, and no comparison reaches them.
+//! Stands in for the colour dependency. `interpolate_rgb` and `clamp` are document 01's, `to_hsva` and `from_hsva` are those
+//! of docs/HSV.md; the other colour spaces and the parser are there for their names alone, and no comparison reaches them.
 #![no_std]
+
+mod hsv;
 
 use core::str::FromStr;
 
@@ -39,9 +41,12 @@ impl Color {
         Color::new(unit(self.r), unit(self.g), unit(self.b), unit(self.a))
     }
 
-    /// A segment of a GIMP file that is coloured by hue is read through this; it is never evaluated here.
-    pub const fn to_hsva(&self) -> [f32; 4] {
-        self.to_array()
+    pub fn to_hsva(&self) -> [f32; 4] {
+        hsv::there(self)
+    }
+
+    pub fn from_hsva(h: f32, s: f32, v: f32, a: f32) -> Color {
+        hsv::back(h, s, v, a)
     }
 }
 
@@ -72,10 +77,6 @@ impl Color {
     }
 
     pub fn from_laba(_: f32, _: f32, _: f32, _: f32) -> Color {
-        unimplemented!("not carried")
-    }
-
-    pub fn from_hsva(_: f32, _: f32, _: f32, _: f32) -> Color {
         unimplemented!("not carried")
     }
 

@@ -1,6 +1,6 @@
 -- `gimp::is_carried` meets its contract: the tests decide the definition's equations. Assumes nothing.
 use borrow.Author.Needs.{needs}
-use borrow.Author.Tests.{eq-eqb, ne-eqb}
+use borrow.Author.Tests.{eq-eqb, ne-eqb, le-leb, lt-leb}
 use mathlib.Core.Path.{_∙_}
 use Rattle.gradient.specs.Gimp.{carried}
 use Rattle.gradient.proofs.gimp.is_carried.Statement.{statement}
@@ -8,7 +8,7 @@ use Rattle.gradient.proofs.gimp.is_carried.Tie as tie
 
 returns : tie.Need-returns
 unfolding carried
-returns c = let a = c .before .args in simp (ne-eqb (a .colouring) 0 (c .if1 .taken))
+returns c = let a = c .before .args in simp (lt-leb (a .colouring) 2 (c .if1 .taken))
 
 is-in-order-requires : tie.Need-is-in-order-requires
 is-in-order-requires c κs = search needs
@@ -19,7 +19,7 @@ returns-2 c =
     let s = c .before in
     let r = s .before in
     let a = r .before .args in
-    c .is-in-order .ensures ∙ simp (eq-eqb (a .colouring) 0 (r .if1 .left), eq-eqb (a .blending) 2 (s .if2 .taken))
+    c .is-in-order .ensures ∙ simp (le-leb (a .colouring) 2 (r .if1 .left), eq-eqb (a .blending) 2 (s .if2 .taken))
 
 returns-3 : tie.Need-returns-3
 unfolding carried
@@ -27,7 +27,7 @@ returns-3 c =
     let s = c .before in
     let r = s .before in
     let a = r .before .args in
-    simp (eq-eqb (a .colouring) 0 (r .if1 .left), ne-eqb (a .blending) 2 (s .if2 .left), eq-eqb (a .blending) 0 (c .if3 .taken))
+    simp (le-leb (a .colouring) 2 (r .if1 .left), ne-eqb (a .blending) 2 (s .if2 .left), eq-eqb (a .blending) 0 (c .if3 .taken))
 
 returns-4 : tie.Need-returns-4
 unfolding carried
@@ -36,7 +36,7 @@ returns-4 c =
     let s = k .before in
     let r = s .before in
     let a = r .before .args in
-    simp (eq-eqb (a .colouring) 0 (r .if1 .left), ne-eqb (a .blending) 2 (s .if2 .left), ne-eqb (a .blending) 0 (k .if3 .left), eq-eqb (a .blending) 3 (c .if4 .taken))
+    simp (le-leb (a .colouring) 2 (r .if1 .left), ne-eqb (a .blending) 2 (s .if2 .left), ne-eqb (a .blending) 0 (k .if3 .left), eq-eqb (a .blending) 3 (c .if4 .taken))
 
 returns-5 : tie.Need-returns-5
 unfolding carried
@@ -46,7 +46,7 @@ returns-5 c =
     let s = k .before in
     let r = s .before in
     let a = r .before .args in
-    simp (eq-eqb (a .colouring) 0 (r .if1 .left), ne-eqb (a .blending) 2 (s .if2 .left), ne-eqb (a .blending) 0 (k .if3 .left), ne-eqb (a .blending) 3 (b .if4 .left), eq-eqb (a .blending) 4 (c .if5 .taken))
+    simp (le-leb (a .colouring) 2 (r .if1 .left), ne-eqb (a .blending) 2 (s .if2 .left), ne-eqb (a .blending) 0 (k .if3 .left), ne-eqb (a .blending) 3 (b .if4 .left), eq-eqb (a .blending) 4 (c .if5 .taken))
 
 returns-6 : tie.Need-returns-6
 unfolding carried
@@ -56,7 +56,7 @@ returns-6 c =
     let s = k .before in
     let r = s .before in
     let a = r .before .args in
-    simp (eq-eqb (a .colouring) 0 (r .if1 .left), ne-eqb (a .blending) 2 (s .if2 .left), ne-eqb (a .blending) 0 (k .if3 .left), ne-eqb (a .blending) 3 (b .if4 .left), ne-eqb (a .blending) 4 (c .if5 .left))
+    simp (le-leb (a .colouring) 2 (r .if1 .left), ne-eqb (a .blending) 2 (s .if2 .left), ne-eqb (a .blending) 0 (k .if3 .left), ne-eqb (a .blending) 3 (b .if4 .left), ne-eqb (a .blending) 4 (c .if5 .left))
 
 pub is-carried-spec : {M : Type 1} → statement M
 is-carried-spec =

@@ -1,0 +1,53 @@
+// How the left colour of a segment coloured by hue turns into its right one. It stands apart from `blending` so that the
+// other segments, whose colours are mixed at every point of a painting, pay a test for it and no more.
+use crate::blending::bend;
+use crate::blending::calc_linear_factor;
+use crate::gimp::HSV_CLOCKWISE;
+use crate::gimp::HSV_COUNTER_CLOCKWISE;
+use crate::gimp::SINUSOIDAL;
+use crate::gimp::STEP;
+use crate::gimp::Segment;
+use blend::Rgba;
+ghost use mathlib.Core.Path.{_≡_};
+ghost use Rattle.gradient.specs.Gimp.{isHued, factorOf, turned, hued};
+
+pub fn is_hued(colouring: u8) -> bool
+    ensures { λ r. ⌜ r ≡ isHued colouring ⌝ }
+{
+    if colouring == HSV_COUNTER_CLOCKWISE {
+        return true;
+    }
+    colouring == HSV_CLOCKWISE
+}
+
+fn factor(blending: u8, pivot: f32, place: f32) -> f32
+    ensures { λ r. ⌜ r ≡ factorOf blending pivot place ⌝ }
+{
+    let f = calc_linear_factor(pivot, place);
+    if blending == SINUSOIDAL {
+        return sine::wave(f);
+    }
+    bend(blending, f)
+}
+
+fn turn(colouring: u8, p: Rgba, q: Rgba, f: f32) -> Rgba
+    ensures { λ r. ⌜ r ≡ turned colouring p q f ⌝ }
+{
+    if colouring == HSV_CLOCKWISE {
+        return hsv::clockwise(p, q, f);
+    }
+    hsv::counter_clockwise(p, q, f)
+}
+
+pub fn blend_hued(g: Segment, pivot: f32, place: f32) -> Rgba
+    ensures { λ r. ⌜ r ≡ hued g pivot place ⌝ }
+{
+    if g.blending == STEP {
+        if place >= pivot {
+            return hsv::there_and_back(g.rcolor);
+        }
+        return hsv::there_and_back(g.lcolor);
+    }
+    let f = factor(g.blending, pivot, place);
+    turn(g.colouring, g.lcolor, g.rcolor, f)
+}

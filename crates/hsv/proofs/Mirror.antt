@@ -1,0 +1,273 @@
+-- The mirror is the published clockwise: the colour is the same, bit for bit. A sign may be changed before or after an operation, but for a sum that is exactly zero,
+-- which is +0 both ways; and a hue of either zero gives one colour. Assumes nothing.
+use mathlib.Core.Path.{_≡_, refl, sym, _∙_, ap, ap₂, subst}
+use mathlib.Core.Bool.{Bool, true, false, not, cond, _&&_, Bool·beq}
+use mathlib.Core.Logic.{_⊎_, inl, inr}
+use Prim.Native.Nat.{ℕ, _+_, _-_, _*_, _≤_, _<_}
+use native.Mathlib.Omega.{arith}
+use native.Mathlib.Nat.{add-comm, mul-comm, mul-pos, zero-mul}
+use lib.Dec.{ltb}
+use lib.IntN.{ℤ, pos}
+use lib.Ieee.Fits.{down-pos}
+use lib.Ieee.{Float, nan, inf, fin, Format, binary32, up, down, round, sum, add, sub, mul, div, rem, neg, lt, eq, below, ofBits}
+use borrow.Author.Tests.{ltb-true, ltb-false, le-ltb}
+use Rattle.float.specs.F32.{_⊕_, _⊖_, _⊗_, _⊘_, f0, f2, f6}
+use Rattle.float.proofs.SignedRound.{round-neg}
+use Rattle.float.proofs.Finite.{round-zero}
+use Rattle.blend.specs.declared.Rgba.{Rgba}
+use Rattle.hsv.specs.declared.Hsva.{Hsva}
+use Rattle.blend.specs.Blend.{linear1}
+use Rattle.hsv.specs.There.{sixth, hsvaOf}
+use Rattle.hsv.specs.Circle.{turn, way, downHue}
+use Rattle.hsv.specs.Back.{angleOf, intoSix, channelOf, channelsAround, upperOf, fromLightness, lightened, rgbaOf}
+use Rattle.hsv.specs.Mix.{mixedAt, mixedBy, clockwise}
+
+-- ---- signs
+pub neg-neg : (x : Float) → neg (neg x) ≡ x
+unfolding neg
+neg-neg nan = refl
+neg-neg (inf true) = refl
+neg-neg (inf false) = refl
+neg-neg (fin true m e) = refl
+neg-neg (fin false m e) = refl
+
+below-neg : (s : Bool) (a : ℕ) (t : Bool) (b : ℕ) → below (not s) a (not t) b ≡ below t b s a
+below-neg false a false b = refl
+below-neg false a true b = ap (ltb 0) (add-comm a b)
+below-neg true a false b = refl
+below-neg true a true b = refl
+
+pub lt-neg : (x y : Float) → lt (neg x) (neg y) ≡ lt y x
+unfolding lt neg
+lt-neg nan nan = refl
+lt-neg nan (inf t) = refl
+lt-neg nan (fin t n d) = refl
+lt-neg (inf s) nan = refl
+lt-neg (inf true) (inf true) = refl
+lt-neg (inf true) (inf false) = refl
+lt-neg (inf false) (inf true) = refl
+lt-neg (inf false) (inf false) = refl
+lt-neg (inf true) (fin t n d) = refl
+lt-neg (inf false) (fin t n d) = refl
+lt-neg (fin s m e) nan = refl
+lt-neg (fin s m e) (inf true) = refl
+lt-neg (fin s m e) (inf false) = refl
+lt-neg (fin s m e) (fin t n d) = below-neg s (m * up e * down d) t (n * up d * down e)
+
+-- ---- sums
+abbrev pub o : Float
+o = fin false 0 (pos 0)
+
+round-flip : (s : Bool) (a c : ℕ) → round binary32 (not s) a c ≡ neg (round binary32 s a c)
+round-flip false a c = round-neg binary32 a c
+round-flip true a c = sym (neg-neg (round binary32 false a c)) ∙ ap neg (sym (round-neg binary32 a c))
+
+-- x is the mirror of y: negated, or both are +0
+abbrev pub Mirror : Float → Float → Type 0
+Mirror x y = (x ≡ neg y) ⊎ ((x ≡ o) × (y ≡ o))
+
+abbrev by-order : (s : Bool) (a b c : ℕ) → Bool → Bool → Float
+by-order s a b c p q = cond p (round binary32 (not s) (b - a) c) (round binary32 (s && q) (a - b) c)
+
+unlike : (s : Bool) (a b c : ℕ) → 0 < c → Mirror (by-order (not s) a b c (ltb a b) (ltb b a)) (by-order s a b c (ltb a b) (ltb b a))
+unlike s a b c C = go (ltb a b) refl (ltb b a) refl s
+  where
+    go : (p : Bool) → ltb a b ≡ p → (q : Bool) → ltb b a ≡ q → (s : Bool) → Mirror (by-order (not s) a b c p q) (by-order s a b c p q)
+    go true e q f s = inl (round-flip (not s) (b - a) c)
+    go false e true f false = inl (round-flip false (a - b) c)
+    go false e true f true = inl (round-flip true (a - b) c)
+    go false e false f s =
+        let z : a - b ≡ 0 = let u = ltb-false a b e in let w = ltb-false b a f in omega arith in
+        inr (none (not s) z, none s z)
+      where
+        none : (s : Bool) → a - b ≡ 0 → round binary32 (s && false) (a - b) c ≡ o
+        none true z = round-zero false (a - b) c z C
+        none false z = round-zero false (a - b) c z C
+
+pub dens : (e d : ℤ) → 0 < down e * down d
+dens e d = mul-pos (down-pos e) (down-pos d)
+
+sum-mirror : (s : Bool) (a : ℕ) (t : Bool) (b c : ℕ) → 0 < c → Mirror (sum binary32 (not s) a (not t) b c) (sum binary32 s a t b c)
+unfolding sum
+sum-mirror true a true b c C = inl (round-flip true (a + b) c)
+sum-mirror false a false b c C = inl (round-flip false (a + b) c)
+sum-mirror true a false b c C = unlike true a b c C
+sum-mirror false a true b c C = unlike false a b c C
+
+pub add-mirror : (x y : Float) → Mirror (neg x ⊕ neg y) (x ⊕ y)
+unfolding add neg
+add-mirror nan y = inl refl
+add-mirror (inf s) nan = inl refl
+add-mirror (inf true) (inf true) = inl refl
+add-mirror (inf true) (inf false) = inl refl
+add-mirror (inf false) (inf true) = inl refl
+add-mirror (inf false) (inf false) = inl refl
+add-mirror (inf s) (fin t n d) = inl refl
+add-mirror (fin s m e) nan = inl refl
+add-mirror (fin s m e) (inf t) = inl refl
+add-mirror (fin s m e) (fin t n d) = sum-mirror s (m * up e * down d) t (n * up d * down e) (down e * down d) (dens e d)
+
+same-order : (s : Bool) (a b c : ℕ) → by-order s a b c (ltb a b) (ltb b a) ≡ by-order (not s) b a c (ltb b a) (ltb a b)
+same-order s a b c = go (ltb a b) refl (ltb b a) refl s
+  where
+    go : (p : Bool) → ltb a b ≡ p → (q : Bool) → ltb b a ≡ q → (s : Bool) → by-order s a b c p q ≡ by-order (not s) b a c q p
+    go true e true f s = absurd (let u = ltb-true a b e in let w = ltb-true b a f in omega arith)
+    go true e false f true = refl
+    go true e false f false = refl
+    go false e true f true = refl
+    go false e true f false = refl
+    go false e false f s =
+        let z : a - b ≡ b - a = let u = ltb-false a b e in let w = ltb-false b a f in omega arith in
+        level s z
+      where
+        level : (s : Bool) → a - b ≡ b - a → round binary32 (s && false) (a - b) c ≡ round binary32 (not s && false) (b - a) c
+        level true z = ap (λ (n : ℕ). round binary32 false n c) z
+        level false z = ap (λ (n : ℕ). round binary32 false n c) z
+
+sum-swap : (s : Bool) (a : ℕ) (t : Bool) (b c : ℕ) → sum binary32 s a t b c ≡ sum binary32 t b s a c
+unfolding sum
+sum-swap true a true b c = ap (λ (n : ℕ). round binary32 true n c) (add-comm a b)
+sum-swap false a false b c = ap (λ (n : ℕ). round binary32 false n c) (add-comm a b)
+sum-swap true a false b c = same-order true a b c
+sum-swap false a true b c = same-order false a b c
+
+pub add-swap : (x y : Float) → x ⊕ y ≡ y ⊕ x
+unfolding add
+add-swap nan nan = refl
+add-swap nan (inf t) = refl
+add-swap nan (fin t n d) = refl
+add-swap (inf s) nan = refl
+add-swap (inf true) (inf true) = refl
+add-swap (inf true) (inf false) = refl
+add-swap (inf false) (inf true) = refl
+add-swap (inf false) (inf false) = refl
+add-swap (inf s) (fin t n d) = refl
+add-swap (fin s m e) nan = refl
+add-swap (fin s m e) (inf t) = refl
+add-swap (fin s m e) (fin t n d) =
+    sum-swap s (m * up e * down d) t (n * up d * down e) (down e * down d)
+    ∙ ap (sum binary32 t (n * up d * down e) s (m * up e * down d)) (mul-comm (down e) (down d))
+
+-- ---- the way, mirrored
+pub sub-mirror : (x y : Float) → neg x ⊖ neg y ≡ y ⊖ x
+unfolding sub
+sub-mirror x y = ap (add binary32 (neg x)) (neg-neg y) ∙ add-swap (neg x) y
+
+-- one hue, or the two zeros
+abbrev pub Alike : Float → Float → Type 0
+Alike x y = (x ≡ y) ⊎ ((x ≡ neg o) × (y ≡ o))
+
+alike : {x y : Float} → Mirror y x → Alike (neg x) y
+alike (inl e) = inl (sym e)
+alike (inr e) = inr (ap neg (e .1), e .0)
+
+-- negated after the sum, or before
+past : (x p : Float) → Mirror (x ⊖ p) (neg x ⊕ p)
+unfolding sub
+past x p = subst (λ (z : Float). Mirror (z ⊕ neg p) (neg x ⊕ p)) (neg-neg x) (add-mirror (neg x) p)
+
+taken : (h : Float) → Alike (neg (h ⊖ turn)) (neg h ⊕ turn)
+unfolding sub
+taken h = alike (subst (λ (z : Float). Mirror (neg h ⊕ z) (h ⊕ neg turn)) (neg-neg turn) (add-mirror h (neg turn)))
+
+-- below either zero
+below-none : (a b : ℕ) → b ≡ 0 → ltb b a ≡ ltb 0 (a + b)
+below-none a b z = let e : a ≡ a + b = omega arith in ap₂ ltb z e
+
+not-below : (a b : ℕ) → b ≡ 0 → false ≡ ltb a b
+not-below a b z = sym (le-ltb a b (omega arith))
+
+lt-zero : (x : Float) → lt x (neg o) ≡ lt x o
+unfolding lt neg
+lt-zero nan = refl
+lt-zero (inf s) = refl
+lt-zero (fin true m e) = below-none (m * up e * 1) (0 * down e) (zero-mul (down e))
+lt-zero (fin false m e) = not-below (m * up e * 1) (0 * down e) (zero-mul (down e))
+
+-- the published steps, from h1 down to h2
+pub sourceHue : Float → Float → Float → Float
+sourceHue h1 h2 t =
+    let h = h1 ⊖ (turn ⊖ (h2 ⊖ h1)) ⊗ t in
+    cond (lt h2 h1) (h1 ⊖ (h1 ⊖ h2) ⊗ t) (cond (lt h f0) (h ⊕ turn) h)
+
+-- taken back, or not
+backed : (h g : Float) → Mirror h g → Alike (neg (cond (lt o g) (g ⊖ turn) g)) (cond (lt h o) (h ⊕ turn) h)
+backed h g (inl e) = subst (λ (z : Float). Alike (neg (cond (lt o g) (g ⊖ turn) g)) (cond (lt z o) (z ⊕ turn) z)) (sym e) (go (lt o g) (sym (lt-zero (neg g)) ∙ lt-neg g o))
+  where
+    go : (b : Bool) → lt (neg g) o ≡ b → Alike (neg (cond b (g ⊖ turn) g)) (cond (lt (neg g) o) (neg g ⊕ turn) (neg g))
+    go true f = subst (λ (c : Bool). Alike (neg (g ⊖ turn)) (cond c (neg g ⊕ turn) (neg g))) (sym f) (taken g)
+    go false f = subst (λ (c : Bool). Alike (neg g) (cond c (neg g ⊕ turn) (neg g))) (sym f) (inl refl)
+backed h g (inr e) = subst (λ (z : Float). Alike (neg (cond (lt o g) (g ⊖ turn) g)) (cond (lt z o) (z ⊕ turn) z)) (sym (e .0)) (subst (λ (z : Float). Alike (neg (cond (lt o z) (z ⊖ turn) z)) (cond (lt o o) (o ⊕ turn) o)) (sym (e .1)) both)
+  where
+    both : Alike (neg (cond (lt o o) (o ⊖ turn) o)) (cond (lt o o) (o ⊕ turn) o)
+    both = unfold lt in inr (refl, refl)
+
+-- by the test, and by how far the two hues lie apart, one way and the other
+abbrev mirrored : Float → Float → Bool → Float → Float → Float
+mirrored h1 t b d k = let g = neg h1 ⊕ (turn ⊖ k) ⊗ t in neg (cond b (neg h1 ⊕ d ⊗ t) (cond (lt o g) (g ⊖ turn) g))
+
+abbrev published : Float → Float → Bool → Float → Float → Float
+published h1 t b d k = let h = h1 ⊖ (turn ⊖ k) ⊗ t in cond b (h1 ⊖ d ⊗ t) (cond (lt h o) (h ⊕ turn) h)
+
+same-way : (h1 t : Float) (b : Bool) (d k : Float) → Alike (mirrored h1 t b d k) (published h1 t b d k)
+same-way h1 t true d k = alike (past h1 (d ⊗ t))
+same-way h1 t false d k = backed (h1 ⊖ (turn ⊖ k) ⊗ t) (neg h1 ⊕ (turn ⊖ k) ⊗ t) (past h1 ((turn ⊖ k) ⊗ t))
+
+is-mirrored : (h1 h2 t : Float) → downHue h1 h2 t ≡ mirrored h1 t (lt (neg h1) (neg h2)) (neg h2 ⊖ neg h1) (neg h1 ⊖ neg h2)
+unfolding downHue way ofBits
+is-mirrored h1 h2 t = refl
+
+is-published : (h1 h2 t : Float) → sourceHue h1 h2 t ≡ published h1 t (lt h2 h1) (h1 ⊖ h2) (h2 ⊖ h1)
+unfolding sourceHue ofBits
+is-published h1 h2 t = refl
+
+-- the clockwise hue is the published one, but for the sign of zero
+pub falling-alike : (h1 h2 t : Float) → Alike (downHue h1 h2 t) (sourceHue h1 h2 t)
+falling-alike h1 h2 t =
+    subst (λ (x : Float). Alike x (sourceHue h1 h2 t)) (sym (is-mirrored h1 h2 t ∙ simp (lt-neg h1 h2, sub-mirror h2 h1, sub-mirror h1 h2)))
+    (subst (Alike (mirrored h1 t (lt h2 h1) (h1 ⊖ h2) (h2 ⊖ h1))) (sym (is-published h1 h2 t)) (same-way h1 t (lt h2 h1) (h1 ⊖ h2) (h2 ⊖ h1)))
+
+-- ---- a hue of either zero gives one colour
+angle-minus : angleOf (neg o) ≡ neg o
+unfolding angleOf rem ofBits neg lt round
+angle-minus = refl
+
+angle-plus : angleOf o ≡ o
+unfolding angleOf rem ofBits lt round
+angle-plus = refl
+
+ahead : neg o ⊘ sixth ⊕ f2 ≡ o ⊘ sixth ⊕ f2
+unfolding add div neg ofBits round
+ahead = refl
+
+behind : neg o ⊘ sixth ⊖ f2 ≡ o ⊘ sixth ⊖ f2
+unfolding add sub div neg ofBits round
+behind = refl
+
+here : intoSix (neg o ⊘ sixth) ≡ intoSix (o ⊘ sixth)
+unfolding intoSix add div rem neg ofBits round
+here = refl
+
+around : (least most a : Float) → channelsAround least most (neg o ⊘ sixth) a ≡ channelsAround least most (o ⊘ sixth) a
+unfolding channelsAround channelOf
+around least most a = simp (ahead, behind, here)
+
+light : (s l a : Float) → fromLightness (neg o) s l a ≡ fromLightness o s l a
+unfolding fromLightness
+light s l a = simp (around (f2 ⊗ l ⊖ upperOf s l) (upperOf s l) a)
+
+zero-hue : (s v a : Float) → rgbaOf (record { h = neg o; s = s; v = v; a = a }) ≡ rgbaOf (record { h = o; s = s; v = v; a = a })
+unfolding rgbaOf lightened
+zero-hue s v a = simp (angle-minus, angle-plus) (light _ _ _)
+
+hue-alike : (x y : Float) (p q : Hsva) (t : Float) → Alike x y → mixedAt x p q t ≡ mixedAt y p q t
+unfolding mixedAt
+hue-alike x y p q t (inl e) = ap (λ (z : Float). rgbaOf (record { h = z; s = linear1 (p .s) (q .s) t; v = linear1 (p .v) (q .v) t; a = linear1 (p .a) (q .a) t })) e
+hue-alike x y p q t (inr e) =
+    let at : Float → Rgba = λ z. rgbaOf (record { h = z; s = linear1 (p .s) (q .s) t; v = linear1 (p .v) (q .v) t; a = linear1 (p .a) (q .a) t }) in
+    ap at (e .0) ∙ zero-hue _ _ _ ∙ ap at (sym (e .1))
+
+-- any two colours mixed clockwise are what the published steps give, over the same conversions
+pub clockwise-is-published : (from to : Rgba) (t : Float) → clockwise from to t ≡ mixedBy sourceHue (hsvaOf from) (hsvaOf to) t
+unfolding clockwise
+clockwise-is-published from to t = hue-alike _ _ _ _ t (falling-alike (hsvaOf from .h) (hsvaOf to .h) t)

@@ -1,0 +1,4 @@
+pub mod There
+pub mod Circle
+pub mod Back
+pub mod Mix
