@@ -104,7 +104,7 @@ static inline const char *colorgrad_message(uint32_t refusal)
     case COLORGRAD_FALLING: return "a stop lies before the one ahead of it";
     case COLORGRAD_FAR_DOMAIN: return "the domain reaches beyond 1e38";
     case COLORGRAD_BAD_RECORD: return "the record is not 4,608 numbers, 36 counts of 1 to 128 and 3 words";
-    case COLORGRAD_BAD_EDIT: return "the edit names no stop, no finite colour, or a ramp that cannot be refreshed";
+    case COLORGRAD_BAD_EDIT: return "the edit names no stop that it can be made of, has a number that is not finite, or the ramp is of a kind that cannot be edited so";
     case COLORGRAD_NO_ROOM: return "the output has no room for all of it";
     case COLORGRAD_LIST_NOT_FINITE: return "a stop of the list would not be finite";
     case COLORGRAD_LIST_FALLING: return "a stop of the list would lie before the one ahead of it";

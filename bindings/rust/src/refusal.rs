@@ -27,7 +27,7 @@ pub enum Refusal {
     FarDomain = 4,
     /// 5: a record that is not 4,608 numbers, 36 counts of 1 to 128 and 3 words.
     BadRecord = 5,
-    /// 6: an edit of no stop, with no finite colour, or of a sharp or GIMP ramp, which cannot be refreshed.
+    /// 6: an edit of no stop that may be edited so, with a number that is not finite, or of a ramp that cannot be edited so.
     BadEdit = 6,
     /// 7: one more colour or stop than the output has room for.
     NoRoom = 7,
@@ -101,7 +101,7 @@ impl Refusal {
             Refusal::Falling => "a stop lies before the one ahead of it",
             Refusal::FarDomain => "the domain reaches beyond 1e38",
             Refusal::BadRecord => "the record is not 4,608 numbers, 36 counts of 1 to 128 and 3 words",
-            Refusal::BadEdit => "the edit names no stop, no finite colour, or a ramp that cannot be refreshed",
+            Refusal::BadEdit => "the edit names no stop that it can be made of, has a number that is not finite, or the ramp is of a kind that cannot be edited so",
             Refusal::NoRoom => "the output has no room for all of it",
             Refusal::ListNotFinite => "a stop of the list would not be finite",
             Refusal::ListFalling => "a stop of the list would lie before the one ahead of it",

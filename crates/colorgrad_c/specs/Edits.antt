@@ -26,8 +26,8 @@ module _ (code : ℕ) (ramp : Kind → Ramp) (e : Edit) (asked : Float) where
       (λ (a : Refreshed). (a ≡ refreshed.Refused misshapen) × (held .exit ≡ held .entry))
       refreshedShown
 
-  abbrev pub CodedRefreshLists : Change Held → Change Output → ListMade → Type 0
-  CodedRefreshLists held out =
+  abbrev pub CodedRelists : Change Held → Change Output → ListMade → Type 0
+  CodedRelists held out =
       Shows code (λ (kind : Kind). RefreshLists (ramp kind) e asked held out)
       (λ (a : Listed). (a ≡ listed.Refused misshapen) × ((held .exit ≡ held .entry) × (out .exit ≡ out .entry)))
       listedShown

@@ -14,7 +14,7 @@ ghost use Rattle.sampling.specs.Lent.{lentHeld};
 ghost use Rattle.linearize.specs.Lent.{lentOutput};
 ghost use Rattle.editing.specs.declared.Edit.the-variants.{Colour};
 ghost use Rattle.plain.specs.Kinds.{codedRamp};
-ghost use Rattle.colorgrad_c.specs.Edits.{CodedRefreshes, CodedRefreshLists};
+ghost use Rattle.colorgrad_c.specs.Edits.{CodedRefreshes, CodedRelists};
 
 #[no_mangle]
 pub extern "C" fn colorgrad_refresh(
@@ -63,7 +63,7 @@ pub extern "C" fn colorgrad_refresh_list(
     places: &mut [f32],
     colours: &mut [f32],
 ) -> ListMade
-    ensures { λ r. ⌜ CodedRefreshLists kind (codedRamp positions channels codes) (Colour stop colour) threshold (lentHeld rows counts marks) (lentOutput places colours) r ⌝ }
+    ensures { λ r. ⌜ CodedRelists kind (codedRamp positions channels codes) (Colour stop colour) threshold (lentHeld rows counts marks) (lentOutput places colours) r ⌝ }
 {
     let Coded::Of(known) = kinds::kind_of(kind) else {
         return listed_shown(Listed::Refused(MISSHAPEN));

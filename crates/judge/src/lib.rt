@@ -33,12 +33,12 @@ fn judge_colours(
     channels: &[f32],
     codes: &[u8],
     threshold: f32,
-    list_positions: &[f32],
-    list_channels: &[f32],
+    places: &[f32],
+    colours: &[f32],
 ) -> Verdict
     requires { ⌜ rampCheck (rampIn kind positions channels codes) ≡ Fine ⌝ }
-    requires { ⌜ Sound (offerIn «list_positions» «list_channels») ⌝ }
-    ensures { λ r. ⌜ r ≡ pointsVerdict (lentRamp kind positions channels codes) threshold (lentOffer «list_positions» «list_channels») ⌝ }
+    requires { ⌜ Sound (offerIn places colours) ⌝ }
+    ensures { λ r. ⌜ r ≡ pointsVerdict (lentRamp kind positions channels codes) threshold (lentOffer places colours) ⌝ }
 {
     let mut rows = [0.0f32; Sampler::CELLS * Sampler::ROW];
     let mut counts = [0u8; Sampler::CELLS];
@@ -60,8 +60,8 @@ fn judge_colours(
         channels,
         codes,
         sampler.threshold,
-        list_positions,
-        list_channels,
+        places,
+        colours,
         gradient::max_of(kind, positions),
         &rows,
         &counts,
@@ -75,35 +75,27 @@ fn judge_list(
     channels: &[f32],
     codes: &[u8],
     threshold: f32,
-    list_positions: &[f32],
-    list_channels: &[f32],
+    places: &[f32],
+    colours: &[f32],
 ) -> Verdict
     requires { ⌜ rampCheck (rampIn kind positions channels codes) ≡ Fine ⌝ }
-    ensures { λ r. ⌜ r ≡ listVerdict (lentRamp kind positions channels codes) threshold (lentOffer «list_positions» «list_channels») ⌝ }
+    ensures { λ r. ⌜ r ≡ listVerdict (lentRamp kind positions channels codes) threshold (lentOffer places colours) ⌝ }
 {
-    let n = list_positions.len();
-    if !checks::is_sized(n, list_channels.len()) {
+    let n = places.len();
+    if !checks::is_sized(n, colours.len()) {
         return Verdict::WrongLength;
     }
-    let stop = checks::first_bad(list_positions, list_channels);
+    let stop = checks::first_bad(places, colours);
     if stop < n {
         return Verdict::BadStop { stop };
     }
-    if list_positions[0] != gradient::min_of(kind, positions) {
+    if places[0] != gradient::min_of(kind, positions) {
         return Verdict::WrongFirst;
     }
-    if list_positions[n - 1] != gradient::max_of(kind, positions) {
+    if places[n - 1] != gradient::max_of(kind, positions) {
         return Verdict::WrongLast;
     }
-    judge_colours(
-        kind,
-        positions,
-        channels,
-        codes,
-        threshold,
-        list_positions,
-        list_channels,
-    )
+    judge_colours(kind, positions, channels, codes, threshold, places, colours)
 }
 
 // Whether a list shows a ramp within a threshold: yes, or what is wrong. Refusals 1 to 4 are of the ramp.
@@ -113,10 +105,10 @@ pub fn judge(
     channels: &[f32],
     codes: &[u8],
     threshold: f32,
-    list_positions: &[f32],
-    list_channels: &[f32],
+    places: &[f32],
+    colours: &[f32],
 ) -> Verdict
-    ensures { λ r. ⌜ Judges (lentRamp kind positions channels codes) threshold (lentOffer «list_positions» «list_channels») r ⌝ }
+    ensures { λ r. ⌜ Judges (lentRamp kind positions channels codes) threshold (lentOffer places colours) r ⌝ }
 {
     match sampling::check_sample(
         kind,
@@ -128,14 +120,6 @@ pub fn judge(
         Sampler::MARKS,
     ) {
         Checked::Refused(n) => Verdict::Refused(n),
-        Checked::Fine => judge_list(
-            kind,
-            positions,
-            channels,
-            codes,
-            threshold,
-            list_positions,
-            list_channels,
-        ),
+        Checked::Fine => judge_list(kind, positions, channels, codes, threshold, places, colours),
     }
 }

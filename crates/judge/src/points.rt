@@ -17,14 +17,14 @@ fn is_close(
     channels: &[f32],
     codes: &[u8],
     threshold: f32,
-    list_positions: &[f32],
-    list_channels: &[f32],
+    places: &[f32],
+    colours: &[f32],
     t: f32,
 ) -> bool
-    ensures { λ r. ⌜ r ≡ anyClose (lentRamp kind positions channels codes) (lentOffer «list_positions» «list_channels») threshold t ⌝ }
+    ensures { λ r. ⌜ r ≡ anyClose (lentRamp kind positions channels codes) (lentOffer places colours) threshold t ⌝ }
 {
     let x = gradient::colour_at(kind, positions, channels, codes, t);
-    let y = stops::colour_at(Kind::Linear, list_positions, list_channels, t);
+    let y = stops::colour_at(Kind::Linear, places, colours, t);
     distance(x, y) <= threshold
 }
 
@@ -35,14 +35,14 @@ fn first_far(
     channels: &[f32],
     codes: &[u8],
     threshold: f32,
-    list_positions: &[f32],
-    list_channels: &[f32],
+    places: &[f32],
+    colours: &[f32],
     rows: &[f32],
     at: usize,
     count: usize,
 ) -> usize
     requires { ⌜ at + count ≤ length (now rows) ⌝ }
-    ensures { λ r. ⌜ r ≡ farFrom (anyClose (lentRamp kind positions channels codes) (lentOffer «list_positions» «list_channels») threshold) (old rows) at count ⌝ }
+    ensures { λ r. ⌜ r ≡ farFrom (anyClose (lentRamp kind positions channels codes) (lentOffer places colours) threshold) (old rows) at count ⌝ }
 {
     let mut j = 0;
     while j < count {
@@ -52,8 +52,8 @@ fn first_far(
             channels,
             codes,
             threshold,
-            list_positions,
-            list_channels,
+            places,
+            colours,
             rows[at + j],
         ) {
             return j;
@@ -70,14 +70,14 @@ pub(crate) fn judge_points(
     channels: &[f32],
     codes: &[u8],
     threshold: f32,
-    list_positions: &[f32],
-    list_channels: &[f32],
+    places: &[f32],
+    colours: &[f32],
     max: f32,
     rows: &[f32],
     counts: &[u8],
 ) -> Verdict
     requires { ⌜ Readable (now rows) (now counts) ⌝ }
-    ensures { λ r. ⌜ r ≡ recordVerdict (anyClose (lentRamp kind positions channels codes) (lentOffer «list_positions» «list_channels») threshold) (old rows) (old counts) max ⌝ }
+    ensures { λ r. ⌜ r ≡ recordVerdict (anyClose (lentRamp kind positions channels codes) (lentOffer places colours) threshold) (old rows) (old counts) max ⌝ }
 {
     let mut i = 0;
     while i < Sampler::CELLS {
@@ -89,8 +89,8 @@ pub(crate) fn judge_points(
             channels,
             codes,
             threshold,
-            list_positions,
-            list_channels,
+            places,
+            colours,
             rows,
             at,
             count,
@@ -111,8 +111,8 @@ pub(crate) fn judge_points(
         channels,
         codes,
         threshold,
-        list_positions,
-        list_channels,
+        places,
+        colours,
         max,
     ) {
         return Verdict::TooFar {

@@ -21,7 +21,7 @@ farDomain = 4
 abbrev pub badRecord : ℕ
 badRecord = 5
 
--- edit: ramp sharp or GIMP, no such stop, or a new channel is not finite
+-- edit: of a colour, ramp sharp or GIMP, no such stop, or a new channel is not finite; of a stop moved, added or removed, ramp neither linear nor smoothstep, an end place or none, or a number that is not finite
 abbrev pub badEdit : ℕ
 badEdit = 6
 

@@ -16,7 +16,7 @@ pub const FAR_DOMAIN: u8 = 4;
 // A record of other lengths, or a count that is 0 or above 128.
 pub const BAD_RECORD: u8 = 5;
 
-// An edit of a ramp that cannot be refreshed, of no stop, or with a channel that is not finite.
+// An edit of a kind of ramp that it cannot be made of, of no stop that may be edited so, or with a number that is not finite.
 pub const BAD_EDIT: u8 = 6;
 
 // One more stop is kept than the output has room for.

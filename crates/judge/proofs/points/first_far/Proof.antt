@@ -14,12 +14,12 @@ use Rattle.judge.proofs.points.first_far.Statement.{statement}
 use Rattle.judge.proofs.points.first_far.Tie as tie
 
 abbrev Inv-loop : tie.InvT-loop
-Inv-loop kind positions channels codes threshold list-positions list-channels rows at count j₀ j =
-    firstFailing (λ k. anyClose (rampOf kind positions channels codes) (offerOf list-positions list-channels) threshold (getD rows (at + k) nan)) (count - j) j
-    ≡ farFrom (anyClose (rampOf kind positions channels codes) (offerOf list-positions list-channels) threshold) rows at count
+Inv-loop kind positions channels codes threshold places colours rows at count j₀ j =
+    firstFailing (λ k. anyClose (rampOf kind positions channels codes) (offerOf places colours) threshold (getD rows (at + k) nan)) (count - j) j
+    ≡ farFrom (anyClose (rampOf kind positions channels codes) (offerOf places colours) threshold) rows at count
 
 abbrev μ-loop : tie.MeasureT-loop
-μ-loop kind positions channels codes threshold list-positions list-channels rows at count j₀ j = count - j
+μ-loop kind positions channels codes threshold places colours rows at count j₀ j = count - j
 
 loop-holds : tie.Need-loop-holds Inv-loop μ-loop
 loop-holds c = from-start _ _

@@ -14,18 +14,18 @@ use Rattle.judge.proofs.points.judge_points.Statement.{statement}
 use Rattle.judge.proofs.points.judge_points.Tie as tie
 
 abbrev Inv-loop : tie.InvT-loop
-Inv-loop kind positions channels codes threshold list-positions list-channels max rows counts i₀ i =
-    let near = anyClose (rampOf kind positions channels codes) (offerOf list-positions list-channels) threshold in
+Inv-loop kind positions channels codes threshold places colours max rows counts i₀ i =
+    let near = anyClose (rampOf kind positions channels codes) (offerOf places colours) threshold in
     onwards near rows counts max i ≡ recordVerdict near rows counts max
 
 abbrev μ-loop : tie.MeasureT-loop
-μ-loop kind positions channels codes threshold list-positions list-channels max rows counts i₀ i = 36 - i
+μ-loop kind positions channels codes threshold places colours max rows counts i₀ i = 36 - i
 
 -- what was lent, seen from the loop's head
 abbrev near : tie.At-loop Inv-loop μ-loop → Float → Bool
 near c =
     let a = c .before .before .before .before .before .before .before .before .args in
-    anyClose (rampIn (a .kind) (a .positions) (a .channels) (a .codes)) (offerIn (a .list-positions) (a .list-channels)) (a .threshold)
+    anyClose (rampIn (a .kind) (a .positions) (a .channels) (a .codes)) (offerIn (a .places) (a .colours)) (a .threshold)
 
 abbrev rows : tie.At-loop Inv-loop μ-loop → List Float
 rows c = c .before .before .before .before .before .before .before .before .args .rows .now
@@ -39,7 +39,7 @@ max c = c .before .before .before .before .before .before .before .before .args 
 loop-holds : tie.Need-loop-holds Inv-loop μ-loop
 loop-holds c =
     let a = c .before .before .before .before .before .before .before .args in
-    from-first (anyClose (rampIn (a .kind) (a .positions) (a .channels) (a .codes)) (offerIn (a .list-positions) (a .list-channels)) (a .threshold)) (a .rows .now) (a .counts .now) (a .max)
+    from-first (anyClose (rampIn (a .kind) (a .positions) (a .channels) (a .codes)) (offerIn (a .places) (a .colours)) (a .threshold)) (a .rows .now) (a .counts .now) (a .max)
 
 shared-slice-read-count : tie.Need-shared-slice-read-count Inv-loop μ-loop
 shared-slice-read-count c =
