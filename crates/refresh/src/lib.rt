@@ -62,17 +62,24 @@ pub fn refresh(
     ) {
         Checked::Refused(n) => Refreshed::Refused(n),
         Checked::Fine => {
-            let mut places = [0.0f32; MOST_STOPS + 1];
-            let mut colours = [0.0f32; 4 * (MOST_STOPS + 1)];
-            match copy(kind, positions, channels, edit, &mut places, &mut colours) {
+            let mut copied_positions = [0.0f32; MOST_STOPS + 1];
+            let mut copied_channels = [0.0f32; 4 * (MOST_STOPS + 1)];
+            match copy(
+                kind,
+                positions,
+                channels,
+                edit,
+                &mut copied_positions,
+                &mut copied_channels,
+            ) {
                 Copied::Refused(n) => Refreshed::Refused(n),
                 Copied::Stops(n) => {
                     let m = 4 * n;
                     let keep = kept(kind, positions, edit);
                     let made = resample(
                         kind,
-                        &places[..n],
-                        &colours[..m],
+                        &copied_positions[..n],
+                        &copied_channels[..m],
                         codes,
                         threshold,
                         keep,
@@ -99,10 +106,10 @@ pub fn refresh_list(
     rows: &mut [f32],
     counts: &mut [u8],
     marks: &mut [u32],
-    out_positions: &mut [f32],
-    out_channels: &mut [f32],
+    places: &mut [f32],
+    colours: &mut [f32],
 ) -> Listed
-    ensures { λ r. ⌜ RefreshLists (lentRamp kind positions channels codes) edit threshold (lentHeld rows counts marks) (lentOutput «out_positions» «out_channels») r ⌝ }
+    ensures { λ r. ⌜ RefreshLists (lentRamp kind positions channels codes) edit threshold (lentHeld rows counts marks) (lentOutput places colours) r ⌝ }
 {
     match check_thin(
         kind,
@@ -116,24 +123,31 @@ pub fn refresh_list(
     ) {
         Checked::Refused(n) => Listed::Refused(n),
         Checked::Fine => {
-            let mut places = [0.0f32; MOST_STOPS + 1];
-            let mut colours = [0.0f32; 4 * (MOST_STOPS + 1)];
-            match copy(kind, positions, channels, edit, &mut places, &mut colours) {
+            let mut copied_positions = [0.0f32; MOST_STOPS + 1];
+            let mut copied_channels = [0.0f32; 4 * (MOST_STOPS + 1)];
+            match copy(
+                kind,
+                positions,
+                channels,
+                edit,
+                &mut copied_positions,
+                &mut copied_channels,
+            ) {
                 Copied::Refused(n) => Listed::Refused(n),
                 Copied::Stops(n) => {
                     let m = 4 * n;
                     relist(
                         kind,
-                        &places[..n],
-                        &colours[..m],
+                        &copied_positions[..n],
+                        &copied_channels[..m],
                         codes,
                         threshold,
                         kept(kind, positions, edit),
                         rows,
                         counts,
                         marks,
-                        out_positions,
-                        out_channels,
+                        places,
+                        colours,
                     )
                 }
             }

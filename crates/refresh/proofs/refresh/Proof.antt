@@ -53,8 +53,8 @@ mul-m c =
 kept-requires : tie.Need-kept-requires
 kept-requires c κs = search needs
 
-array-share-prefix-places : tie.Need-array-share-prefix-places
-array-share-prefix-places c =
+array-share-prefix-copied-positions : tie.Need-array-share-prefix-copied-positions
+array-share-prefix-copied-positions c =
     let told = c .before in
     let copied = told .before .before .before .before .before in
     let passed = copied .before .before .before in
@@ -83,8 +83,8 @@ slice-aggregate-resample c =
     let holds = copy-holds ramp (a .edit) fine (replicate 2049 f0) (replicate 8196 f0) places colours (length-replicate 2049 f0) (length-replicate 8196 f0) _ (copied .copy .ensures) _ (told .before .n3 .given .1) in
     sym (length-take-le _ places (omega (arith, holds .few, copied .copy .kept .1 .1 .1 .1 .0)))
 
-array-share-prefix-colours : tie.Need-array-share-prefix-colours
-array-share-prefix-colours c =
+array-share-prefix-copied-channels : tie.Need-array-share-prefix-copied-channels
+array-share-prefix-copied-channels c =
     let told = c .before .before in
     let copied = told .before .before .before .before .before in
     let passed = copied .before .before .before in
@@ -196,9 +196,9 @@ refresh-spec =
     enum-known-n-3
     mul-m
     kept-requires
-    array-share-prefix-places
+    array-share-prefix-copied-positions
     slice-aggregate-resample
-    array-share-prefix-colours
+    array-share-prefix-copied-channels
     slice-aggregate-resample-2
     resample-requires
     refreshed-by-requires

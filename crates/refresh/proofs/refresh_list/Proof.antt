@@ -50,8 +50,8 @@ mul-m c =
     let holds = copy-holds ramp (a .edit) fine (replicate 2049 f0) (replicate 8196 f0) places colours (length-replicate 2049 f0) (length-replicate 8196 f0) _ (copied .copy .ensures) _ (told .before .n3 .given .1) in
     omega (arith, holds .few)
 
-array-share-prefix-places : tie.Need-array-share-prefix-places
-array-share-prefix-places c =
+array-share-prefix-copied-positions : tie.Need-array-share-prefix-copied-positions
+array-share-prefix-copied-positions c =
     let told = c in
     let copied = told .before .before .before .before .before in
     let passed = copied .before .before .before in
@@ -80,8 +80,8 @@ slice-aggregate-relist c =
     let holds = copy-holds ramp (a .edit) fine (replicate 2049 f0) (replicate 8196 f0) places colours (length-replicate 2049 f0) (length-replicate 8196 f0) _ (copied .copy .ensures) _ (told .before .n3 .given .1) in
     sym (length-take-le _ places (omega (arith, holds .few, copied .copy .kept .1 .1 .1 .1 .0)))
 
-array-share-prefix-colours : tie.Need-array-share-prefix-colours
-array-share-prefix-colours c =
+array-share-prefix-copied-channels : tie.Need-array-share-prefix-copied-channels
+array-share-prefix-copied-channels c =
     let told = c .before in
     let copied = told .before .before .before .before .before in
     let passed = copied .before .before .before in
@@ -198,9 +198,9 @@ refresh-list-spec =
     enum-known-n-2
     enum-known-n-3
     mul-m
-    array-share-prefix-places
+    array-share-prefix-copied-positions
     slice-aggregate-relist
-    array-share-prefix-colours
+    array-share-prefix-copied-channels
     slice-aggregate-relist-2
     kept-requires
     relist-requires
