@@ -24,12 +24,12 @@ pub extern "C" fn colorgrad_refresh(
     codes: &[u8],
     stop: usize,
     colour: Rgba,
-    threshold: f32,
+    asked: f32,
     rows: &mut [f32],
     counts: &mut [u8],
     marks: &mut [u32],
 ) -> SampleMade
-    ensures { λ r. ⌜ CodedRefreshes kind (codedRamp positions channels codes) (Colour stop colour) threshold (lentHeld rows counts marks) r ⌝ }
+    ensures { λ r. ⌜ CodedRefreshes kind (codedRamp positions channels codes) (Colour stop colour) asked (lentHeld rows counts marks) r ⌝ }
 {
     let Coded::Of(known) = kinds::kind_of(kind) else {
         return refreshed_shown(Refreshed::Refused(MISSHAPEN));
@@ -41,7 +41,7 @@ pub extern "C" fn colorgrad_refresh(
         channels,
         codes,
         edit,
-        threshold,
+        asked,
         rows,
         counts,
         marks,
@@ -56,14 +56,14 @@ pub extern "C" fn colorgrad_refresh_list(
     codes: &[u8],
     stop: usize,
     colour: Rgba,
-    threshold: f32,
+    asked: f32,
     rows: &mut [f32],
     counts: &mut [u8],
     marks: &mut [u32],
     places: &mut [f32],
     colours: &mut [f32],
 ) -> ListMade
-    ensures { λ r. ⌜ CodedRelists kind (codedRamp positions channels codes) (Colour stop colour) threshold (lentHeld rows counts marks) (lentOutput places colours) r ⌝ }
+    ensures { λ r. ⌜ CodedRelists kind (codedRamp positions channels codes) (Colour stop colour) asked (lentHeld rows counts marks) (lentOutput places colours) r ⌝ }
 {
     let Coded::Of(known) = kinds::kind_of(kind) else {
         return listed_shown(Listed::Refused(MISSHAPEN));
@@ -75,7 +75,7 @@ pub extern "C" fn colorgrad_refresh_list(
         channels,
         codes,
         edit,
-        threshold,
+        asked,
         rows,
         counts,
         marks,

@@ -26,12 +26,12 @@ pub extern "C" fn colorgrad_edit(
     stop: usize,
     at: f32,
     colour: Rgba,
-    threshold: f32,
+    asked: f32,
     rows: &mut [f32],
     counts: &mut [u8],
     marks: &mut [u32],
 ) -> SampleMade
-    ensures { λ r. ⌜ CodedRefreshes kind (codedRamp positions channels codes) (editOf sort stop at colour) threshold (lentHeld rows counts marks) r ⌝ }
+    ensures { λ r. ⌜ CodedRefreshes kind (codedRamp positions channels codes) (editOf sort stop at colour) asked (lentHeld rows counts marks) r ⌝ }
 {
     let Coded::Of(known) = kinds::kind_of(kind) else {
         return refreshed_shown(Refreshed::Refused(MISSHAPEN));
@@ -43,7 +43,7 @@ pub extern "C" fn colorgrad_edit(
         channels,
         codes,
         edit,
-        threshold,
+        asked,
         rows,
         counts,
         marks,
@@ -60,14 +60,14 @@ pub extern "C" fn colorgrad_edit_list(
     stop: usize,
     at: f32,
     colour: Rgba,
-    threshold: f32,
+    asked: f32,
     rows: &mut [f32],
     counts: &mut [u8],
     marks: &mut [u32],
     places: &mut [f32],
     colours: &mut [f32],
 ) -> ListMade
-    ensures { λ r. ⌜ CodedRelists kind (codedRamp positions channels codes) (editOf sort stop at colour) threshold (lentHeld rows counts marks) (lentOutput places colours) r ⌝ }
+    ensures { λ r. ⌜ CodedRelists kind (codedRamp positions channels codes) (editOf sort stop at colour) asked (lentHeld rows counts marks) (lentOutput places colours) r ⌝ }
 {
     let Coded::Of(known) = kinds::kind_of(kind) else {
         return listed_shown(Listed::Refused(MISSHAPEN));
@@ -79,7 +79,7 @@ pub extern "C" fn colorgrad_edit_list(
         channels,
         codes,
         edit,
-        threshold,
+        asked,
         rows,
         counts,
         marks,
