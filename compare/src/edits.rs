@@ -10,10 +10,10 @@ use crate::random::Random;
 use crate::refresh::{middles_clear, outside, reach, REFRESHED};
 use crate::report::Tally;
 
-const SORTS: [&str; 4] = ["colour", "move", "add", "remove"];
-const COLOUR: u32 = 0;
+pub const SORTS: [&str; 4] = ["colour", "move", "add", "remove"];
+pub const COLOUR: u32 = 0;
 const MOVE: u32 = 1;
-const ADD: u32 = 2;
+pub const ADD: u32 = 2;
 
 /// Of each sort, for ramps of all kinds, most of them linear or smoothstep.
 pub fn run(options: &Options) -> Vec<Tally> {
@@ -58,7 +58,7 @@ fn random_ramp(random: &mut Random) -> Ramp {
     ramp
 }
 
-fn random_edit(random: &mut Random, ramp: &Ramp, sort: u32) -> Sorted {
+pub fn random_edit(random: &mut Random, ramp: &Ramp, sort: u32) -> Sorted {
     let n = ramp.positions.len();
     let stop = match random.below(16) {
         0 => n + random.below(2),
@@ -117,7 +117,8 @@ fn edit_refusal(ramp: &Ramp, edit: &Sorted) -> u32 {
     0
 }
 
-fn refusal(ramp: &Ramp, edit: &Sorted) -> u32 {
+/// Those of the ramp, then those of the edit.
+pub fn refusal(ramp: &Ramp, edit: &Sorted) -> u32 {
     match early(ramp) {
         0 => edit_refusal(ramp, edit),
         number => number,
@@ -125,7 +126,7 @@ fn refusal(ramp: &Ramp, edit: &Sorted) -> u32 {
 }
 
 /// The ramp with the edit made.
-fn changed(ramp: &Ramp, edit: &Sorted) -> Ramp {
+pub fn changed(ramp: &Ramp, edit: &Sorted) -> Ramp {
     let (mut ramp, k) = (ramp.clone(), edit.stop);
     match edit.sort {
         COLOUR => ramp.channels[4 * k..4 * k + 4].copy_from_slice(&edit.colour),
@@ -158,6 +159,17 @@ fn clear(ramp: &Ramp, edit: &Sorted, cell: usize) -> bool {
     out(left) && out(right) && middles_clear(&out, left, right, 7)
 }
 
+/// The cells that are not clear, with the rows of the changed ramp and their evaluations.
+pub fn redone(ramp: &Ramp, edit: &Sorted, threshold: f32) -> impl Iterator<Item = (usize, Vec<f32>, usize)> {
+    let after = changed(ramp, edit);
+    let g = oracle::gradient(&after);
+    let cells: Vec<usize> = (0..CELLS).filter(|cell| !clear(ramp, edit, *cell)).collect();
+    cells.into_iter().map(move |cell| {
+        let (row, count) = oracle::row(&g, after.domain(), cell, threshold);
+        (cell, row, count)
+    })
+}
+
 /// A record of rubbish: only the cells that are not clear are written.
 fn kept(tally: &mut Tally, case: u64, ramp: &Ramp, edit: &Sorted, threshold: f32, record: Record) {
     tally.inputs(1);
@@ -167,10 +179,7 @@ fn kept(tally: &mut Tally, case: u64, ramp: &Ramp, edit: &Sorted, threshold: f32
     tally.answered((number == 0) as u64);
     let (mut want, mut evaluations) = (record, 0);
     if number == 0 {
-        let after = changed(ramp, edit);
-        let g = oracle::gradient(&after);
-        for cell in (0..CELLS).filter(|cell| !clear(ramp, edit, *cell)) {
-            let (row, count) = oracle::row(&g, after.domain(), cell, threshold);
+        for (cell, row, count) in redone(ramp, edit, threshold) {
             let whole = &mut want.rows[cell * ROW..(cell + 1) * ROW];
             whole.fill(0.0);
             whole[..row.len()].copy_from_slice(&row);

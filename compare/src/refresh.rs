@@ -120,7 +120,7 @@ pub fn middles_clear(out: &dyn Fn(f32) -> bool, t0: f32, t1: f32, depth: u32) ->
 }
 
 /// The cells that are not clear, with the rows of the changed ramp and their evaluations.
-pub fn redone(ramp: &Ramp, edit: &Edit, threshold: f32) -> impl Iterator<Item = (usize, Vec<f32>, usize)> {
+fn redone(ramp: &Ramp, edit: &Edit, threshold: f32) -> impl Iterator<Item = (usize, Vec<f32>, usize)> {
     let after = changed(ramp, edit);
     let g = oracle::gradient(&after);
     let cells: Vec<usize> = (0..CELLS).filter(|cell| !clear(ramp, edit.stop, *cell)).collect();

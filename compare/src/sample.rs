@@ -1,14 +1,15 @@
 //! The stored answers that the program `replay` runs: all of them the Rust's, or document 01's refusals.
 //! A word is eight hexadecimal digits and a line end; README.md has the records.
 
+use crate::edits::{self, changed, ADD, COLOUR, SORTS};
 use crate::limits;
 use crate::lists::{early, emitted, random_record, random_threshold, MOST_POINTS};
 use crate::options::Options;
 use crate::oracle::{self, List, Record, CELLS, MARKS, ROW};
-use crate::ours::Edit;
+use crate::ours::{Edit, Sorted};
 use crate::ramps::{random_or_spoilt, random_points, Kind, Ramp, KINDS, MOST_SEGMENTS};
 use crate::random::Random;
-use crate::refresh::{self, changed, REFRESHED};
+use crate::refresh::{self, REFRESHED};
 use crate::sharp;
 use crate::texts;
 use std::collections::BTreeSet;
@@ -20,20 +21,31 @@ const RAMPS: u64 = 30;
 const POINTS: usize = 14;
 /// Points of each ramp at a limit.
 const MOST_TURNS: usize = 24;
-/// Lists of each kind, lists of records, and refreshed ones.
+/// Lists of each kind, lists of records, and refreshed ones by the sort of edit: a colour, a move, an addition, a removal.
 const LISTS: u64 = 24;
 const THINNED: u64 = 100;
-const EDITS: u64 = 600;
+const EDITS: [u64; 4] = [300, 100, 100, 100];
 const TEXTS: u64 = 60;
 const BUILT: u64 = 100;
 
 /// Refusals that the first cases must have, so that all that a call can give are stored: of the first two
-/// lists of each kind, and of the other sorts from their start. The ramps at the limits have those of a ramp.
+/// lists of each kind, and of the other sorts from their start, refreshed ones by the sort of edit. The ramps
+/// at the limits have those of a ramp.
 const OF_LISTS: [[u32; 2]; 6] = [[1, 4], [2, 8], [3, 5], [4, 7], [7, 8], [5, 1]];
 const OF_THINNED: [u32; 10] = [5, 8, 9, 9, 4, 1, 2, 3, 20, 20];
-const OF_REFRESHED: [u32; 18] = [1, 2, 3, 4, 5, 6, 6, 8, 0, 0, 0, 0, 0, 0, 0, 0, 0, 0];
+const OF_REFRESHED: [[u32; 8]; 4] =
+    [[1, 2, 3, 4, 5, 8, 6, 6], [6, 0, 6, 6, 3, 5, 6, 8], [6, 6, 6, 6, 3, 5, 6, 8], [0, 0, 6, 6, 0, 5, 6, 8]];
 const OF_TEXTS: [u32; 9] = [2, 10, 11, 12, 13, 14, 15, 16, 18];
 const OF_BUILT: [u32; 3] = [17, 1, 2];
+
+/// The one thing that is wrong in each of the first moves, additions and removals; nothing is where the sort has no such part.
+const SPOILT: [fn(&mut Sorted, &Ramp); 5] = [
+    |edit, _| edit.position = f32::NAN,
+    |edit, _| edit.colour[3] = f32::INFINITY,
+    |edit, _| edit.stop = 0,
+    |edit, ramp| edit.stop = ramp.positions.len() - (edit.sort != ADD) as usize,
+    |edit, ramp| edit.position = ramp.positions[0].next_down(),
+];
 
 /// What is longer is left out, but for one ramp of each size that is the most.
 const LONG_RAMP: usize = 12;
@@ -315,42 +327,84 @@ fn thinned(options: &Options, words: &mut Words) {
 }
 
 fn refreshed(options: &Options, words: &mut Words) {
-    words.size(EDITS as usize);
-    for case in 0..EDITS {
-        let mut random = Random::of_case(options.seed, case);
-        // one of a kind that cannot be refreshed
-        let kind = if case == 6 { random.pick(&[Kind::Sharp, Kind::Gimp]) } else { random.pick(&REFRESHED) };
-        let (ramp, threshold, room, edit, refusal, list) = loop {
-            let (ramp, threshold) = (short(&mut random, kind), random_threshold(&mut random));
-            let room = if random.one_in(8) { Room::ShortRecord } else { Room::Full };
-            let edit = refresh::random_edit(&mut random, &ramp);
-            // a word holds it
-            let edit = Edit { stop: edit.stop.min(MOST_POINTS), ..edit };
-            let counts: &[u8] = if room == Room::ShortRecord { &[0] } else { &[] };
-            let refusal = refresh::refusal(&ramp, &edit, counts, true);
-            let list = if refusal == 0 { refreshed_list(&ramp, &edit, threshold) } else { list_of(&ramp, threshold) };
-            let told = if refusal == 0 { emitted(&list, room.outputs()).0 } else { refusal };
-            if list.stops.len() <= LONG_LIST && is_wanted(&OF_REFRESHED, case, told) {
-                break (ramp, threshold, room, edit, refusal, list);
-            }
-        };
-        words.ramp(&ramp);
-        words.float(threshold);
-        words.word(room as u32);
-        words.size(edit.stop);
-        words.floats(&edit.colour);
-        words.list(refusal, &list, Room::Full);
+    words.word(EDITS.iter().sum::<u64>() as u32);
+    for (sort, name) in (0..).zip(SORTS) {
+        let (before, count) = (words.answered, EDITS[sort as usize]);
+        for case in 0..count {
+            refreshed_case(words, sort, case, Random::of_case(8 * options.seed + sort as u64, case));
+        }
+        println!("refreshed, {name}: {count} records, {} of them not refused", words.answered - before);
     }
     words.printed("refreshed");
 }
 
+fn refreshed_case(words: &mut Words, sort: u32, case: u64, mut random: Random) {
+    let kind = edited_kind(&mut random, sort, case);
+    let (ramp, threshold, room, edit, refusal, list) = loop {
+        let (ramp, threshold) = (short(&mut random, kind), random_threshold(&mut random));
+        let room = if random.one_in(8) { Room::ShortRecord } else { Room::Full };
+        let mut edit = random_edit(&mut random, &ramp, sort);
+        if let Some(spoil) = SPOILT.get(case as usize).filter(|_| sort != COLOUR) {
+            if edits::refusal(&ramp, &edit) != 0 {
+                continue;
+            }
+            spoil(&mut edit, &ramp);
+        }
+        let refusal = match early(&ramp) {
+            0 if room == Room::ShortRecord => 5,
+            _ => edits::refusal(&ramp, &edit),
+        };
+        let list = if refusal == 0 { refreshed_list(&ramp, &edit, threshold) } else { list_of(&ramp, threshold) };
+        let told = if refusal == 0 { emitted(&list, room.outputs()).0 } else { refusal };
+        if list.stops.len() <= LONG_LIST && is_wanted_edit(sort, case, told) {
+            break (ramp, threshold, room, edit, refusal, list);
+        }
+    };
+    words.ramp(&ramp);
+    words.float(threshold);
+    words.word(room as u32);
+    words.word(edit.sort);
+    words.size(edit.stop);
+    words.float(edit.position);
+    words.floats(&edit.colour);
+    words.list(refusal, &list, Room::Full);
+}
+
+/// A kind that has this sort of edit; now and then one that has not, the seventh first.
+fn edited_kind(random: &mut Random, sort: u32, case: u64) -> Kind {
+    match (sort, case % 32) {
+        (COLOUR, 6) => random.pick(&[Kind::Sharp, Kind::Gimp]),
+        (COLOUR, _) => random.pick(&REFRESHED),
+        (_, 6) => random.pick(&[Kind::Sharp, Kind::Basis, Kind::CatmullRom, Kind::Gimp]),
+        _ => random.pick(&[Kind::Linear, Kind::Smoothstep]),
+    }
+}
+
+/// Whether an edit may have this refusal: the first ones have theirs; of the others every second has none.
+fn is_wanted_edit(sort: u32, case: u64, refusal: u32) -> bool {
+    let wanted = &OF_REFRESHED[sort as usize];
+    let is_first = (case as usize) < wanted.len();
+    is_wanted(wanted, case, refusal) && (is_first || case % 2 == 0 || refusal == 0)
+}
+
+fn random_edit(random: &mut Random, ramp: &Ramp, sort: u32) -> Sorted {
+    let edit = if sort == COLOUR {
+        let Edit { stop, colour } = refresh::random_edit(random, ramp);
+        Sorted { sort, stop, position: 0.0, colour }
+    } else {
+        edits::random_edit(random, ramp, sort)
+    };
+    // a word holds it
+    Sorted { stop: edit.stop.min(MOST_POINTS), ..edit }
+}
+
 /// The list of the changed ramp, with the evaluations of the cells that are redone.
-fn refreshed_list(ramp: &Ramp, edit: &Edit, threshold: f32) -> List {
+fn refreshed_list(ramp: &Ramp, edit: &Sorted, threshold: f32) -> List {
     let after = changed(ramp, edit);
     let g = oracle::gradient(&after);
     let (record, _) = oracle::record(&g, after.domain(), threshold);
     let mut list = oracle::thinned(&g, after.domain().1, threshold, &record);
-    list.evaluations += refresh::redone(ramp, edit, threshold).map(|(_, _, count)| count).sum::<usize>();
+    list.evaluations += edits::redone(ramp, edit, threshold).map(|(_, _, count)| count).sum::<usize>();
     list
 }
 

@@ -1,8 +1,7 @@
-// Stored lists: of a ramp, of a record, and of a ramp after one of its stops was given another colour.
+// Stored lists: of a ramp, of a record, and of a ramp after an edit.
 use crate::Tally;
+use crate::edits;
 use crate::words;
-use blend::Rgba;
-use editing::Edit;
 use linearize::Listed;
 use linearize::Sampler;
 use stops::Kind;
@@ -179,13 +178,7 @@ fn refresh(
     let mut marks = [0u32; Sampler::MARKS];
     let mut places = [RUBBISH; RECORD + 1];
     let mut colours = [RUBBISH; 4 * (RECORD + 1)];
-    let stop = words::word() as usize;
-    let colour = Rgba {
-        r: words::float(),
-        g: words::float(),
-        b: words::float(),
-        a: words::float(),
-    };
+    let edit = edits::next();
     linearize::sample(
         kind,
         positions,
@@ -201,7 +194,7 @@ fn refresh(
         positions,
         channels,
         codes,
-        Edit::Colour { stop, colour },
+        edit,
         threshold,
         rows,
         &mut counts,

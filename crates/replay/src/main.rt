@@ -1,6 +1,7 @@
 // Runs the answers that the published Rust gave, as `compare/` stored them, and counts those that are equal here.
 mod bands;
 mod colours;
+mod edits;
 mod lists;
 mod ramps;
 mod texts;

@@ -1,7 +1,6 @@
 // Stored GIMP texts: the refusal and its line, or 0 and the segments; and the name.
 use crate::Tally;
 use crate::words;
-use blend::Rgba;
 use ggr::Answer;
 
 const MOST_BYTES: usize = 4096;
@@ -33,22 +32,13 @@ fn is_answer(answer: Answer) -> bool {
     }
 }
 
-fn colour() -> Rgba {
-    Rgba {
-        r: words::float(),
-        g: words::float(),
-        b: words::float(),
-        a: words::float(),
-    }
-}
-
 // The answer, the three outputs, the name and its length, each an answer of its own.
 fn answers(text: &[u8], before: Tally) -> Tally {
     let mut positions = [0.0f32; 3 * MOST_SEGMENTS];
     let mut channels = [0.0f32; 8 * MOST_SEGMENTS];
     let mut codes = [0u8; 2 * MOST_SEGMENTS];
-    let foreground = colour();
-    let background = colour();
+    let foreground = words::colour();
+    let background = words::colour();
     let answer = ggr::read(
         text,
         foreground,

@@ -1,4 +1,5 @@
 // The stored answers come as words on standard input: eight hexadecimal digits and one byte that ends them.
+use blend::Rgba;
 
 // The value of a hexadecimal digit, 0 for any other byte.
 fn digit(b: u8) -> u32 {
@@ -41,6 +42,15 @@ pub fn float_of(bits: u32) -> f32 {
 
 pub fn float() -> f32 {
     float_of(word())
+}
+
+pub fn colour() -> Rgba {
+    Rgba {
+        r: float(),
+        g: float(),
+        b: float(),
+        a: float(),
+    }
 }
 
 // Whether x is the float that a word stands for; one NaN stands for all.
