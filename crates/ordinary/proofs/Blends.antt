@@ -46,7 +46,7 @@ high-half : Cut below127 f0 below127
 unfolding ofBits neg add sub mul round le
 high-half = record { first = tt; last = tt; least = tt; most = tt; fall = tt; rise = tt; down = tt; up = tt; fallen = tt; risen = tt; lowest = tt; highest = tt }
 
-module _ (l c d a b t : Float) (cut : Cut l c d) (fa : T (finite a)) (fb : T (finite b)) (ft : T (finite t)) (ac : T (le c a)) (ad : T (le a d)) (bl : T (le (neg l) b)) (bh : T (le b l)) (t0 : T (le f0 t)) (t1 : T (le t f1)) where
+module _ (l c d a b t : Float) (cut : Cut l c d) (fa : T (finite a)) (fb : T (finite b)) (ft : T (finite t)) (above-c : T (le c a)) (ad : T (le a d)) (bl : T (le (neg l) b)) (bh : T (le b l)) (t0 : T (le f0 t)) (t1 : T (le t f1)) where
   abbrev x : Float
   x = b ⊖ a
 
@@ -54,7 +54,7 @@ module _ (l c d a b t : Float) (cut : Cut l c d) (fa : T (finite a)) (fb : T (fi
   low = sub-mono (neg l) d b a (cut .least) (cut .last) fb fa bl ad
 
   high : T (le x (l ⊖ c))
-  high = sub-mono b a l c fb fa (cut .most) (cut .first) bh ac
+  high = sub-mono b a l c fb fa (cut .most) (cut .first) bh above-c
 
   fx : T (finite x)
   fx = order.finite-between (neg l ⊖ d) x (l ⊖ c) (cut .fall) (cut .rise) low high
@@ -71,7 +71,7 @@ module _ (l c d a b t : Float) (cut : Cut l c d) (fa : T (finite a)) (fb : T (fi
   cut-finite : T (finite (linear1 a b t))
   cut-finite =
       order.finite-between (c ⊕ (neg l ⊖ d) ⊗ f1) (linear1 a b t) (d ⊕ (l ⊖ c) ⊗ f1) (cut .lowest) (cut .highest)
-      (add-mono c ((neg l ⊖ d) ⊗ f1) a (t ⊗ x) (cut .first) (cut .fallen) fa fy ac by-low)
+      (add-mono c ((neg l ⊖ d) ⊗ f1) a (t ⊗ x) (cut .first) (cut .fallen) fa fy above-c by-low)
       (add-mono a (t ⊗ x) d ((l ⊖ c) ⊗ f1) fa fy (cut .last) (cut .risen) ad by-high)
 
 module _ (a b t : Float) (fa : T (finite a)) (fb : T (finite b)) (ft : T (finite t)) (t0 : T (le f0 t)) (t1 : T (le t f1)) where
