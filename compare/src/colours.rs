@@ -31,20 +31,12 @@ fn at_limits(options: &Options) -> Tally {
 
 fn one_kind(options: &Options, kind: Kind) -> Tally {
     let mut tally = Tally::new(format!("colours: {}", kind.name()), options.seed);
-    let wanted = options.size;
-    let mut case = options.case.unwrap_or(0);
-    while tally.count() < wanted {
+    tally.until_enough(options, |tally, case| {
         let mut random = Random::of_case(8 * options.seed + kind.code() as u64, case);
         let ramp = random_or_spoilt(&mut random, kind);
         let points = random_points(&mut random, &ramp, POINTS);
-        compare(&mut tally, case, &ramp, &points, random.one_in(16));
-        if options.case.is_some() {
-            break;
-        }
-        case += 1;
-        let count = tally.count();
-        tally.progress(count, wanted);
-    }
+        compare(tally, case, &ramp, &points, random.one_in(16));
+    });
     tally.done()
 }
 

@@ -1,13 +1,13 @@
 //! Edits of every sort: a refreshed record beside one sampled afresh and the Rust's rows, and the list of the changed ramp
 //! beside the Rust's own. Cells that are clear keep even rubbish; refusals in their order.
 
-use crate::lists::{agrees, early, emitted, is_record, random_record, random_threshold, MOST_POINTS, RUBBISH};
+use crate::lists::{early, random_record, random_threshold};
 use crate::options::Options;
-use crate::oracle::{self, Record, CELLS, ROW};
+use crate::oracle::{self, Record, CELLS};
 use crate::ours::{self, Sorted};
 use crate::ramps::{random_or_spoilt, Kind, Ramp, KINDS, MOST_STOPS};
 use crate::random::Random;
-use crate::refresh::{middles_clear, outside, reach, REFRESHED};
+use crate::refresh::{due, is_kept, outside, reach, redone_by, stale, Redone, REFRESHED};
 use crate::report::Tally;
 
 pub const SORTS: [&str; 4] = ["colour", "move", "add", "remove"];
@@ -153,21 +153,9 @@ fn is_outside(ramp: &Ramp, edit: &Sorted, t: f32) -> bool {
     }
 }
 
-fn clear(ramp: &Ramp, edit: &Sorted, cell: usize) -> bool {
-    let (left, right) = (oracle::edge(ramp.domain(), cell), oracle::edge(ramp.domain(), cell + 1));
-    let out = |t| is_outside(ramp, edit, t);
-    out(left) && out(right) && middles_clear(&out, left, right, 7)
-}
-
 /// The cells that are not clear, with the rows of the changed ramp and their evaluations.
-pub fn redone(ramp: &Ramp, edit: &Sorted, threshold: f32) -> impl Iterator<Item = (usize, Vec<f32>, usize)> {
-    let after = changed(ramp, edit);
-    let g = oracle::gradient(&after);
-    let cells: Vec<usize> = (0..CELLS).filter(|cell| !clear(ramp, edit, *cell)).collect();
-    cells.into_iter().map(move |cell| {
-        let (row, count) = oracle::row(&g, after.domain(), cell, threshold);
-        (cell, row, count)
-    })
+pub fn redone(ramp: &Ramp, edit: &Sorted, threshold: f32) -> impl Iterator<Item = Redone> {
+    redone_by(ramp, changed(ramp, edit), threshold, &|t| is_outside(ramp, edit, t))
 }
 
 /// A record of rubbish: only the cells that are not clear are written.
@@ -177,52 +165,22 @@ fn kept(tally: &mut Tally, case: u64, ramp: &Ramp, edit: &Sorted, threshold: f32
     let answer = ours::edit(ramp, edit, threshold, &mut got);
     let number = refusal(ramp, edit);
     tally.answered((number == 0) as u64);
-    let (mut want, mut evaluations) = (record, 0);
-    if number == 0 {
-        for (cell, row, count) in redone(ramp, edit, threshold) {
-            let whole = &mut want.rows[cell * ROW..(cell + 1) * ROW];
-            whole.fill(0.0);
-            whole[..row.len()].copy_from_slice(&row);
-            want.counts[cell] = row.len() as u8;
-            evaluations += count;
-        }
-    }
-    let right = match answer {
-        Ok(count) => number == 0 && count == evaluations,
-        Err(refused) => number == refused,
-    };
-    let bits = |rows: &[f32]| rows.iter().map(|x| x.to_bits()).collect::<Vec<u32>>();
-    if !right || bits(&got.rows) != bits(&want.rows) || (&got.counts, &got.marks) != (&want.counts, &want.marks) {
-        tally.differs(case, || format!("{answer:?}, not {number} and {evaluations}, {edit:?} of {ramp:?}"));
+    let cells: Vec<Redone> = if number == 0 { redone(ramp, edit, threshold).collect() } else { Vec::new() };
+    let due = due(number, &cells);
+    if answer != due || !is_kept(record, &cells, &got) {
+        tally.differs(case, || format!("{answer:?}, not {due:?}, {edit:?} of {ramp:?}"));
     }
 }
 
-/// Sampled, refreshed and thinned, against the changed ramp sampled here and flattened by the Rust; and the two last steps
-/// in one call.
 fn edited(tally: &mut Tally, case: u64, ramp: &Ramp, edit: &Sorted, threshold: f32) {
     if refusal(ramp, edit) != 0 {
         return;
     }
-    tally.inputs(1);
-    let after = changed(ramp, edit);
-    let g = oracle::gradient(&after);
-    let (want, _) = oracle::record(&g, after.domain(), threshold);
-    let mut list = oracle::thinned(&g, after.domain().1, threshold, &want);
-    tally.answered((emitted(&list, (MOST_POINTS, 4 * MOST_POINTS)).0 == 0) as u64);
-    let (mut record, mut fresh) = (Record::empty(), Record::empty());
-    let sampled = ours::sample(ramp, threshold, &mut record).and(ours::sample(&after, threshold, &mut fresh));
-    let mut again = record.clone();
-    let done = ours::edit(ramp, edit, threshold, &mut record);
-    let room = (MOST_POINTS, 4 * MOST_POINTS);
-    let mut out = (vec![RUBBISH; room.0], vec![RUBBISH; room.1]);
-    let got = ours::thin(&after, threshold, &record, &mut out.0, &mut out.1);
-    let two_steps =
-        sampled.is_ok() && is_record(&record, &fresh) && is_record(&record, &want) && agrees(got, &list, room, (&out.0, &out.1));
-    let mut out = (vec![RUBBISH; room.0], vec![RUBBISH; room.1]);
-    let both = ours::edit_list(ramp, edit, threshold, &mut again, &mut out.0, &mut out.1);
-    list.evaluations += done.unwrap_or_default();
-    let one_call = is_record(&again, &want) && agrees(both, &list, room, (&out.0, &out.1));
-    if !two_steps || !one_call || done.is_err() {
-        tally.differs(case, || format!("{done:?}, {got:?}, {both:?}, {edit:?} of {ramp:?}"));
+    let refresh = |record: &mut Record| ours::edit(ramp, edit, threshold, record);
+    let refresh_list = |record: &mut Record, places: &mut [f32], colours: &mut [f32]| {
+        ours::edit_list(ramp, edit, threshold, record, places, colours)
+    };
+    if let Some(answers) = stale(tally, (ramp, &changed(ramp, edit)), threshold, refresh, refresh_list) {
+        tally.differs(case, || format!("{answers}, {edit:?} of {ramp:?}"));
     }
 }

@@ -16,20 +16,12 @@ pub const CLASS: &str = "sinusoidal, by hue: within 2^-17";
 pub fn run(options: &Options) -> Vec<Tally> {
     let mut tally = Tally::new("hues", options.seed);
     let mut greatest = (0.0, String::new());
-    let wanted = options.size;
-    let mut case = options.case.unwrap_or(0);
-    while tally.count() < wanted {
+    tally.until_enough(options, |tally, case| {
         let mut random = Random::of_case(options.seed, case);
         let ramp = random_ramp(&mut random);
         let points: Vec<f32> = sine::random_points(&mut random, &ramp).into_iter().map(|p| p.1).collect();
-        compare(&mut tally, case, &ramp, &points, &mut greatest);
-        if options.case.is_some() {
-            break;
-        }
-        case += 1;
-        let count = tally.count();
-        tally.progress(count, wanted);
-    }
+        compare(tally, case, &ramp, &points, &mut greatest);
+    });
     println!("greatest gap of a sinusoidal segment {:e}, 2^{:.2}: {}", greatest.0, f32::log2(greatest.0), greatest.1);
     vec![tally.done()]
 }

@@ -50,7 +50,7 @@ struct SampleMade {
 }
 
 #[repr(C)]
-struct ListMade {
+struct PlainList {
     refusal: u32,
     stops: usize,
     evaluations: usize,
@@ -59,7 +59,7 @@ struct ListMade {
 /// Where a caller is in a list, as the library has it: 0 the start, 1 after a stop, 2 the end.
 #[derive(Clone, Copy, PartialEq, Debug)]
 #[repr(C)]
-pub struct Place {
+pub struct PlainPlace {
     pub state: u32,
     pub row: u32,
     pub index: u32,
@@ -72,7 +72,7 @@ struct StopHanded {
     position: f32,
     colour: [f32; 4],
     evaluations: usize,
-    place: Place,
+    place: PlainPlace,
 }
 
 #[repr(C)]
@@ -178,7 +178,7 @@ extern "C" {
         places_length: usize,
         colours: *mut f32,
         colours_length: usize,
-    ) -> ListMade;
+    ) -> PlainList;
     fn colorgrad_next_stop(
         kind: u32,
         positions: *const f32,
@@ -194,7 +194,7 @@ extern "C" {
         counts_length: usize,
         marks: *const u32,
         marks_length: usize,
-        place: Place,
+        place: PlainPlace,
     ) -> StopHanded;
     fn colorgrad_flatten(
         kind: u32,
@@ -215,7 +215,7 @@ extern "C" {
         places_length: usize,
         colours: *mut f32,
         colours_length: usize,
-    ) -> ListMade;
+    ) -> PlainList;
     fn colorgrad_refresh(
         kind: u32,
         positions: *const f32,
@@ -255,7 +255,7 @@ extern "C" {
         places_length: usize,
         colours: *mut f32,
         colours_length: usize,
-    ) -> ListMade;
+    ) -> PlainList;
     fn colorgrad_judge(
         kind: u32,
         positions: *const f32,
@@ -313,7 +313,7 @@ extern "C" {
         places_length: usize,
         colours: *mut f32,
         colours_length: usize,
-    ) -> ListMade;
+    ) -> PlainList;
     fn colorgrad_name(text: *const u8, text_length: usize, out: *mut u8, out_length: usize) -> usize;
 }
 
@@ -466,7 +466,7 @@ pub fn sample(ramp: &Ramp, threshold: f32, record: &mut Record) -> Result<usize,
 /// The stops written and the evaluations, or the number of the refusal.
 pub type Listed = Result<(usize, usize), u32>;
 
-fn listed(made: ListMade) -> Listed {
+fn listed(made: PlainList) -> Listed {
     answer(made.refusal, (made.stops, made.evaluations))
 }
 
@@ -500,9 +500,9 @@ pub fn thin(ramp: &Ramp, threshold: f32, record: &Record, places: &mut [f32], co
 pub type Told = Result<Option<(f32, [f32; 4])>, u32>;
 
 /// What a step tells, its evaluations, and the place to go on from.
-pub type Handed = (Told, usize, Place);
+pub type Handed = (Told, usize, PlainPlace);
 
-pub fn next_stop(ramp: &Ramp, threshold: f32, record: &Record, place: Place) -> Handed {
+pub fn next_stop(ramp: &Ramp, threshold: f32, record: &Record, place: PlainPlace) -> Handed {
     let (p, c, k) = (&ramp.positions, &ramp.channels, &ramp.codes);
     let handed = unsafe {
         colorgrad_next_stop(

@@ -105,13 +105,12 @@ pub fn outside(positions: &[f32], reach: usize, k: usize, t: f32) -> bool {
     before || positions.get(k + reach).is_some_and(|right| t > *right)
 }
 
-fn clear(ramp: &Ramp, k: usize, cell: usize) -> bool {
+fn is_clear(ramp: &Ramp, cell: usize, out: &dyn Fn(f32) -> bool) -> bool {
     let (left, right) = (oracle::edge(ramp.domain(), cell), oracle::edge(ramp.domain(), cell + 1));
-    let out = |t| outside(&ramp.positions, reach(ramp.kind), k, t);
-    out(left) && out(right) && middles_clear(&out, left, right, 7)
+    out(left) && out(right) && middles_clear(out, left, right, 7)
 }
 
-pub fn middles_clear(out: &dyn Fn(f32) -> bool, t0: f32, t1: f32, depth: u32) -> bool {
+fn middles_clear(out: &dyn Fn(f32) -> bool, t0: f32, t1: f32, depth: u32) -> bool {
     if depth == 0 {
         return true;
     }
@@ -119,15 +118,44 @@ pub fn middles_clear(out: &dyn Fn(f32) -> bool, t0: f32, t1: f32, depth: u32) ->
     out(middle) && middles_clear(out, t0, middle, depth - 1) && middles_clear(out, middle, t1, depth - 1)
 }
 
-/// The cells that are not clear, with the rows of the changed ramp and their evaluations.
-fn redone(ramp: &Ramp, edit: &Edit, threshold: f32) -> impl Iterator<Item = (usize, Vec<f32>, usize)> {
-    let after = changed(ramp, edit);
+/// A cell that is sampled anew, its row and its evaluations.
+pub type Redone = (usize, Vec<f32>, usize);
+
+/// The cells that are not clear, where a point is `out` of the stretch or not, with the rows of the changed ramp.
+pub fn redone_by(ramp: &Ramp, after: Ramp, threshold: f32, out: &dyn Fn(f32) -> bool) -> impl Iterator<Item = Redone> {
     let g = oracle::gradient(&after);
-    let cells: Vec<usize> = (0..CELLS).filter(|cell| !clear(ramp, edit.stop, *cell)).collect();
+    let cells: Vec<usize> = (0..CELLS).filter(|cell| !is_clear(ramp, *cell, out)).collect();
     cells.into_iter().map(move |cell| {
         let (row, count) = oracle::row(&g, after.domain(), cell, threshold);
         (cell, row, count)
     })
+}
+
+fn redone(ramp: &Ramp, edit: &Edit, threshold: f32) -> impl Iterator<Item = Redone> {
+    redone_by(ramp, changed(ramp, edit), threshold, &|t| outside(&ramp.positions, reach(ramp.kind), edit.stop, t))
+}
+
+/// The evaluations of these cells, or the refusal.
+pub fn due(number: u32, cells: &[Redone]) -> Result<usize, u32> {
+    if number == 0 {
+        Ok(cells.iter().map(|cell| cell.2).sum())
+    } else {
+        Err(number)
+    }
+}
+
+/// Whether a record of rubbish has these cells anew, and all else as it was.
+pub fn is_kept(was: Record, cells: &[Redone], got: &Record) -> bool {
+    let mut want = was;
+    for (cell, row, _) in cells {
+        let whole = &mut want.rows[cell * ROW..(cell + 1) * ROW];
+        whole.fill(0.0);
+        whole[..row.len()].copy_from_slice(row);
+        want.counts[*cell] = row.len() as u8;
+    }
+    // every byte of a clear row stays, a not-a-number's too
+    let bits = |rows: &[f32]| rows.iter().map(|x| x.to_bits()).collect::<Vec<u32>>();
+    bits(&got.rows) == bits(&want.rows) && (&got.counts, &got.marks) == (&want.counts, &want.marks)
 }
 
 /// A record of rubbish: only the cells that are not clear are written.
@@ -138,53 +166,53 @@ pub fn kept(tally: &mut Tally, case: u64, ramp: &Ramp, edit: &Edit, threshold: f
     let own_words = early(ramp) != 0 || record.marks == oracle::marks(ramp.domain(), threshold);
     let number = refusal(ramp, edit, &record.counts, own_words);
     tally.answered((number == 0) as u64);
-    let (mut want, mut evaluations) = (record, 0);
-    if number == 0 {
-        for (cell, row, count) in redone(ramp, edit, threshold) {
-            let whole = &mut want.rows[cell * ROW..(cell + 1) * ROW];
-            whole.fill(0.0);
-            whole[..row.len()].copy_from_slice(&row);
-            want.counts[cell] = row.len() as u8;
-            evaluations += count;
-        }
-    }
-    let right = match answer {
-        Ok(count) => number == 0 && count == evaluations,
-        Err(refused) => number == refused,
-    };
-    // every byte of a clear row stays, a not-a-number's too
-    let bits = |rows: &[f32]| rows.iter().map(|x| x.to_bits()).collect::<Vec<u32>>();
-    if !right || bits(&got.rows) != bits(&want.rows) || (&got.counts, &got.marks) != (&want.counts, &want.marks) {
-        tally.differs(case, || format!("{answer:?}, not {number} and {evaluations}, stop {} of {ramp:?}", edit.stop));
+    let cells: Vec<Redone> = if number == 0 { redone(ramp, edit, threshold).collect() } else { Vec::new() };
+    let due = due(number, &cells);
+    if answer != due || !is_kept(record, &cells, &got) {
+        tally.differs(case, || format!("{answer:?}, not {due:?}, stop {} of {ramp:?}", edit.stop));
     }
 }
 
 /// Sampled, refreshed and thinned, against the changed ramp sampled here and flattened by the Rust; and the two last steps
-/// in one call.
-pub fn refreshed(tally: &mut Tally, case: u64, ramp: &Ramp, edit: &Edit, threshold: f32) {
-    if refusal(ramp, edit, &[], true) != 0 {
-        return;
-    }
+/// in one call. The answers, where something is wrong.
+pub fn stale(
+    tally: &mut Tally,
+    (ramp, after): (&Ramp, &Ramp),
+    threshold: f32,
+    refresh: impl Fn(&mut Record) -> Result<usize, u32>,
+    refresh_list: impl Fn(&mut Record, &mut [f32], &mut [f32]) -> ours::Listed,
+) -> Option<String> {
     tally.inputs(1);
-    let after = changed(ramp, edit);
-    let g = oracle::gradient(&after);
+    let g = oracle::gradient(after);
     let (want, _) = oracle::record(&g, after.domain(), threshold);
     let mut list = oracle::thinned(&g, after.domain().1, threshold, &want);
     tally.answered((emitted(&list, (MOST_POINTS, 4 * MOST_POINTS)).0 == 0) as u64);
     let (mut record, mut fresh) = (Record::empty(), Record::empty());
-    let sampled = ours::sample(ramp, threshold, &mut record).and(ours::sample(&after, threshold, &mut fresh));
+    let sampled = ours::sample(ramp, threshold, &mut record).and(ours::sample(after, threshold, &mut fresh));
     let mut again = record.clone();
-    let done = ours::refresh(ramp, edit, threshold, &mut record);
+    let done = refresh(&mut record);
     let room = (MOST_POINTS, 4 * MOST_POINTS);
     let mut out = (vec![RUBBISH; room.0], vec![RUBBISH; room.1]);
-    let got = ours::thin(&after, threshold, &record, &mut out.0, &mut out.1);
+    let got = ours::thin(after, threshold, &record, &mut out.0, &mut out.1);
     let two_steps =
         sampled.is_ok() && is_record(&record, &fresh) && is_record(&record, &want) && agrees(got, &list, room, (&out.0, &out.1));
     let mut out = (vec![RUBBISH; room.0], vec![RUBBISH; room.1]);
-    let both = ours::refresh_list(ramp, edit, threshold, &mut again, &mut out.0, &mut out.1);
+    let both = refresh_list(&mut again, &mut out.0, &mut out.1);
     list.evaluations += done.unwrap_or_default();
     let one_call = is_record(&again, &want) && agrees(both, &list, room, (&out.0, &out.1));
-    if !two_steps || !one_call || done.is_err() {
-        tally.differs(case, || format!("{done:?}, {got:?}, {both:?}, stop {} of {ramp:?}", edit.stop));
+    let right = two_steps && one_call && done.is_ok();
+    (!right).then(|| format!("{done:?}, {got:?}, {both:?}"))
+}
+
+pub fn refreshed(tally: &mut Tally, case: u64, ramp: &Ramp, edit: &Edit, threshold: f32) {
+    if refusal(ramp, edit, &[], true) != 0 {
+        return;
+    }
+    let refresh = |record: &mut Record| ours::refresh(ramp, edit, threshold, record);
+    let refresh_list = |record: &mut Record, places: &mut [f32], colours: &mut [f32]| {
+        ours::refresh_list(ramp, edit, threshold, record, places, colours)
+    };
+    if let Some(answers) = stale(tally, (ramp, &changed(ramp, edit)), threshold, refresh, refresh_list) {
+        tally.differs(case, || format!("{answers}, stop {} of {ramp:?}", edit.stop));
     }
 }

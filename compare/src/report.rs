@@ -1,5 +1,6 @@
 //! What a comparison counts, its progress line and the table at the end.
 
+use crate::options::Options;
 use std::collections::BTreeMap;
 use std::io::{IsTerminal, Write};
 use std::time::{Duration, Instant};
@@ -51,6 +52,19 @@ impl Tally {
     /// An answer that differs as docs/DIFFERENCES.md lists it.
     pub fn listed(&mut self, class: &'static str) {
         *self.listed.entry(class).or_default() += 1;
+    }
+
+    /// One case after the other until there are as many inputs as asked for, or the one case that is asked for.
+    pub fn until_enough(&mut self, options: &Options, mut one: impl FnMut(&mut Tally, u64)) {
+        let mut case = options.case.unwrap_or(0);
+        while self.inputs < options.size {
+            one(self, case);
+            if options.case.is_some() {
+                break;
+            }
+            case += 1;
+            self.progress(self.inputs, options.size);
+        }
     }
 
     /// One line that is written over, at most four times a second and only to a terminal.

@@ -4,14 +4,14 @@
 use crate::lists::{early, emitted, random_record, random_threshold, MOST_POINTS, RUBBISH};
 use crate::options::Options;
 use crate::oracle::{self, List, Record, CELLS, MARKS, ROW};
-use crate::ours::{self, Handed, Place, Told};
+use crate::ours::{self, Handed, PlainPlace, Told};
 use crate::ramps::{random_or_spoilt, Kind, Ramp, KINDS};
 use crate::random::Random;
 use crate::report::{all_same, Tally};
 
 const ROOM: (usize, usize) = (MOST_POINTS, 4 * MOST_POINTS);
-const START: Place = Place { state: 0, row: 0, index: 0 };
-const ENDED: Place = Place { state: 2, row: 0, index: 0 };
+const START: PlainPlace = PlainPlace { state: 0, row: 0, index: 0 };
+const ENDED: PlainPlace = PlainPlace { state: 2, row: 0, index: 0 };
 
 pub fn run(options: &Options) -> Vec<Tally> {
     KINDS.iter().flat_map(|kind| one_kind(options, *kind)).collect()
@@ -114,7 +114,7 @@ fn any_place(tally: &mut Tally, case: u64, random: &mut Random, ramp: &Ramp, thr
     let place = match random.below(6) {
         0 => START,
         1 => ENDED,
-        _ => Place { state: 1, row: row as u32, index: index as u32 },
+        _ => PlainPlace { state: 1, row: row as u32, index: index as u32 },
     };
     let outside = place.state == 1 && (row >= CELLS || index >= count);
     let mine = if random.one_in(4) { random_threshold(random) } else { threshold };
@@ -141,7 +141,7 @@ fn any_place(tally: &mut Tally, case: u64, random: &mut Random, ramp: &Ramp, thr
 }
 
 /// A step that is not refused by the check: it is the Rust's thinning of the rest of the record, its first point the place's.
-fn goes_on(ramp: &Ramp, threshold: f32, record: &Record, place: Place, handed: Handed) -> bool {
+fn goes_on(ramp: &Ramp, threshold: f32, record: &Record, place: PlainPlace, handed: Handed) -> bool {
     if place == ENDED {
         return handed == (Ok(None), 0, ENDED);
     }
@@ -156,7 +156,7 @@ fn goes_on(ramp: &Ramp, threshold: f32, record: &Record, place: Place, handed: H
 
 /// The record's points from a place on, as a record: those before it are not there, and the place's own is the first. Rows that
 /// would be empty repeat their first point, which is then nearer than 2^-23 to the one kept last, and skipped.
-fn from(record: &Record, place: Place) -> Record {
+fn from(record: &Record, place: PlainPlace) -> Record {
     let (row, index) = (place.row as usize, place.index as usize);
     let first = record.rows[row * ROW + index];
     let mut rest = record.clone();

@@ -41,7 +41,7 @@ pub(crate) struct SampleMade {
 }
 
 #[repr(C)]
-pub(crate) struct ListMade {
+pub(crate) struct PlainList {
     pub(crate) refusal: u32,
     pub(crate) stops: usize,
     pub(crate) evaluations: usize,
@@ -199,7 +199,7 @@ extern "C" {
         _: usize,
         colors: FloatsOut,
         _: usize,
-    ) -> ListMade;
+    ) -> PlainList;
     pub(crate) fn colorgrad_flatten(
         kind: u32,
         positions: Floats,
@@ -219,7 +219,7 @@ extern "C" {
         _: usize,
         colors: FloatsOut,
         _: usize,
-    ) -> ListMade;
+    ) -> PlainList;
     pub(crate) fn colorgrad_next_stop(
         kind: u32,
         positions: Floats,
@@ -280,7 +280,7 @@ extern "C" {
         _: usize,
         colors: FloatsOut,
         _: usize,
-    ) -> ListMade;
+    ) -> PlainList;
     pub(crate) fn colorgrad_judge(
         kind: u32,
         positions: Floats,

@@ -123,7 +123,7 @@ pub(crate) fn answer<T>(number: u32, value: T) -> Result<T, Refusal> {
     }
 }
 
-fn listed(made: calls::ListMade) -> Result<Listed, Refusal> {
+fn listed(made: calls::PlainList) -> Result<Listed, Refusal> {
     answer(made.refusal, Listed { stops: made.stops, evaluations: made.evaluations })
 }
 

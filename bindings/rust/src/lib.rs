@@ -55,7 +55,7 @@ pub use gradient::{
 pub use ordinary::Ordinary;
 pub use record::{List, Record};
 pub use refusal::{ParseGgrError, Refusal};
-pub use steps::{Handed, Place, Stops};
+pub use steps::{Handed, ListPlace, Stops};
 pub use verdict::Verdict;
 
 /// What the tool `flatten` prints for an input.

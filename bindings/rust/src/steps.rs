@@ -8,7 +8,7 @@ use crate::{Color, Refusal};
 
 /// Where a caller is in a list: all that is kept between two steps.
 #[derive(Clone, Copy, PartialEq, Eq, Hash, Debug, Default)]
-pub enum Place {
+pub enum ListPlace {
     /// Before the first stop.
     #[default]
     Start,
@@ -23,20 +23,20 @@ pub enum Place {
     Ended,
 }
 
-impl Place {
+impl ListPlace {
     fn plain(self) -> PlainPlace {
         match self {
-            Place::Start => PlainPlace { state: 0, row: 0, index: 0 },
-            Place::After { row, index } => PlainPlace { state: 1, row, index },
-            Place::Ended => PlainPlace { state: 2, row: 0, index: 0 },
+            ListPlace::Start => PlainPlace { state: 0, row: 0, index: 0 },
+            ListPlace::After { row, index } => PlainPlace { state: 1, row, index },
+            ListPlace::Ended => PlainPlace { state: 2, row: 0, index: 0 },
         }
     }
 
-    fn from_plain(place: PlainPlace) -> Place {
+    fn from_plain(place: PlainPlace) -> ListPlace {
         match place.state {
-            0 => Place::Start,
-            1 => Place::After { row: place.row, index: place.index },
-            _ => Place::Ended,
+            0 => ListPlace::Start,
+            1 => ListPlace::After { row: place.row, index: place.index },
+            _ => ListPlace::Ended,
         }
     }
 }
@@ -49,13 +49,13 @@ pub struct Handed {
     /// How many colours the definition of this step asks for.
     pub evaluations: usize,
     /// Where to go on from.
-    pub place: Place,
+    pub place: ListPlace,
 }
 
 impl Ramp<'_> {
     /// The next stop after a place. Refusals 1 to 5 and 20, a place outside the record among them (5), leave the place as it
     /// was; after 8 and 9 it is the end. There is no 7.
-    pub fn next_stop(&self, threshold: f32, record: Record<'_>, place: Place) -> Handed {
+    pub fn next_stop(&self, threshold: f32, record: Record<'_>, place: ListPlace) -> Handed {
         // SAFETY: a slice's own pointer and length, alive until the call returns, and none is written.
         let handed = unsafe {
             calls::colorgrad_next_stop(
@@ -80,7 +80,7 @@ impl Ramp<'_> {
         Handed {
             told: answer(handed.refusal, stop),
             evaluations: handed.evaluations,
-            place: Place::from_plain(handed.place),
+            place: ListPlace::from_plain(handed.place),
         }
     }
 }
@@ -93,14 +93,14 @@ pub struct Stops<'a> {
     ramp: Ramp<'a>,
     threshold: f32,
     record: Record<'a>,
-    place: Place,
+    place: ListPlace,
     evaluations: usize,
 }
 
 impl<'a> Stops<'a> {
     /// The stops of a lent record, from its first.
     pub fn new(ramp: Ramp<'a>, threshold: f32, record: Record<'a>) -> Stops<'a> {
-        Stops { ramp, threshold, record, place: Place::Start, evaluations: 0 }
+        Stops { ramp, threshold, record, place: ListPlace::Start, evaluations: 0 }
     }
 
     /// How many colours the steps so far have asked for: with the last stop, as many as the whole list.
@@ -109,7 +109,7 @@ impl<'a> Stops<'a> {
     }
 
     /// Where the next step goes on from.
-    pub fn place(&self) -> Place {
+    pub fn place(&self) -> ListPlace {
         self.place
     }
 }
@@ -118,13 +118,13 @@ impl Iterator for Stops<'_> {
     type Item = Result<(f32, Color), Refusal>;
 
     fn next(&mut self) -> Option<Self::Item> {
-        if self.place == Place::Ended {
+        if self.place == ListPlace::Ended {
             return None;
         }
         let handed = self.ramp.next_stop(self.threshold, self.record, self.place);
         self.evaluations += handed.evaluations;
         // a refusal of the record would be told again at each step, so the iterator ends with it
-        self.place = if handed.told.is_err() { Place::Ended } else { handed.place };
+        self.place = if handed.told.is_err() { ListPlace::Ended } else { handed.place };
         handed.told.transpose()
     }
 }

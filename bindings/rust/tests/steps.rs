@@ -1,7 +1,7 @@
 //! One stop at a time: joined, the stops are the whole list's; what a refusal leaves of the place.
 
 use guineaplume::lent::{Kind, Ramp, Record, StopsMut, MOST_POINTS};
-use guineaplume::{Color, Gradient, LinearGradient, Place, Refusal, SmoothstepGradient, Stops};
+use guineaplume::{Color, Gradient, LinearGradient, ListPlace, Refusal, SmoothstepGradient, Stops};
 
 const BLACK: Color = Color::new(0.0, 0.0, 0.0, 1.0);
 const WHITE: Color = Color::new(1.0, 1.0, 1.0, 1.0);
@@ -24,7 +24,7 @@ fn joined_they_are_the_list() {
         assert_eq!(stops.next(), Some(Ok(stop)));
     }
     assert_eq!(stops.evaluations(), list.evaluations());
-    assert_eq!(stops.place(), Place::Ended);
+    assert_eq!(stops.place(), ListPlace::Ended);
     assert_eq!(stops.next(), None);
     assert_eq!(stops.next(), None);
     assert_eq!(stops.evaluations(), list.evaluations());
@@ -52,23 +52,23 @@ fn a_first_stop_that_is_not_finite() {
     let (ramp, mut rows, counts, marks) = sampled();
     rows[0] = f32::NAN;
     let record = Record { rows: &rows, counts: &counts, marks: &marks };
-    let handed = ramp.lent().next_stop(0.007, record, Place::Start);
-    assert_eq!((handed.told, handed.evaluations, handed.place), (Err(Refusal::ListNotFinite), 0, Place::Ended));
+    let handed = ramp.lent().next_stop(0.007, record, ListPlace::Start);
+    assert_eq!((handed.told, handed.evaluations, handed.place), (Err(Refusal::ListNotFinite), 0, ListPlace::Ended));
     let again = ramp.lent().next_stop(0.007, record, handed.place);
-    assert_eq!((again.told, again.evaluations, again.place), (Ok(None), 0, Place::Ended));
+    assert_eq!((again.told, again.evaluations, again.place), (Ok(None), 0, ListPlace::Ended));
 }
 
 #[test]
 fn a_refusal_of_the_record_leaves_the_place() {
     let (ramp, rows, counts, marks) = sampled();
     let record = Record { rows: &rows, counts: &counts, marks: &marks };
-    let inside = Place::After { row: 3, index: 0 };
+    let inside = ListPlace::After { row: 3, index: 0 };
     let told = |ramp: Ramp<'_>, threshold, record, place| {
         let handed = ramp.next_stop(threshold, record, place);
         assert_eq!((handed.evaluations, handed.place), (0, place));
         handed.told
     };
-    for place in [Place::Start, inside, Place::Ended] {
+    for place in [ListPlace::Start, inside, ListPlace::Ended] {
         assert_eq!(told(ramp.lent(), 0.01, record, place), Err(Refusal::OtherThreshold));
         let short = Record { rows: &rows[1..], ..record };
         assert_eq!(told(ramp.lent(), 0.007, short, place), Err(Refusal::BadRecord));
@@ -77,12 +77,12 @@ fn a_refusal_of_the_record_leaves_the_place() {
     }
     // a place outside is 5, also where the threshold is another: 20 comes after 5
     let count = u32::from(counts[3]);
-    for outside in [Place::After { row: 36, index: 0 }, Place::After { row: 3, index: count }] {
+    for outside in [ListPlace::After { row: 36, index: 0 }, ListPlace::After { row: 3, index: count }] {
         assert_eq!(told(ramp.lent(), 0.007, record, outside), Err(Refusal::BadRecord));
         assert_eq!(told(ramp.lent(), 0.01, record, outside), Err(Refusal::BadRecord));
     }
     assert!(matches!(ramp.lent().next_stop(0.007, record, inside).told, Ok(Some(_))));
-    assert_eq!(told(ramp.lent(), 0.007, record, Place::Ended), Ok(None));
+    assert_eq!(told(ramp.lent(), 0.007, record, ListPlace::Ended), Ok(None));
 }
 
 #[test]

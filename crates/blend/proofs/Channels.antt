@@ -1,7 +1,11 @@
--- Two colours are equal where their channels are, and four-element lists where their elements are. Assumes nothing.
-use mathlib.Core.Path.{_≡_}
-use mathlib.Core.List.{[], _∷_}
+-- Two colours are equal where their channels are, and four-element lists where their elements are; a colour is four numbers. Assumes nothing.
+use mathlib.Core.Path.{_≡_, refl}
+use mathlib.Core.List.{List, [], _∷_}
+use Prim.Native.Nat.{_*_}
+use native.Mathlib.Omega.{arith}
+use lib.ListN.{length}
 use lib.Ieee.{Float}
+use Rattle.blend.specs.Channels.{coloursOf}
 use Rattle.blend.specs.declared.Rgba.{Rgba}
 use Rattle.blend.specs.declared.Stop.{Stop}
 
@@ -13,3 +17,8 @@ same-stop p q = simp (p, q)
 
 pub same-four : {A : Type 0} {x x' y y' z z' w w' : A} → x ≡ x' → y ≡ y' → z ≡ z' → w ≡ w' → x ∷ y ∷ z ∷ w ∷ [] ≡ x' ∷ y' ∷ z' ∷ w' ∷ []
 same-four p q s u = simp (p, q, s, u)
+
+pub length-colours : (g : Float → Rgba) (ts : List Float) → length (coloursOf g ts) ≡ 4 * length ts
+unfolding coloursOf
+length-colours g [] = refl
+length-colours g (t ∷ ts) = let h = length-colours g ts in omega arith

@@ -15,7 +15,7 @@ use Rattle.refresh.specs.RefreshDesk.{refreshCheck, renewed, refreshHeld, refre
 use Rattle.editing.specs.declared.Edit.{Edit}
 use Rattle.refresh.proofs.EditChecks.{allowed, own-words, edited-sampling}
 use Rattle.refresh.proofs.Theorem as theorem
-use Rattle.colorgrad.specs.Fresh.{Fresh}
+use Rattle.colorgrad.specs.Fresh.{RefreshedIsFresh}
 -- of any results that the contracts allow: records and lists, and the cells clear of the edit
 pub use Rattle.refresh.proofs.Calls.{refresh-by-threshold, refresh-is-fresh, refresh-list-is-fresh, refresh-list-is-both, clear-cells-stay, clear-cells-agree, clear-cells-same}
 
@@ -25,7 +25,7 @@ words-alike ramp e asked mine h = own-words ramp e mine (fresh ramp asked) h
 
 -- the refresh's check is passed: so its threshold is the one that the record was sampled with
 pub refreshed-is-fresh : (ramp : Ramp) (e : Edit) (asked mine : Float) (was : Held) → T (fits binary32 asked) → T (fits binary32 mine)
-    → heldCheck ramp was ≡ Fine → refreshCheck ramp e mine (sampleHeld ramp asked was) ≡ Fine → Fresh ramp e asked mine was
+    → heldCheck ramp was ≡ Fine → refreshCheck ramp e mine (sampleHeld ramp asked was) ≡ Fine → RefreshedIsFresh ramp e asked mine was
 unfolding refreshHeld sampleHeld refreshOutput flattenOutput
 refreshed-is-fresh ramp e asked mine was single single′ fine h =
     let passes : refreshCheck ramp e mine (fresh ramp asked) ≡ Fine = rw fine at h in

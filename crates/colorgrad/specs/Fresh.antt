@@ -11,6 +11,6 @@ use Rattle.editing.specs.Edited.{edited}
 use Rattle.refresh.specs.RefreshDesk.{refreshHeld, refreshOutput}
 use Rattle.editing.specs.declared.Edit.{Edit}
 
-pub record Fresh (ramp : Ramp) (e : Edit) (asked mine : Float) (was : Held) : Type 0 where
+pub record RefreshedIsFresh (ramp : Ramp) (e : Edit) (asked mine : Float) (was : Held) : Type 0 where
   pub same-record : refreshHeld ramp e mine (sampleHeld ramp asked was) ≡ sampleHeld (edited ramp e) mine was
   pub same-output : (out : Output) → refreshOutput ramp e mine (sampleHeld ramp asked was) out ≡ flattenOutput (edited ramp e) mine was out

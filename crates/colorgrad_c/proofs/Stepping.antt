@@ -4,8 +4,8 @@ use lib.Ieee.{Float}
 use Rattle.stops.specs.Lent.{Ramp}
 use Rattle.sampling.specs.Lent.{Held}
 use Rattle.next_stop.specs.Step.{HandsOut}
-use Rattle.next_stop.specs.declared.Place.{Place}
+use Rattle.next_stop.specs.declared.ListPlace.{ListPlace}
 use Rattle.next_stop.specs.declared.Handed.{Handed}
 
-pub from-place : {ramp : Ramp} {asked : Float} {was : Held} {p q : Place} {r : Handed} → p ≡ q → HandsOut ramp asked was p r → HandsOut ramp asked was q r
-from-place {ramp} {asked} {was} {p} {q} {r} e w = subst (λ (x : Place). HandsOut ramp asked was x r) e w
+pub from-place : {ramp : Ramp} {asked : Float} {was : Held} {p q : ListPlace} {r : Handed} → p ≡ q → HandsOut ramp asked was p r → HandsOut ramp asked was q r
+from-place {ramp} {asked} {was} {p} {q} {r} e w = subst (λ (x : ListPlace). HandsOut ramp asked was x r) e w

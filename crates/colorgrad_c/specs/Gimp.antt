@@ -13,6 +13,6 @@ abbrev pub readShown : Answer → GimpRead
 readShown r = record { refusal = numberOfAnswer r; line = lineOfAnswer r; segments = segmentsOfAnswer r }
 
 -- the promise of `ggr`'s reading, and its answer shown
-pub record Reads (fg bg : Rgba) (s : List ℕ) (store : Change Store) (r : GimpRead) : Type 0 where
+pub record ShowsRead (fg bg : Rgba) (s : List ℕ) (store : Change Store) (r : GimpRead) : Type 0 where
   pub shown : r ≡ readShown (answerOf (fileOf (roomIn (store .entry)) fg bg s))
   pub done : Reading fg bg s store (answerOf (fileOf (roomIn (store .entry)) fg bg s))

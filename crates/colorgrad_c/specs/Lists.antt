@@ -16,7 +16,7 @@ use Rattle.linearize.specs.declared.Listed.the-variants as listed
 use Rattle.plain.specs.Kinds.{Shows}
 use Rattle.plain.specs.Lists.{sampledShown, listedShown}
 use Rattle.plain.specs.declared.lists.SampleMade.{SampleMade}
-use Rattle.plain.specs.declared.lists.ListMade.{ListMade}
+use Rattle.plain.specs.declared.lists.PlainList.{PlainList}
 
 -- the promises of `linearize`, of a ramp of any kind; a code that names no kind is 1 and changes nothing
 module _ (code : ℕ) (ramp : Kind → Ramp) (asked : Float) where
@@ -26,13 +26,13 @@ module _ (code : ℕ) (ramp : Kind → Ramp) (asked : Float) where
       (λ (a : Sampled). (a ≡ sampled.Refused misshapen) × (held .exit ≡ held .entry))
       sampledShown
 
-  abbrev pub CodedThins : Held → Change Output → ListMade → Type 0
+  abbrev pub CodedThins : Held → Change Output → PlainList → Type 0
   CodedThins was out =
       Shows code (λ (kind : Kind). Thins (ramp kind) asked was out)
       (λ (a : Listed). (a ≡ listed.Refused misshapen) × (out .exit ≡ out .entry))
       listedShown
 
-  abbrev pub CodedFlattens : Change Held → Change Output → ListMade → Type 0
+  abbrev pub CodedFlattens : Change Held → Change Output → PlainList → Type 0
   CodedFlattens held out =
       Shows code (λ (kind : Kind). Flattens (ramp kind) asked held out)
       (λ (a : Listed). (a ≡ listed.Refused misshapen) × ((held .exit ≡ held .entry) × (out .exit ≡ out .entry)))

@@ -13,8 +13,8 @@ use Rattle.gradient.specs.Ramp.{checkOf, minOf, maxOf}
 use Rattle.stops.specs.Answers.{Checks, numberOfChecked}
 use Rattle.paint.specs.Answers.{numberOfPainted}
 use Rattle.paint.specs.Promises.{AtIs, PaintIs}
-use Rattle.paint.specs.declared.Answer.{Answer}
-use Rattle.paint.specs.declared.Answer.the-variants as answer
+use Rattle.paint.specs.declared.ColourAnswer.{ColourAnswer}
+use Rattle.paint.specs.declared.ColourAnswer.the-variants as answer
 use Rattle.paint.specs.declared.Painted.{Painted}
 use Rattle.paint.specs.declared.Painted.the-variants as painted
 use Rattle.plain.specs.Kinds.{Shows}
@@ -35,7 +35,7 @@ module _ (code : ℕ) (ramp : Kind → Ramp) where
       (λ (a : Domain). a)
 
   abbrev pub CodedAt : Float → Shown → Type 0
-  CodedAt t = Shows code (λ (kind : Kind). AtIs (ramp kind) t) (λ (a : Answer). a ≡ answer.Refused misshapen) answerShown
+  CodedAt t = Shows code (λ (kind : Kind). AtIs (ramp kind) t) (λ (a : ColourAnswer). a ≡ answer.Refused misshapen) answerShown
 
   abbrev pub CodedPaints : List Float → List Float → List Float → ℕ → Type 0
   CodedPaints ts out out′ =

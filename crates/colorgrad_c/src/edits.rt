@@ -1,20 +1,14 @@
-// A record refreshed after one stop's colour is changed, and the list made of it.
+// A record refreshed after one stop's colour is changed, and the list made of it: the edit of that sort.
+use crate::sorts::colorgrad_edit;
+use crate::sorts::colorgrad_edit_list;
 use blend::Rgba;
-use editing::Edit;
-use linearize::Listed;
-use plain::kinds;
-use plain::kinds::Coded;
-use plain::lists::ListMade;
+use plain::edits::COLOUR;
+use plain::lists::PlainList;
 use plain::lists::SampleMade;
-use plain::lists::listed_shown;
-use plain::lists::refreshed_shown;
-use refresh::Refreshed;
-use refusals::MISSHAPEN;
 ghost use Rattle.sampling.specs.Lent.{lentHeld};
-ghost use Rattle.linearize.specs.Lent.{lentOutput};
 ghost use Rattle.editing.specs.declared.Edit.the-variants.{Colour};
 ghost use Rattle.plain.specs.Kinds.{codedRamp};
-ghost use Rattle.colorgrad_c.specs.Edits.{CodedRefreshes, CodedRelists};
+ghost use Rattle.colorgrad_c.specs.Edits.{CodedRefreshes, CodedRelists, lentBoth};
 
 #[no_mangle]
 pub extern "C" fn colorgrad_refresh(
@@ -31,21 +25,20 @@ pub extern "C" fn colorgrad_refresh(
 ) -> SampleMade
     ensures { λ r. ⌜ CodedRefreshes kind (codedRamp positions channels codes) (Colour stop colour) asked (lentHeld rows counts marks) r ⌝ }
 {
-    let Coded::Of(known) = kinds::kind_of(kind) else {
-        return refreshed_shown(Refreshed::Refused(MISSHAPEN));
-    };
-    let edit = Edit::Colour { stop, colour };
-    refreshed_shown(refresh::refresh(
-        known,
+    colorgrad_edit(
+        kind,
         positions,
         channels,
         codes,
-        edit,
+        COLOUR,
+        stop,
+        0.0,
+        colour,
         asked,
         rows,
         counts,
         marks,
-    ))
+    )
 }
 
 #[no_mangle]
@@ -62,24 +55,23 @@ pub extern "C" fn colorgrad_refresh_list(
     marks: &mut [u32],
     places: &mut [f32],
     colours: &mut [f32],
-) -> ListMade
-    ensures { λ r. ⌜ CodedRelists kind (codedRamp positions channels codes) (Colour stop colour) asked (lentHeld rows counts marks) (lentOutput places colours) r ⌝ }
+) -> PlainList
+    ensures { λ r. ⌜ CodedRelists kind (codedRamp positions channels codes) (Colour stop colour) asked (lentBoth rows counts marks places colours) r ⌝ }
 {
-    let Coded::Of(known) = kinds::kind_of(kind) else {
-        return listed_shown(Listed::Refused(MISSHAPEN));
-    };
-    let edit = Edit::Colour { stop, colour };
-    listed_shown(refresh::refresh_list(
-        known,
+    colorgrad_edit_list(
+        kind,
         positions,
         channels,
         codes,
-        edit,
+        COLOUR,
+        stop,
+        0.0,
+        colour,
         asked,
         rows,
         counts,
         marks,
         places,
         colours,
-    ))
+    )
 }

@@ -6,7 +6,7 @@ ghost use mathlib.Core.Path.{_≡_};
 ghost use lib.ListN.{length};
 ghost use Rattle.segment.specs.Store.{lentStore};
 ghost use Rattle.ggr.specs.File.{nameOf};
-ghost use Rattle.colorgrad_c.specs.Gimp.{readShown, Reads};
+ghost use Rattle.colorgrad_c.specs.Gimp.{readShown, ShowsRead};
 ghost use Rattle.plain.specs.Name.{named};
 
 // The refusal and its line, or 0 and how many segments were read.
@@ -43,7 +43,7 @@ pub extern "C" fn colorgrad_read(
     channels: &mut [f32],
     codes: &mut [u8],
 ) -> GimpRead
-    ensures { λ r. ⌜ Reads foreground background (now (text .entry)) (lentStore positions channels codes) r ⌝ }
+    ensures { λ r. ⌜ ShowsRead foreground background (now (text .entry)) (lentStore positions channels codes) r ⌝ }
 {
     read_shown(ggr::read(text, foreground, background, positions, channels, codes))
 }

@@ -3,7 +3,7 @@ use linearize::Listed;
 use linearize::Sampled;
 use plain::kinds;
 use plain::kinds::Coded;
-use plain::lists::ListMade;
+use plain::lists::PlainList;
 use plain::lists::SampleMade;
 use plain::lists::listed_shown;
 use plain::lists::sampled_shown;
@@ -53,7 +53,7 @@ pub extern "C" fn colorgrad_thin(
     marks: &[u32],
     places: &mut [f32],
     colours: &mut [f32],
-) -> ListMade
+) -> PlainList
     ensures { λ r. ⌜ CodedThins kind (codedRamp positions channels codes) threshold (lentHeld rows counts marks .entry) (lentOutput places colours) r ⌝ }
 {
     let Coded::Of(known) = kinds::kind_of(kind) else {
@@ -85,7 +85,7 @@ pub extern "C" fn colorgrad_flatten(
     marks: &mut [u32],
     places: &mut [f32],
     colours: &mut [f32],
-) -> ListMade
+) -> PlainList
     ensures { λ r. ⌜ CodedFlattens kind (codedRamp positions channels codes) threshold (lentHeld rows counts marks) (lentOutput places colours) r ⌝ }
 {
     let Coded::Of(known) = kinds::kind_of(kind) else {

@@ -1,5 +1,5 @@
 // A ramp's check, its domain, its colour at t, its colours at many points, and a sharp ramp built.
-use paint::Answer;
+use paint::ColourAnswer;
 use plain::kinds;
 use plain::kinds::Coded;
 use plain::ramps::Domain;
@@ -64,7 +64,7 @@ pub extern "C" fn colorgrad_at(
     ensures { λ r. ⌜ CodedAt kind (codedRamp positions channels codes) t r ⌝ }
 {
     let Coded::Of(known) = kinds::kind_of(kind) else {
-        return answer_shown(Answer::Refused(MISSHAPEN));
+        return answer_shown(ColourAnswer::Refused(MISSHAPEN));
     };
     answer_shown(paint::at(known, positions, channels, codes, t))
 }

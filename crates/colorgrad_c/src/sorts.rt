@@ -4,17 +4,16 @@ use linearize::Listed;
 use plain::edits::edit_of;
 use plain::kinds;
 use plain::kinds::Coded;
-use plain::lists::ListMade;
+use plain::lists::PlainList;
 use plain::lists::SampleMade;
 use plain::lists::listed_shown;
 use plain::lists::refreshed_shown;
 use refresh::Refreshed;
 use refusals::MISSHAPEN;
 ghost use Rattle.sampling.specs.Lent.{lentHeld};
-ghost use Rattle.linearize.specs.Lent.{lentOutput};
 ghost use Rattle.plain.specs.Kinds.{codedRamp};
 ghost use Rattle.plain.specs.Edits.{editOf};
-ghost use Rattle.colorgrad_c.specs.Edits.{CodedRefreshes, CodedRelists};
+ghost use Rattle.colorgrad_c.specs.Edits.{CodedRefreshes, CodedRelists, lentBoth};
 
 #[no_mangle]
 pub extern "C" fn colorgrad_edit(
@@ -66,8 +65,8 @@ pub extern "C" fn colorgrad_edit_list(
     marks: &mut [u32],
     places: &mut [f32],
     colours: &mut [f32],
-) -> ListMade
-    ensures { λ r. ⌜ CodedRelists kind (codedRamp positions channels codes) (editOf sort stop at colour) asked (lentHeld rows counts marks) (lentOutput places colours) r ⌝ }
+) -> PlainList
+    ensures { λ r. ⌜ CodedRelists kind (codedRamp positions channels codes) (editOf sort stop at colour) asked (lentBoth rows counts marks places colours) r ⌝ }
 {
     let Coded::Of(known) = kinds::kind_of(kind) else {
         return listed_shown(Listed::Refused(MISSHAPEN));

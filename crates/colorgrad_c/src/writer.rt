@@ -1,5 +1,5 @@
 // Lists as GIMP texts, and numbers as they are written there.
-use ggr_writing::Answer;
+use ggr_writing::WriteAnswer;
 use plain::name::write_name;
 ghost use mathlib.Core.Path.{_≡_};
 ghost use lib.ListN.{length};
@@ -15,12 +15,12 @@ pub struct GimpWritten {
     pub bytes: usize,
 }
 
-fn written_shown(answer: Answer) -> GimpWritten
+fn written_shown(answer: WriteAnswer) -> GimpWritten
     ensures { λ r. ⌜ r ≡ writtenShown answer ⌝ }
 {
     match answer {
-        Answer::Written(bytes) => GimpWritten { refusal: 0, bytes },
-        Answer::Refused(n) => GimpWritten {
+        WriteAnswer::Written(bytes) => GimpWritten { refusal: 0, bytes },
+        WriteAnswer::Refused(n) => GimpWritten {
             refusal: n as u32,
             bytes: 0,
         },

@@ -12,7 +12,7 @@ use borrow.Author.Tests.{leb-true, le-leb, lt-leb, ne-eqb}
 use Rattle.decimal.specs.declared.Token.{Token}
 use Rattle.decimal.specs.declared.Token.the-variants.{Number, NoNumber}
 use Rattle.decimal.specs.Decimal.{mostDigits, isDigit, areDigits, valueAfter, beforePoint, afterPoint, numberOf, unsignedOf}
-use Rattle.decimal.specs.Steps.{Digits}
+use Rattle.decimal.specs.Steps.{DigitRun}
 
 -- ---- a byte
 pub digit : (b : ℕ) → 48 ≤ b → b ≤ 57 → isDigit b ≡ true
@@ -72,11 +72,11 @@ value-lt v i (b ∷ bs) h l =
     further : (x y : ℕ) → x + 1 + y ≡ x + suc y
     further x y = omega arith
 
-pub digits-none : (v : ℕ) (s : List ℕ) → Digits v s v s
+pub digits-none : (v : ℕ) (s : List ℕ) → DigitRun v s v s
 unfolding areDigits valueAfter
 digits-none v s = record { run = []; is = refl; all = refl; makes = refl }
 
-pub digits-more : (before : ℕ) (s : List ℕ) (v b : ℕ) (rest : List ℕ) → Digits before s v (b ∷ rest) → isDigit b ≡ true → Digits before s (v * 10 + (b - 48)) rest
+pub digits-more : (before : ℕ) (s : List ℕ) (v b : ℕ) (rest : List ℕ) → DigitRun before s v (b ∷ rest) → isDigit b ≡ true → DigitRun before s (v * 10 + (b - 48)) rest
 unfolding areDigits valueAfter
 digits-more before s v b rest d h =
     record {

@@ -12,7 +12,7 @@ use lib.Seq.{drop-cons, drop-length, take-all}
 use borrow.Author.Tests.{eq-eqb, ne-eqb}
 use Rattle.decimal.specs.declared.Token.the-variants.{NoNumber}
 use Rattle.decimal.specs.Decimal.{isDigit, valueAfter, numberOf, unsignedOf, readOf}
-use Rattle.decimal.specs.Steps.{Digits, RunsTo}
+use Rattle.decimal.specs.Steps.{DigitRun, RunsTo}
 use Rattle.decimal.proofs.Parts.{digit, digits-none, digits-more, value-split, whole-number, point-number, other-byte, after-byte}
 
 -- ---- a place in the token
@@ -24,7 +24,7 @@ at-end s i a b = ap (λ (x : ℕ). drop x s) (le-antisymm a b) ∙ drop-length s
 
 -- what holds at the loop's head: the digits from `from` to i make value
 pub record Held (s : List ℕ) (from before value five i : ℕ) : Type 0 where
-  pub run : Digits before (drop from s) value (drop i s)
+  pub run : DigitRun before (drop from s) value (drop i s)
   pub past : from ≤ i
   pub within : i ≤ length s
   pub fives : five ≡ 5 ^ (i - from)
@@ -42,7 +42,7 @@ module _ (s : List ℕ) (from before value five i : ℕ) (h : Held s from before
       let t : 10 ^ (i + 1) ≡ 10 ^ i * 10 = pow-add 10 i 1 in
       let v = h .small in
       record {
-        run = digits-more before (drop from s) value (getD s i 0) (drop (i + 1) s) (subst (Digits before (drop from s) value) (at-byte s i l) (h .run)) (digit (getD s i 0) a b);
+        run = digits-more before (drop from s) value (getD s i 0) (drop (i + 1) s) (subst (DigitRun before (drop from s) value) (at-byte s i l) (h .run)) (digit (getD s i 0) a b);
         past = omega arith;
         within = omega arith;
         fives = ap (λ (x : ℕ). x * 5) (h .fives) ∙ sym (pow-add 5 (i - from) 1) ∙ ap (λ (x : ℕ). 5 ^ x) (further i from (h .past));

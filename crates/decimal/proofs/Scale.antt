@@ -6,7 +6,7 @@ use native.Mathlib.Omega.{arith}
 use lib.Count.{leadingZeros, leading-top}
 use lib.Dec.{lit<}
 use lib.Pow.{pow-add, pow-mono, shl-lt}
-use Rattle.decimal.specs.Steps.{Reaches, ScalesTo}
+use Rattle.decimal.specs.Steps.{DoublesTo, ScalesTo}
 
 -- ---- powers keep order
 pub five-le : (n k : ℕ) → n ≤ k → 5 ^ n ≤ 5 ^ k
@@ -20,7 +20,7 @@ module _ (five : ℕ) (p : 0 < five) (h : five < 2 ^ 42) where
   abbrev z : ℕ
   z = leadingZeros 64 five
 
-  pub reaches : 24 ≤ z → Reaches five (z - 24)
+  pub reaches : 24 ≤ z → DoublesTo five (z - 24)
   reaches l =
       let t = leading-top 64 five p (lt-of-lt-of-le h (pow-mono {i = 42} {j = 64} (omega arith))) in
       let j = t .0 in
@@ -36,7 +36,7 @@ module _ (five : ℕ) (p : 0 < five) (h : five < 2 ^ 42) where
         few = omega arith;
       }
 
-  pub has-reached : z < 24 → Reaches five 0
+  pub has-reached : z < 24 → DoublesTo five 0
   has-reached l =
       let t = leading-top 64 five p (lt-of-lt-of-le h (pow-mono {i = 42} {j = 64} (omega arith))) in
       let e : z + suc (t .0) ≡ 64 = t .1 in
@@ -44,7 +44,7 @@ module _ (five : ℕ) (p : 0 < five) (h : five < 2 ^ 42) where
       record { lo = le-trans q (le-of-eq (sym (mul-one five))); hi = subst (λ (x : ℕ). x < 2 ^ 42) (sym (mul-one five)) h; few = omega arith }
 
 -- ---- once more: num shows that nothing is cut off
-pub twice-it : (num five up : ℕ) → Reaches five up → num < 2 ^ 64 → five * 2 ^ up % 2 ^ 64 ≤ num / 16777216 → ScalesTo num five (five * 2 ^ up % 2 ^ 64 * 2) (up + 1)
+pub twice-it : (num five up : ℕ) → DoublesTo five up → num < 2 ^ 64 → five * 2 ^ up % 2 ^ 64 ≤ num / 16777216 → ScalesTo num five (five * 2 ^ up % 2 ^ 64 * 2) (up + 1)
 twice-it num five up r b l =
     let lo = r .lo in
     let hi = r .hi in

@@ -8,7 +8,7 @@ use lib.Ieee.{binary32, round, toBits}
 use Rattle.decimal.specs.Decimal.{isDigit, areDigits, valueAfter}
 
 -- s is digits, which make value after `before`, and then rest
-pub record Digits (before : ℕ) (s : List ℕ) (value : ℕ) (rest : List ℕ) : Type 0 where
+pub record DigitRun (before : ℕ) (s : List ℕ) (value : ℕ) (rest : List ℕ) : Type 0 where
   pub run : List ℕ
   pub is : s ≡ run ++ rest
   pub all : areDigits run ≡ true
@@ -16,14 +16,14 @@ pub record Digits (before : ℕ) (s : List ℕ) (value : ℕ) (rest : List ℕ) 
 
 -- from `from` on s has digits up to `end`, and none there
 pub record RunsTo (s : List ℕ) (from before value five end : ℕ) : Type 0 where
-  pub run : Digits before (drop from s) value (drop end s)
+  pub run : DigitRun before (drop from s) value (drop end s)
   pub within : end ≤ length s
   pub fives : five ≡ 5 ^ (end - from)
   pub stops : end < length s → isDigit (getD s end 0) ≡ false
   pub small : value < 10 ^ end
 
 -- five doubled up times is from 2 ^ 39 to 2 ^ 42
-pub record Reaches (five up : ℕ) : Type 0 where
+pub record DoublesTo (five up : ℕ) : Type 0 where
   pub lo : 2 ^ 39 ≤ five * 2 ^ up
   pub hi : five * 2 ^ up < 2 ^ 42
   pub few : up ≤ 39

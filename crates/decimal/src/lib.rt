@@ -5,7 +5,7 @@ ghost use lib.ListN.{length};
 ghost use lib.Ieee as Ieee;
 ghost use lib.Ieee.{binary32};
 ghost use Rattle.decimal.specs.Decimal.{mostDigits, readOf, unsignedOf, numberOf};
-ghost use Rattle.decimal.specs.Steps.{RunsTo, Reaches, ScalesTo, DividesTo, BitsOf};
+ghost use Rattle.decimal.specs.Steps.{RunsTo, DoublesTo, ScalesTo, DividesTo, BitsOf};
 
 pub enum Token {
     Number(f32),
@@ -162,7 +162,7 @@ fn magnitude(d: u64, places: usize, five: u64) -> u32
 // How often five is doubled to reach 2 ^ 39: not at all where it is more.
 fn doublings(five: u64) -> u32
     requires { ⌜ (0 < five) × (five < 2 ^ 42) ⌝ }
-    ensures { λ r. ⌜ Reaches five r ⌝ }
+    ensures { λ r. ⌜ DoublesTo five r ⌝ }
 {
     let zeros = u64::leading_zeros(five);
     if zeros < 24 {

@@ -13,7 +13,7 @@ use borrow.Author.Tests.{le-ltb}
 use Rattle.blend.specs.declared.Stop.{Stop}
 use Rattle.stops.specs.declared.Kind.{Kind}
 use Rattle.entries.specs.Input.{input, inputOf}
-use Rattle.desk.specs.Recoloured.{recoloured, SameStops}
+use Rattle.desk.specs.Recoloured.{recoloured, SameStopLines}
 use Rattle.desk.specs.Tool.{deskOf, deskAnswer, deskOutput, mostPrinted, Desks, Prints}
 use Rattle.entries.specs.declared.fields.Recolour.{Recolour}
 use Rattle.entries.specs.declared.reading.Edited.the-variants as edit
@@ -48,8 +48,8 @@ never-short {s} {out} h w = w .answer ∙ rw (le-ltb (length out) (length (deskO
 module _ {s s′ : List ℕ} {kind : Kind} {asked : Float} {stops : List Stop} {e : Recolour}
     (with-edit : inputOf s ≡ input kind asked stops (edit.By e)) (there : e .stop < length stops) (without : inputOf s′ ≡ input kind asked (recoloured stops (e .stop) (e .colour)) edit.Not)
     {out out′ : List ℕ} {n : ℕ} {other other′ : List ℕ} {m : ℕ} where
-  pub desks-same : Desks s out out′ (desked.Printed n) → Desks s′ other other′ (desked.Printed m) → SameStops (take n out′) (take m other′)
+  pub desks-same : Desks s out out′ (desked.Printed n) → Desks s′ other other′ (desked.Printed m) → SameStopLines (take n out′) (take m other′)
   desks-same w v = rw (desk-holds w, desk-holds v) (edited-text s s′ with-edit there without)
 
-  pub prints-same : Prints s out out′ n → Prints s′ other other′ m → SameStops (take n out′) (take m other′)
+  pub prints-same : Prints s out out′ n → Prints s′ other other′ m → SameStopLines (take n out′) (take m other′)
   prints-same w v = rw (print-holds w, print-holds v) (edited-text s s′ with-edit there without)

@@ -16,7 +16,7 @@ use Rattle.text.specs.Text.{firstOf, restOf, same, starts, fields}
 use Rattle.rows.specs.Rows.{Numbers, all, none, addNumber, numbers}
 use Rattle.rows.specs.declared.digits.Digits.{Digits}
 use Rattle.rows.specs.declared.digits.Digits.the-variants.{Bad, Is}
-use Rattle.entries.specs.Entries.{exactly, channelsAt, toThreshold, thresholdEntry, toStop, stopEntry, indexOf, toChange, changeEntry, editEntry, stopTag, thresholdTag, editTag, kindLinear, kindSmoothstep, entryOf}
+use Rattle.entries.specs.Entries.{exactly, channelsAt, toThreshold, thresholdEntry, toStop, stopEntry, stopIndexOf, toChange, changeEntry, editEntry, stopTag, thresholdTag, editTag, kindLinear, kindSmoothstep, entryOf}
 use Rattle.desk.specs.Recoloured.{toTab, afterTab, changedLine}
 use Rattle.entries.specs.declared.fields.Recolour.{Recolour}
 use Rattle.entries.specs.declared.fields.Entry.{Entry}
@@ -80,7 +80,7 @@ threshold-not p u f fs = exactly-not p 1 toThreshold (numbers fs) u (λ xs. f (g
 edit-not-stop : (fs : List (List ℕ)) → isStop (editEntry fs) ≡ false
 unfolding editEntry changeEntry
 edit-not-stop [] = refl
-edit-not-stop (f ∷ fs) = go (indexOf f) where
+edit-not-stop (f ∷ fs) = go (stopIndexOf f) where
   go : (c : Digits) → isStop (changeEntry c fs) ≡ false
   go Bad = refl
   go (Is k) = exactly-not isStop 4 (toChange k) (numbers fs) refl (λ xs. refl)
@@ -136,7 +136,7 @@ positionIn d entry.Unread = d
 channels-of : (fs : List (List ℕ)) {e : Recolour} → editEntry fs ≡ entry.Change e → Channels fs (e .colour)
 unfolding editEntry changeEntry restOf
 channels-of [] h = absurd (true≢false (sym (ap isChange h)))
-channels-of (f ∷ fs) {e} h = go (indexOf f) h where
+channels-of (f ∷ fs) {e} h = go (stopIndexOf f) h where
   go : (c : Digits) → changeEntry c fs ≡ entry.Change e → Channels (f ∷ fs) (e .colour)
   go Bad h = absurd (true≢false (sym (ap isChange h)))
   go (Is k) h =

@@ -15,7 +15,7 @@ use Rattle.text.specs.Text.{lines}
 use Rattle.sampling.specs.Constants.{defaultThreshold}
 use Rattle.entries.specs.Entries.{entryOf}
 use Rattle.entries.specs.Input.{Input, unread, input, mostBytes, ifStop, ifChange, fromEnd, fromEdit, stopsOf, afterStops, fromStops, fromThreshold, fromKind, inputOf}
-use Rattle.desk.specs.Recoloured.{recoloured, changedLine, changedLines, SameStops, EditMade}
+use Rattle.desk.specs.Recoloured.{recoloured, changedLine, changedLines, SameStopLines, EditMade}
 use Rattle.desk.specs.Tool.{deskOf}
 use Rattle.entries.specs.declared.fields.Recolour.{Recolour}
 use Rattle.entries.specs.declared.fields.Entry.{Entry}
@@ -205,5 +205,5 @@ module _ (s s′ : List ℕ) {kind : Kind} {asked : Float} {stops : List Stop} {
       rw (le-leb (length s′) mostBytes (w .fits))
       (ap fromKind (w .after) ∙ from-kind (w .last) e (w .says) (e .stop) (w .body) (omega (arith, ap manyStops whole, there)) ∙ ap (redone (e .stop) (e .colour)) whole)
 
-  pub edited-lines : SameStops (deskOf s) (deskOf s′)
+  pub edited-lines : SameStopLines (deskOf s) (deskOf s′)
   edited-lines = edited-text s s′ with-edit there lines-read

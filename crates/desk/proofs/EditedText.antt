@@ -37,8 +37,8 @@ use Rattle.editing.proofs.EditSound.{edit-sound}
 use Rattle.refresh.proofs.Theorem.{refresh-passes, fresh-renewed}
 use Rattle.entries.specs.Input.{input, mostKept, positionsIn, channelsIn, inputOf}
 use Rattle.writing.specs.Printed.{refusedText}
-use Rattle.desk.specs.Recoloured.{recoloured, SameStops}
-use Rattle.desk.specs.Tool.{room, madeText, freshText, relistText, editText, blank, inputText, deskOf}
+use Rattle.desk.specs.Recoloured.{recoloured, SameStopLines}
+use Rattle.desk.specs.Tool.{listRoom, madeText, freshText, relistText, editText, blank, inputText, deskOf}
 use Rattle.entries.specs.declared.reading.Edited.the-variants as edit
 use Rattle.entries.proofs.Inputs.{length-positions, length-channels}
 use Rattle.desk.proofs.Plain.{read-finite}
@@ -99,7 +99,7 @@ module _ (ramp : Ramp) (e : Edit) (asked : Float) (was : Held) (same : heldCheck
   unfolding editText sampleAnswer freshText madeText
   edit-refused h = rw (same ∙ h, h)
 
-  edit-done : heldCheck ramp was ≡ checked.Fine → SameStops (editText ramp e asked was) (freshText (edited ramp e) asked was)
+  edit-done : heldCheck ramp was ≡ checked.Fine → SameStopLines (editText ramp e asked was) (freshText (edited ramp e) asked was)
   unfolding editText sampleAnswer sampleHeld relistText freshText madeText
   edit-done fine =
       let g = colourOf (edited ramp e) in
@@ -107,21 +107,21 @@ module _ (ramp : Ramp) (e : Edit) (asked : Float) (was : Held) (same : heldCheck
       let ts = pointsIn (edited ramp e) (fresh (edited ramp e) asked) in
       let ok = edit-sound ramp e (ramp-fine ramp _ _ _ fine) allowed in
       rw (same ∙ fine, fine, refresh-passes ramp e asked was fine allowed, fresh-renewed ramp e ok asked)
-      (same-answers (refusalOf g far room ts) (length (keptOf g far ts)) (freshEvaluations ramp asked + (newEvaluations ramp e asked + listEvaluations g far ts)) (flattenEvaluations (edited ramp e) asked) (keptOf g far ts) (coloursOf g (keptOf g far ts)))
+      (same-answers (refusalOf g far listRoom ts) (length (keptOf g far ts)) (freshEvaluations ramp asked + (newEvaluations ramp e asked + listEvaluations g far ts)) (flattenEvaluations (edited ramp e) asked) (keptOf g far ts) (coloursOf g (keptOf g far ts)))
 
-  pub edit-fresh : SameStops (editText ramp e asked was) (freshText (edited ramp e) asked was)
+  pub edit-fresh : SameStopLines (editText ramp e asked was) (freshText (edited ramp e) asked was)
   edit-fresh = go (heldCheck ramp was) refl where
-    go : (x : Checked) → heldCheck ramp was ≡ x → SameStops (editText ramp e asked was) (freshText (edited ramp e) asked was)
+    go : (x : Checked) → heldCheck ramp was ≡ x → SameStopLines (editText ramp e asked was) (freshText (edited ramp e) asked was)
     go (checked.Refused n) h = same-text (edit-refused h)
     go checked.Fine h = edit-done h
 
 -- ---- the tool
-same-either : (t : Bool) (a b c : List ℕ) → SameStops a b → SameStops (cond t a c) (cond t b c)
+same-either : (t : Bool) (a b c : List ℕ) → SameStopLines a b → SameStopLines (cond t a c) (cond t b c)
 same-either true a b c h = h
 same-either false a b c h = same-text refl
 
 -- s has an edit of a stop that is there; s′ has the same stops with that one changed, and no edit
-pub edited-text : (s s′ : List ℕ) {kind : Kind} {asked : Float} {stops : List Stop} {e : Recolour} → inputOf s ≡ input kind asked stops (edit.By e) → e .stop < length stops → inputOf s′ ≡ input kind asked (recoloured stops (e .stop) (e .colour)) edit.Not → SameStops (deskOf s) (deskOf s′)
+pub edited-text : (s s′ : List ℕ) {kind : Kind} {asked : Float} {stops : List Stop} {e : Recolour} → inputOf s ≡ input kind asked stops (edit.By e) → e .stop < length stops → inputOf s′ ≡ input kind asked (recoloured stops (e .stop) (e .colour)) edit.Not → SameStopLines (deskOf s) (deskOf s′)
 unfolding deskOf inputText
 edited-text s s′ {kind} {asked} {stops} {e} i h j =
     let f = read-finite s i in

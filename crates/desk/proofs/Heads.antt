@@ -15,7 +15,7 @@ use Rattle.text.proofs.Bytes.{every-both}
 use Rattle.rows.proofs.Fields.{fields-past}
 use Rattle.linearize.specs.Desk.{listedOf}
 use Rattle.writing.specs.Printed.{decimalOf, countText, rowsText, lineText, refusedText, evaluationsWord, listText}
-use Rattle.desk.specs.Recoloured.{firstLine, afterFirst, SameStops}
+use Rattle.desk.specs.Recoloured.{firstLine, afterFirst, SameStopLines}
 use Rattle.desk.specs.Tool.{listedText}
 
 abbrev notLf : ℕ → Bool
@@ -77,11 +77,11 @@ module _ (n : ℕ) (ps cs : List Float) where
   list-not-refused e number h = omega (arith, ap (λ (t : List ℕ). getD t 0 0) h)
 
 -- the same text
-pub same-text : {x y : List ℕ} → x ≡ y → SameStops x y
+pub same-text : {x y : List ℕ} → x ≡ y → SameStopLines x y
 same-text e = record { first = ap (λ (t : List ℕ). take 3 (fields (firstLine t))) e; rest = ap afterFirst e; refused = λ number. (λ h. sym e ∙ h, λ h. e ∙ h) }
 
 -- answers that differ in the number of evaluations alone
-pub same-answers : (refusal n e e′ : ℕ) (ps cs : List Float) → SameStops (listedText (listedOf refusal n e) ps cs) (listedText (listedOf refusal n e′) ps cs)
+pub same-answers : (refusal n e e′ : ℕ) (ps cs : List Float) → SameStopLines (listedText (listedOf refusal n e) ps cs) (listedText (listedOf refusal n e′) ps cs)
 same-answers (suc r) n e e′ ps cs = same-text refl
 same-answers zero n e e′ ps cs =
     record {

@@ -1,5 +1,5 @@
 -- What the calls make, and what is printed of it. Assumes nothing.
-use Prim.Native.Nat.{ℕ, zero, suc, _+_, _*_, _/_, _≤_, _<_, min}
+use Prim.Native.Nat.{ℕ, zero, suc, _+_, _/_, _≤_, _<_, min}
 use native.Mathlib.Omega.{arith}
 use mathlib.Core.Path.{_≡_, refl, sym, ap, ap₂, _∙_}
 use mathlib.Core.Bool.{true, false}
@@ -18,6 +18,7 @@ use Rattle.gradient.specs.Ramp.{colourOf}
 use Rattle.sampling.specs.Midpoints.{Gradient, Far}
 use Rattle.thinning.specs.Kept.{keptOf, refusalOf, roomOf, writtenOf, positionsWritten, channelsWritten, listEvaluations}
 use Rattle.blend.specs.Channels.{coloursOf}
+use Rattle.blend.proofs.Channels.{length-colours}
 use Rattle.sampling.specs.Lent.{Held}
 use Rattle.linearize.specs.Lent.{Output, outputOf}
 use Rattle.sampling.specs.Sampling.{farOf, heldCheck, fresh, evaluationsOfSampled}
@@ -39,7 +40,7 @@ use Rattle.writing.specs.Printed.{countText, stopText, rowsText, stopsWord, eva
 use Rattle.writing.specs.declared.Reply.{Reply}
 use Rattle.writing.specs.declared.Reply.the-variants as reply
 use Rattle.desk.specs.Steps.{replyOf, Says, Room}
-use Rattle.desk.specs.Tool.{room, listedText, keptIn, madeText, freshText, newPoints, relistText, editText, blank, rampText, deskOf, deskAnswer, deskOutput, Desks}
+use Rattle.desk.specs.Tool.{listRoom, listedText, keptIn, madeText, freshText, newPoints, relistText, editText, blank, rampText, deskOf, deskAnswer, deskOutput, Desks}
 use Rattle.entries.specs.declared.reading.Edited.{Edited}
 use Rattle.entries.specs.declared.reading.Edited.the-variants as edit
 use Rattle.desk.specs.declared.Desked.the-variants as desked
@@ -60,18 +61,13 @@ unfolding rowsText coloursOf
 rows-same g [] a b = refl
 rows-same g (t ∷ ts) a b = ap (λ (x : List ℕ). stopText (stopAt (t ∷ ts) (coloursOf g (t ∷ ts)) 0) ++ x) (rows-same g ts a b)
 
-length-colours : (g : Gradient) (ts : List Float) → length (coloursOf g ts) ≡ 4 * length ts
-unfolding coloursOf
-length-colours g [] = refl
-length-colours g (t ∷ ts) = let h = length-colours g ts in omega arith
-
 list-same : (g : Gradient) (ts ps cs a b : List Float) (e : ℕ) → ps ≡ ts ++ a → cs ≡ coloursOf g ts ++ b → listText (length ts) e ps cs ≡ listText (length ts) e ts (coloursOf g ts)
 unfolding listText
 list-same g ts ps cs a b e p c =
     ap (λ (x : List ℕ). stopsWord ++ (countText (length ts) ++ (evaluationsWord ++ (countText e ++ 10 ∷ x))))
     (ap₂ (rowsText (length ts)) p c ∙ rows-same g ts a b)
 
-same-list : (check : Checked) (refusal e : ℕ) (g : Gradient) (kept : List Float) (out out′ : Output) → (refusal ≡ 0 → length kept ≤ room) → Room (out .positions) (out .channels)
+same-list : (check : Checked) (refusal e : ℕ) (g : Gradient) (kept : List Float) (out out′ : Output) → (refusal ≡ 0 → length kept ≤ listRoom) → Room (out .positions) (out .channels)
     → out′ ≡ onFine check (outputOf (writtenOf refusal (sets (out .positions) 0 kept)) (writtenOf refusal (sets (out .channels) 0 (coloursOf g kept)))) (λ n. out)
     → listedText (answerBy check refusal (length kept) e) (out′ .positions) (out′ .channels) ≡ listedText (answerBy check refusal (length kept) e) kept (coloursOf g kept)
 same-list (checked.Refused n) refusal e g kept out out′ fits w p = refl
@@ -92,11 +88,11 @@ with-answer (checked.Refused k) refusal n e s = refl
 with-answer checked.Fine (suc r) n e s = refl
 with-answer checked.Fine zero n e s = refl
 
-room-is : {ps cs : List Float} → Room ps cs → roomOf ps cs ≡ room
+room-is : {ps cs : List Float} → Room ps cs → roomOf ps cs ≡ listRoom
 room-is {ps} {cs} w = ap₂ (λ (n m : ℕ). min n (m / 4)) (w .positions) (w .channels)
 
 -- ---- what is said of an answer
-pub done-fits : {l : Listed} {n e : ℕ} → l ≡ listed.Done n e → stopsOfListed l ≤ room → n ≤ room
+pub done-fits : {l : Listed} {n e : ℕ} → l ≡ listed.Done n e → stopsOfListed l ≤ listRoom → n ≤ listRoom
 done-fits {l} {n} {e} i h = omega (arith, ap stopsOfListed i)
 
 pub done-reply : {l : Listed} {n e : ℕ} → l ≡ listed.Done n e → reply.Made n e ≡ replyOf l
@@ -116,7 +112,7 @@ pub says-as : {ps cs : List Float} {r : Reply} {text other : List ℕ} → Says 
 says-as w e = record { is = w .is ∙ e }
 
 -- ---- a list that was made
-fits-in : (g : Gradient) (far : Far) {ops ocs : List Float} → Room ops ocs → (ts : List Float) → refusalOf g far (roomOf ops ocs) ts ≡ 0 → length (keptOf g far ts) ≤ room
+fits-in : (g : Gradient) (far : Far) {ops ocs : List Float} → Room ops ocs → (ts : List Float) → refusalOf g far (roomOf ops ocs) ts ≡ 0 → length (keptOf g far ts) ≤ listRoom
 fits-in g far {ops} {ocs} v ts z = omega (arith, kept-room g far (roomOf ops ocs) ts z, room-is v)
 
 -- an answer of a ramp's points, in outputs with room for 1,000 stops
@@ -125,8 +121,8 @@ Answers ramp asked check ts spent out r =
     r ≡ answerBy check (refusalOf (colourOf ramp) (farOf asked) (roomOf (out .positions) (out .channels)) ts) (length (keptIn ramp asked ts)) spent
 
 module _ (ramp : Ramp) (asked : Float) (check : Checked) (ts : List Float) (spent : ℕ) (out : Change Output) (r : Listed) (v : Room (out .entry .positions) (out .entry .channels)) (a : Answers ramp asked check ts spent (out .entry) r) where
-  pub made-fits : stopsOfListed r ≤ room
-  made-fits = rw a (stops-few check (refusalOf (colourOf ramp) (farOf asked) (roomOf (out .entry .positions) (out .entry .channels)) ts) (length (keptIn ramp asked ts)) room spent (fits-in (colourOf ramp) (farOf asked) v ts))
+  pub made-fits : stopsOfListed r ≤ listRoom
+  made-fits = rw a (stops-few check (refusalOf (colourOf ramp) (farOf asked) (roomOf (out .entry .positions) (out .entry .channels)) ts) (length (keptIn ramp asked ts)) listRoom spent (fits-in (colourOf ramp) (farOf asked) v ts))
 
   pub made-text : out .exit ≡ onFine check (written ramp asked ts (out .entry)) (λ n. out .entry) → listedText r (out .exit .positions) (out .exit .channels) ≡ madeText ramp asked check ts spent
   unfolding madeText positionsWritten channelsWritten
@@ -140,7 +136,7 @@ module _ (ramp : Ramp) (asked : Float) (check : Checked) (ts : List Float) (spen
 
 -- ---- flattening
 module _ {ramp : Ramp} {asked : Float} {held : Change Held} {out : Change Output} {r : Listed} (v : Room (out .entry .positions) (out .entry .channels)) (w : Flattens ramp asked held out r) where
-  pub fresh-fits : stopsOfListed r ≤ room
+  pub fresh-fits : stopsOfListed r ≤ listRoom
   fresh-fits = made-fits ramp asked (heldCheck ramp (held .entry)) (pointsIn ramp (fresh ramp asked)) (flattenEvaluations ramp asked) out r v (w .told .answer)
 
   pub fresh-same : listedText r (out .exit .positions) (out .exit .channels) ≡ freshText ramp asked (held .entry)
@@ -167,7 +163,7 @@ module _ {ramp : Ramp} (e : Edit) {asked : Float} {held : Change Held} {r : Samp
           ∙ with-answer (refreshCheck ramp e asked (held .exit)) (refusalOf (colourOf (edited ramp e)) (farOf asked) (roomOf (out .entry .positions) (out .entry .channels)) (newPoints ramp e asked (held .exit)))
           (length (keptIn (edited ramp e) asked (newPoints ramp e asked (held .exit)))) spent n
 
-      pub relist-fits : stopsOfListed made ≤ room
+      pub relist-fits : stopsOfListed made ≤ listRoom
       relist-fits = made-fits (edited ramp e) asked (refreshCheck ramp e asked (held .exit)) (newPoints ramp e asked (held .exit)) (n + spent) out made v answers
 
       pub relist-same : listedText made (out .exit .positions) (out .exit .channels) ≡ editText ramp e asked (held .entry)

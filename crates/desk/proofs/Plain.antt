@@ -22,7 +22,7 @@ use Rattle.rows.specs.declared.digits.Digits.the-variants.{Bad, Is}
 use Rattle.rows.proofs.Read.{Finite, numbers-finite}
 use Rattle.sampling.specs.Constants.{defaultThreshold}
 use Rattle.editing.specs.Rules.{refreshable}
-use Rattle.entries.specs.Entries.{exactly, toThreshold, thresholdEntry, toStop, stopEntry, indexOf, toChange, changeEntry, editEntry, stopTag, thresholdTag, editTag, kindLinear, kindSmoothstep, entryOf}
+use Rattle.entries.specs.Entries.{exactly, toThreshold, thresholdEntry, toStop, stopEntry, stopIndexOf, toChange, changeEntry, editEntry, stopTag, thresholdTag, editTag, kindLinear, kindSmoothstep, entryOf}
 use Rattle.entries.specs.Input.{Input, unread, input, mostBytes, ifRamp, ifThreshold, ifStop, ifChange, fromEnd, fromEdit, stopsOf, afterStops, fromStops, fromThreshold, fromKind, inputOf, channelsIn}
 use Rattle.entries.specs.declared.fields.Recolour.{Recolour}
 use Rattle.entries.specs.declared.fields.Entry.{Entry}
@@ -69,7 +69,7 @@ change-plain (Is k) fs = exactly-plain 4 (toChange k) (numbers fs) (numbers-fini
 edit-plain : (fs : List (List ℕ)) → plainEntry (editEntry fs) ≡ true
 unfolding editEntry
 edit-plain [] = refl
-edit-plain (f ∷ fs) = change-plain (indexOf f) fs
+edit-plain (f ∷ fs) = change-plain (stopIndexOf f) fs
 
 cond-plain : (t : Bool) (a b : Entry) → plainEntry a ≡ true → plainEntry b ≡ true → plainEntry (cond t a b) ≡ true
 cond-plain true a b h k = h

@@ -16,7 +16,7 @@ use Rattle.text.proofs.Bytes.{every-both, every-drop}
 use Rattle.rows.proofs.Fields.{few-fields}
 use Rattle.entries.specs.Entries.{entryOf}
 use Rattle.entries.specs.Input.{Input, unread, input, mostBytes, ifStop, fromKind, inputOf}
-use Rattle.desk.specs.Recoloured.{toTab, afterTab, changedLine, changedLines, SameStops, inLine, textOf, unbroken}
+use Rattle.desk.specs.Recoloured.{toTab, afterTab, changedLine, changedLines, SameStopLines, inLine, textOfLines, unbroken}
 use Rattle.desk.specs.Tool.{deskOf}
 use Rattle.entries.specs.declared.fields.Recolour.{Recolour}
 use Rattle.entries.specs.declared.fields.Entry.{Entry}
@@ -39,10 +39,10 @@ line-back (b ∷ l) t h =
     let cr : eqb b 13 ≡ false = failed (both-r (not (eqb b 10)) (not (eqb b 13)) here) refl in
     rw (lf, no-cr (atLf (l ++ 10 ∷ t)) (eqb b 13) cr, line-back l t (both-r (inLine b) (every inLine l) h))
 
-lines-back : (ls : List (List ℕ)) → unbroken ls ≡ true → lines (textOf ls) ≡ ls
-unfolding textOf unbroken lines
+lines-back : (ls : List (List ℕ)) → unbroken ls ≡ true → lines (textOfLines ls) ≡ ls
+unfolding textOfLines unbroken lines
 lines-back [] h = refl
-lines-back (l ∷ ls) h = line-back l (textOf ls) (both-l (every inLine l) (unbroken ls) h) ∙ ap (λ (ms : List (List ℕ)). l ∷ ms) (lines-back ls (both-r (every inLine l) (unbroken ls) h))
+lines-back (l ∷ ls) h = line-back l (textOfLines ls) (both-l (every inLine l) (unbroken ls) h) ∙ ap (λ (ms : List (List ℕ)). l ∷ ms) (lines-back ls (both-r (every inLine l) (unbroken ls) h))
 
 -- ---- parts of lines
 module _ (p : ℕ → Bool) where
@@ -104,19 +104,19 @@ module _ (d : List ℕ) (e : Recolour) (says : entryOf d ≡ entry.Change e) whe
         long-edit,
       )
 
-  length-before : (l : List ℕ) (ls : List (List ℕ)) → length (l ++ 10 ∷ textOf ls) ≡ length l + suc (length (textOf ls))
-  length-before l ls = length-append l (10 ∷ textOf ls)
+  length-before : (l : List ℕ) (ls : List (List ℕ)) → length (l ++ 10 ∷ textOfLines ls) ≡ length l + suc (length (textOfLines ls))
+  length-before l ls = length-append l (10 ∷ textOfLines ls)
 
-  shorter : (k : ℕ) (ls : List (List ℕ)) → length (textOf (changedLines k d ls)) ≤ length (textOf ls) + length d
-  unfolding textOf changedLines
+  shorter : (k : ℕ) (ls : List (List ℕ)) → length (textOfLines (changedLines k d ls)) ≤ length (textOfLines ls) + length d
+  unfolding textOfLines changedLines
   shorter zero [] = omega arith
   shorter (suc k) [] = omega arith
   shorter zero (l ∷ ls) =
-      by-stop (λ (ms : List (List ℕ)). length (textOf ms) ≤ length (textOf (l ∷ ls)) + length d) (entryOf l) (λ s. changedLine l d ∷ ls) (l ∷ changedLines zero d ls)
+      by-stop (λ (ms : List (List ℕ)). length (textOfLines ms) ≤ length (textOfLines (l ∷ ls)) + length d) (entryOf l) (λ s. changedLine l d ∷ ls) (l ∷ changedLines zero d ls)
       (λ s. omega (arith, length-before l ls, length-before (changedLine l d) ls, length-changed l))
       (omega (arith, length-before l ls, length-before l (changedLines zero d ls), shorter zero ls))
   shorter (suc k) (l ∷ ls) =
-      by-stop (λ (ms : List (List ℕ)). length (textOf ms) ≤ length (textOf (l ∷ ls)) + length d) (entryOf l) (λ s. l ∷ changedLines k d ls) (l ∷ changedLines (suc k) d ls)
+      by-stop (λ (ms : List (List ℕ)). length (textOfLines ms) ≤ length (textOfLines (l ∷ ls)) + length d) (entryOf l) (λ s. l ∷ changedLines k d ls) (l ∷ changedLines (suc k) d ls)
       (λ s. omega (arith, length-before l ls, length-before l (changedLines k d ls), shorter k ls))
       (omega (arith, length-before l ls, length-before l (changedLines (suc k) d ls), shorter (suc k) ls))
 
@@ -149,10 +149,10 @@ unbroken-parts (l ∷ ls) d h =
     let w = unbroken-parts ls d (both-r (every inLine l) (unbroken (ls ++ d ∷ [])) h) in
     (rw (both-l (every inLine l) (unbroken (ls ++ d ∷ [])) h, w .0), w .1)
 
-length-text : (ls : List (List ℕ)) (d : List ℕ) → length (textOf (ls ++ d ∷ [])) ≡ length (textOf ls) + suc (length d)
-unfolding textOf
+length-text : (ls : List (List ℕ)) (d : List ℕ) → length (textOfLines (ls ++ d ∷ [])) ≡ length (textOfLines ls) + suc (length d)
+unfolding textOfLines
 length-text [] d = length-append d (10 ∷ []) ∙ omega arith
-length-text (l ∷ ls) d = omega (arith, length-append l (10 ∷ textOf ls), length-append l (10 ∷ textOf (ls ++ d ∷ [])), length-text ls d)
+length-text (l ∷ ls) d = omega (arith, length-append l (10 ∷ textOfLines ls), length-append l (10 ∷ textOfLines (ls ++ d ∷ [])), length-text ls d)
 
 few-bytes : (s : List ℕ) {kind : Kind} {asked : Float} {stops : List Stop} {e : Recolour} → inputOf s ≡ input kind asked stops (edit.By e) → length s ≤ mostBytes
 unfolding inputOf
@@ -167,16 +167,16 @@ few-bytes s {kind} {asked} {stops} {e} i = go (leb (length s) mostBytes) refl i 
 
 -- of the lines `body` and the edit's line d: the text with both, and the text with the stop's line changed and without d
 pub edited-writing : (body : List (List ℕ)) (d : List ℕ) {kind : Kind} {asked : Float} {stops : List Stop} {e : Recolour}
-    → unbroken (body ++ d ∷ []) ≡ true → entryOf d ≡ entry.Change e → inputOf (textOf (body ++ d ∷ [])) ≡ input kind asked stops (edit.By e) → e .stop < length stops
-    → SameStops (deskOf (textOf (body ++ d ∷ []))) (deskOf (textOf (changedLines (e .stop) d body)))
+    → unbroken (body ++ d ∷ []) ≡ true → entryOf d ≡ entry.Change e → inputOf (textOfLines (body ++ d ∷ [])) ≡ input kind asked stops (edit.By e) → e .stop < length stops
+    → SameStopLines (deskOf (textOfLines (body ++ d ∷ []))) (deskOf (textOfLines (changedLines (e .stop) d body)))
 edited-writing body d {kind} {asked} {stops} {e} whole says i h =
     let w = unbroken-parts body d whole in
-    edited-lines (textOf (body ++ d ∷ [])) (textOf (changedLines (e .stop) d body)) i h
+    edited-lines (textOfLines (body ++ d ∷ [])) (textOfLines (changedLines (e .stop) d body)) i h
     (record {
       body = body;
       last = d;
       says = says;
       before = lines-back (body ++ d ∷ []) whole;
       after = lines-back (changedLines (e .stop) d body) (still-unbroken d e says (w .1) (e .stop) body (w .0));
-      fits = omega (arith, few-bytes (textOf (body ++ d ∷ [])) i, length-text body d, shorter d e says (e .stop) body);
+      fits = omega (arith, few-bytes (textOfLines (body ++ d ∷ [])) i, length-text body d, shorter d e says (e .stop) body);
     })

@@ -31,7 +31,7 @@ afterFirst (b ∷ s) = cond (eqb b 10) s (afterFirst s)
 
 -- The same stop lines, byte for byte, after the same first line but for its fourth field, the number of evaluations: `stops`, their number and `evaluations`.
 -- Where one of the two is a refusal, which is a line alone, the other is the same refusal.
-pub record SameStops (x y : List ℕ) : Type 0 where
+pub record SameStopLines (x y : List ℕ) : Type 0 where
   pub first : take 3 (fields (firstLine x)) ≡ take 3 (fields (firstLine y))
   pub rest : afterFirst x ≡ afterFirst y
   pub refused : (number : ℕ) → (x ≡ refusedText number → y ≡ refusedText number) × (y ≡ refusedText number → x ≡ refusedText number)
@@ -67,9 +67,9 @@ pub record EditMade (s s′ : List ℕ) (e : Recolour) : Type 0 where
   pub fits : length s′ ≤ mostBytes
 
 -- lines written one after the other, each ended by LF; and that no byte of them is LF or CR
-unfoldable pub textOf : List (List ℕ) → List ℕ
-textOf [] = []
-textOf (l ∷ ls) = l ++ 10 ∷ textOf ls
+unfoldable pub textOfLines : List (List ℕ) → List ℕ
+textOfLines [] = []
+textOfLines (l ∷ ls) = l ++ 10 ∷ textOfLines ls
 
 abbrev pub inLine : ℕ → Bool
 inLine b = not (eqb b 10) && not (eqb b 13)

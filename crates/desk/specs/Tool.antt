@@ -33,8 +33,8 @@ use Rattle.desk.specs.declared.Desked.{Desked}
 use Rattle.desk.specs.declared.Desked.the-variants as desked
 
 -- the stops that a list has room for
-abbrev pub room : ℕ
-room = 1000
+abbrev pub listRoom : ℕ
+listRoom = 1000
 
 -- a refusal prints only `refused` and its number
 abbrev pub listedText : Listed → List Float → List Float → List ℕ
@@ -55,7 +55,7 @@ module _ (ramp : Ramp) (asked : Float) where
 
   unfoldable pub madeText : Checked → List Float → ℕ → List ℕ
   madeText check ts spent =
-      listedText (answerBy check (refusalOf (colourOf ramp) (farOf asked) room ts) (length (keptIn ts)) spent)
+      listedText (answerBy check (refusalOf (colourOf ramp) (farOf asked) listRoom ts) (length (keptIn ts)) spent)
       (keptIn ts)
       (coloursOf (colourOf ramp) (keptIn ts))
 

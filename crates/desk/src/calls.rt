@@ -10,14 +10,14 @@ ghost use mathlib.Core.Path.{_≡_};
 ghost use Prim.Native.Nat.{_≤_};
 ghost use Rattle.stops.specs.Lent.{new};
 ghost use Rattle.linearize.specs.Desk.{stopsOfListed};
-ghost use Rattle.desk.specs.Tool.{room, freshText, editText, rampText, blank};
+ghost use Rattle.desk.specs.Tool.{listRoom, freshText, editText, rampText, blank};
 ghost use Rattle.desk.specs.Steps.{stopRamp, replyOf, Says, Room};
 
 // The stops that a list has room for.
 pub(crate) const ROOM: usize = 1000;
 
 fn reply_of(made: Listed) -> Reply
-    requires { ⌜ stopsOfListed made ≤ room ⌝ }
+    requires { ⌜ stopsOfListed made ≤ listRoom ⌝ }
     ensures { λ r. ⌜ r ≡ replyOf made ⌝ }
 {
     match made {

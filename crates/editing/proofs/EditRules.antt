@@ -17,7 +17,7 @@ use Rattle.stops.specs.Stops.{posAt, finiteRgba}
 use Rattle.stops.specs.declared.Kind.{Kind}
 use Rattle.stops.specs.declared.Checked.{Checked}
 use Rattle.stops.specs.declared.Checked.the-variants as checked
-use Rattle.editing.specs.Rules.{refreshable, movable, isInner, isNext, inOrder, sixth, editAllowed}
+use Rattle.editing.specs.Rules.{refreshable, movable, isInner, isNext, orderCheck, sixUnless, editAllowed}
 use Rattle.editing.specs.declared.Edit.{Edit}
 use Rattle.editing.specs.declared.Edit.the-variants.{Colour, Move, Add, Remove}
 
@@ -54,17 +54,17 @@ module _ (n k : ℕ) where
 
 -- ---- the order
 module _ (ps : List Float) (i j : ℕ) (p : Float) {x : Float} (low : x ≡ posAt ps i) where
-  pub below-low : lt p x ≡ true → checked.Refused falling ≡ inOrder ps i j p
-  unfolding inOrder
+  pub below-low : lt p x ≡ true → checked.Refused falling ≡ orderCheck ps i j p
+  unfolding orderCheck
   below-low h = rw (← low, h)
 
   module _ (above : lt p x ≡ false) {y : Float} (high : y ≡ posAt ps j) where
-    pub above-high : lt y p ≡ true → checked.Refused falling ≡ inOrder ps i j p
-    unfolding inOrder
+    pub above-high : lt y p ≡ true → checked.Refused falling ≡ orderCheck ps i j p
+    unfolding orderCheck
     above-high h = rw (← low, above, ← high, h)
 
-    pub in-order : lt y p ≡ false → checked.Fine ≡ inOrder ps i j p
-    unfolding inOrder
+    pub in-order : lt y p ≡ false → checked.Fine ≡ orderCheck ps i j p
+    unfolding orderCheck
     in-order h = rw (← low, above, ← high, h)
 
 -- ---- an edit, test by test
@@ -106,7 +106,7 @@ module _ (kind : Kind) (ps : List Float) where
         unfolding editAllowed
         move-number h = rw (ok, inner, h)
 
-        pub move-order : finite p ≡ true → {r : Checked} → r ≡ inOrder ps (k - 1) (k + 1) p → r ≡ editAllowed kind ps (Move k p)
+        pub move-order : finite p ≡ true → {r : Checked} → r ≡ orderCheck ps (k - 1) (k + 1) p → r ≡ editAllowed kind ps (Move k p)
         unfolding editAllowed
         move-order h e = rw (ok, inner, h) e
 
@@ -135,7 +135,7 @@ module _ (kind : Kind) (ps : List Float) where
             unfolding editAllowed
             add-most h = rw (ok, next, number, numbers, le-ltb (length ps) mostStops h)
 
-            pub add-order : length ps < mostStops → {r : Checked} → r ≡ inOrder ps (k - 1) k p → r ≡ editAllowed kind ps (Add k p colour)
+            pub add-order : length ps < mostStops → {r : Checked} → r ≡ orderCheck ps (k - 1) k p → r ≡ editAllowed kind ps (Add k p colour)
             unfolding editAllowed
             add-order h e = rw (ok, next, number, numbers, lt-ltb (length ps) mostStops h) e
 
@@ -156,7 +156,7 @@ module _ (kind : Kind) (ps : List Float) where
 refused : {n : ℕ} → checked.Refused n ≡ checked.Fine → ⊥
 refused h = let z : _≡_ {A = ℕ} 0 1 = cc in omega arith
 
-sixth-passes : (b : Bool) (after : Checked) → sixth b after ≡ checked.Fine → (b ≡ true) × (after ≡ checked.Fine)
+sixth-passes : (b : Bool) (after : Checked) → sixUnless b after ≡ checked.Fine → (b ≡ true) × (after ≡ checked.Fine)
 sixth-passes true after h = (refl, h)
 sixth-passes false after h = absurd (refused h)
 
@@ -180,8 +180,8 @@ pub record Fits (ps : List Float) (i j : ℕ) (p : Float) : Type 0 where
   pub above : lt p (posAt ps i) ≡ false
   pub below : lt (posAt ps j) p ≡ false
 
-fits-is : (ps : List Float) (i j : ℕ) (p : Float) → finite p ≡ true → inOrder ps i j p ≡ checked.Fine → Fits ps i j p
-unfolding inOrder
+fits-is : (ps : List Float) (i j : ℕ) (p : Float) → finite p ≡ true → orderCheck ps i j p ≡ checked.Fine → Fits ps i j p
+unfolding orderCheck
 fits-is ps i j p f h = let o = order-passes (lt p (posAt ps i)) (lt (posAt ps j) p) h in record { number = f; above = o .0; below = o .1 }
 
 module _ (kind : Kind) (ps : List Float) (k : ℕ) where
@@ -206,7 +206,7 @@ module _ (kind : Kind) (ps : List Float) (k : ℕ) where
       let a = movable kind in
       let b = isInner (length ps) k in
       let c = finite p in
-      let t = sixth-passes (a && (b && c)) (inOrder ps (k - 1) (k + 1) p) h in
+      let t = sixth-passes (a && (b && c)) (orderCheck ps (k - 1) (k + 1) p) h in
       let u = both-r a (b && c) (t .0) in
       record { straight = both-l a (b && c) (t .0); inner = inner-is (length ps) k (both-l b c u); fits = fits-is ps (k - 1) (k + 1) p (both-r b c u) (t .1) }
 
@@ -225,10 +225,10 @@ module _ (kind : Kind) (ps : List Float) (k : ℕ) where
       let c = finite p in
       let d = finiteRgba colour in
       let e = ltb (length ps) mostStops in
-      let t = sixth-passes (a && (b && (c && d))) (cond e (inOrder ps (k - 1) k p) (checked.Refused misshapen)) h in
+      let t = sixth-passes (a && (b && (c && d))) (cond e (orderCheck ps (k - 1) k p) (checked.Refused misshapen)) h in
       let u = both-r a (b && (c && d)) (t .0) in
       let v = both-r b (c && d) u in
-      let r = room-passes e (inOrder ps (k - 1) k p) (t .1) in
+      let r = room-passes e (orderCheck ps (k - 1) k p) (t .1) in
       record {
         straight = both-l a (b && (c && d)) (t .0);
         next = next-is (length ps) k (both-l b (c && d) u);

@@ -43,21 +43,21 @@ unfoldable pub isNext : ℕ → ℕ → Bool
 isNext n k = leb 1 k && ltb k n
 
 -- 3: below the stop before, or above the one after. Equal positions do not break the order
-unfoldable pub inOrder : List Float → ℕ → ℕ → Float → Checked
-inOrder ps i j p = cond (lt p (posAt ps i) || lt (posAt ps j) p) (checked.Refused falling) checked.Fine
+unfoldable pub orderCheck : List Float → ℕ → ℕ → Float → Checked
+orderCheck ps i j p = cond (lt p (posAt ps i) || lt (posAt ps j) p) (checked.Refused falling) checked.Fine
 
 -- what follows 6
-abbrev pub sixth : Bool → Checked → Checked
-sixth allowed after = cond allowed after (checked.Refused badEdit)
+abbrev pub sixUnless : Bool → Checked → Checked
+sixUnless allowed after = cond allowed after (checked.Refused badEdit)
 
 -- another kind of ramp, an end place or none, or a number that is not finite is 6; a stop beyond the most is 1; one that breaks the order is 3
 unfoldable pub editAllowed : Kind → List Float → Edit → Checked
-editAllowed kind ps (Colour k c) = sixth (refreshable kind && (ltb k (length ps) && finiteRgba c)) checked.Fine
-editAllowed kind ps (Move k p) = sixth (movable kind && (isInner (length ps) k && finite p)) (inOrder ps (k - 1) (k + 1) p)
+editAllowed kind ps (Colour k c) = sixUnless (refreshable kind && (ltb k (length ps) && finiteRgba c)) checked.Fine
+editAllowed kind ps (Move k p) = sixUnless (movable kind && (isInner (length ps) k && finite p)) (orderCheck ps (k - 1) (k + 1) p)
 editAllowed kind ps (Add k p c) =
-    sixth (movable kind && (isNext (length ps) k && (finite p && finiteRgba c)))
-    (cond (ltb (length ps) mostStops) (inOrder ps (k - 1) k p) (checked.Refused misshapen))
-editAllowed kind ps (Remove k) = sixth (movable kind && isInner (length ps) k) checked.Fine
+    sixUnless (movable kind && (isNext (length ps) k && (finite p && finiteRgba c)))
+    (cond (ltb (length ps) mostStops) (orderCheck ps (k - 1) k p) (checked.Refused misshapen))
+editAllowed kind ps (Remove k) = sixUnless (movable kind && isInner (length ps) k) checked.Fine
 
 abbrev pub editCheck : Ramp → Edit → Checked
 editCheck ramp e = editAllowed (ramp .kind) (ramp .positions) e

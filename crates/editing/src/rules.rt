@@ -11,7 +11,7 @@ use stops::is_finite_colour;
 use stops::item;
 ghost use mathlib.Core.Path.{_≡_};
 ghost use Rattle.stops.specs.Lent.{old};
-ghost use Rattle.editing.specs.Rules.{refreshable, movable, isInner, isNext, inOrder, editAllowed};
+ghost use Rattle.editing.specs.Rules.{refreshable, movable, isInner, isNext, orderCheck, editAllowed};
 ghost use Rattle.editing.specs.declared.Edit.the-variants.{Colour, Move, Add, Remove};
 
 fn is_refreshable(kind: Kind) -> bool
@@ -65,7 +65,7 @@ fn is_next(n: usize, k: usize) -> bool
 
 // Refusal 3 of a position between stops i and j.
 fn check_order(positions: &[f32], i: usize, j: usize, p: f32) -> Checked
-    ensures { λ r. ⌜ r ≡ inOrder (old positions) i j p ⌝ }
+    ensures { λ r. ⌜ r ≡ orderCheck (old positions) i j p ⌝ }
 {
     if p < item(positions, i) {
         return Checked::Refused(FALLING);

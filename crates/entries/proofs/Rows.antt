@@ -19,7 +19,7 @@ use Rattle.rows.specs.Rows.{Numbers, all, none, numbers, longest, RowAt}
 use Rattle.rows.proofs.Fields.{field-last, field-more, parts-in}
 use Rattle.rows.proofs.Numbers.{row-is, row-not}
 use Rattle.stops.specs.declared.Kind.the-variants.{Linear, Smoothstep}
-use Rattle.entries.specs.Entries.{exactly, toThreshold, thresholdEntry, toStop, stopEntry, indexDigits, indexOf, toChange, changeEntry, editEntry, stopTag, thresholdTag, editTag, kindLinear, kindSmoothstep, entryOf}
+use Rattle.entries.specs.Entries.{exactly, toThreshold, thresholdEntry, toStop, stopEntry, indexDigits, stopIndexOf, toChange, changeEntry, editEntry, stopTag, thresholdTag, editTag, kindLinear, kindSmoothstep, entryOf}
 use Rattle.entries.specs.declared.fields.Entry.{Entry}
 use Rattle.entries.specs.declared.fields.Entry.the-variants as entry
 
@@ -88,23 +88,23 @@ module _ (l : List ℕ) (from end : ℕ) (h : from ≤ length l) (e : end ≡ fr
 
   pub edit-alone : length l ≤ end → entry.Unread ≡ editEntry (fields (drop from l))
   unfolding editEntry
-  edit-alone k = change-none (indexOf index) ∙ ap editEntry (sym (field-last l from end h e k))
+  edit-alone k = change-none (stopIndexOf index) ∙ ap editEntry (sym (field-last l from end h e k))
 
   index-long : end < length l → length index ≡ end - from
   index-long k = length-take-le (end - from) (drop from l) (omega (arith, length-drop from l))
 
   module _ (k : end < length l) where
-    by-index : (c : Digits) → indexOf index ≡ c → changeEntry c (fields (drop (end + 1) l)) ≡ editEntry (fields (drop from l))
+    by-index : (c : Digits) → stopIndexOf index ≡ c → changeEntry c (fields (drop (end + 1) l)) ≡ editEntry (fields (drop from l))
     unfolding editEntry
     by-index c i = ap (λ (x : Digits). changeEntry x (fields (drop (end + 1) l))) (sym i) ∙ ap editEntry (sym (field-more l from end h e k))
 
     pub edit-long : indexDigits < end - from → entry.Unread ≡ editEntry (fields (drop from l))
-    unfolding indexOf changeEntry
+    unfolding stopIndexOf changeEntry
     edit-long m = by-index Bad (rw (lt-leb (length index) indexDigits (omega (arith, index-long k))))
 
     module _ (m : end - from ≤ indexDigits) where
-      short : indexOf index ≡ digitsWith false index
-      unfolding indexOf
+      short : stopIndexOf index ≡ digitsWith false index
+      unfolding stopIndexOf
       short = rw (le-leb (length index) indexDigits (omega (arith, index-long k)))
 
       pub edit-bad : digitsWith false index ≡ Bad → entry.Unread ≡ editEntry (fields (drop from l))

@@ -44,8 +44,8 @@ stopEntry fs = exactly 5 toStop (numbers fs)
 abbrev pub indexDigits : ℕ
 indexDigits = 18
 
-unfoldable pub indexOf : List ℕ → Digits
-indexOf f = cond (leb (length f) indexDigits) (digitsWith false f) Bad
+unfoldable pub stopIndexOf : List ℕ → Digits
+stopIndexOf f = cond (leb (length f) indexDigits) (digitsWith false f) Bad
 
 abbrev pub toChange : ℕ → List Float → Entry
 toChange k xs = entry.Change (record { stop = k; colour = channelsAt xs 0 })
@@ -56,7 +56,7 @@ changeEntry (Is k) fs = exactly 4 (toChange k) (numbers fs)
 
 unfoldable pub editEntry : List (List ℕ) → Entry
 editEntry [] = entry.Unread
-editEntry (f ∷ fs) = changeEntry (indexOf f) fs
+editEntry (f ∷ fs) = changeEntry (stopIndexOf f) fs
 
 -- ---- the line
 

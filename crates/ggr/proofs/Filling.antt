@@ -22,7 +22,7 @@ use Rattle.segment.specs.Line.{SegmentAt}
 use Rattle.segment.specs.Store.{Store, storeOf, segmentPositions, segmentChannels, segmentCodes, Stores}
 use Rattle.ggr.specs.declared.Answer.{Answer}
 use Rattle.ggr.specs.declared.Answer.the-variants.{Read, Refused}
-use Rattle.ggr.specs.File.{FileRead, found, refused, joinedTo, before, addSegment, segments, answerOf, flat, atFront, written}
+use Rattle.ggr.specs.File.{FileRead, found, refused, joinedTo, before, addSegment, segmentLines, answerOf, flat, atFront, storeLeft}
 use Rattle.ggr.specs.Steps.{Filled, closedBy}
 use Rattle.ggr.proofs.Weighing.{weighs}
 
@@ -104,7 +104,7 @@ module _ (o : FileRead) (s : List ℕ) (fg bg : Rgba) (n : ℕ) (kept : Store) w
     pub le : i ≤ n
     pub gs : List Segment
     pub count : length gs ≡ i
-    pub rest : o ≡ prependAll gs (segments fg bg (n - i) (4 + i) end (lines (drop at s)))
+    pub rest : o ≡ prependAll gs (segmentLines fg bg (n - i) (4 + i) end (lines (drop at s)))
     pub long-p : length (so-far .positions) ≡ length (kept .positions)
     pub long-c : length (so-far .channels) ≡ length (kept .channels)
     pub long-k : length (so-far .codes) ≡ length (kept .codes)
@@ -112,13 +112,13 @@ module _ (o : FileRead) (s : List ℕ) (fg bg : Rgba) (n : ℕ) (kept : Store) w
     pub in-c : so-far .channels ≡ flat segmentChannels gs ++ drop (8 * i) (kept .channels)
     pub in-k : so-far .codes ≡ flat segmentCodes gs ++ drop (2 * i) (kept .codes)
 
-  pub going-start : (at : ℕ) → o ≡ segments fg bg n 4 f0 (lines (drop at s)) → Going kept at f0 0
+  pub going-start : (at : ℕ) → o ≡ segmentLines fg bg n 4 f0 (lines (drop at s)) → Going kept at f0 0
   unfolding prependAll flat
   going-start at e = record {
     le = omega arith;
     gs = [];
     count = refl;
-    rest = e ∙ ap (λ (m : ℕ). segments fg bg m 4 f0 (lines (drop at s))) (sym (sub-zero n));
+    rest = e ∙ ap (λ (m : ℕ). segmentLines fg bg m 4 f0 (lines (drop at s))) (sym (sub-zero n));
     long-p = refl;
     long-c = refl;
     long-k = refl;
@@ -129,7 +129,7 @@ module _ (o : FileRead) (s : List ℕ) (fg bg : Rgba) (n : ℕ) (kept : Store) w
 
   module _ (so-far : Store) (at : ℕ) (end : Float) (i : ℕ) (G : Going so-far at end i) where
     pub short : i < n → length s ≤ at → Filled o (change kept so-far) (Refused fewLines 3)
-    unfolding segments
+    unfolding segmentLines
     short h e =
         let q : n - i ≡ suc (n - (i + 1)) = omega arith in
         filled-no o fewLines 3 _ (G .rest ∙ rw (q, no-lines s at e) (prepend-refused (G .gs) fewLines 3))
@@ -137,13 +137,13 @@ module _ (o : FileRead) (s : List ℕ) (fg bg : Rgba) (n : ℕ) (kept : Store) w
     module _ (h : i < n) (z : at < length s) (l r : SegmentRead) (after : ℕ) (w : SegmentAt fg bg s at l after) (v : r ≡ joinedTo end l) where
       -- what follows a segment
       abbrev Rest : Segment → FileRead
-      Rest g = segments fg bg (n - (i + 1)) (suc (4 + i)) (g .right) (restOf (lines (drop at s)))
+      Rest g = segmentLines fg bg (n - (i + 1)) (suc (4 + i)) (g .right) (restOf (lines (drop at s)))
 
       next : o ≡ prependAll (G .gs) (addSegment (4 + i) r Rest)
-      unfolding segments
+      unfolding segmentLines
       next =
           let q : n - i ≡ suc (n - (i + 1)) = omega arith in
-          G .rest ∙ ap (prependAll (G .gs)) (ap₂ (λ (m : ℕ) (ls : List (List ℕ)). segments fg bg m (4 + i) end ls) q (some-lines s at z)
+          G .rest ∙ ap (prependAll (G .gs)) (ap₂ (λ (m : ℕ) (ls : List (List ℕ)). segmentLines fg bg m (4 + i) end ls) q (some-lines s at z)
           ∙ ap (λ (x : SegmentRead). addSegment (4 + i) x Rest) (ap (joinedTo end) (sym (w .is)) ∙ sym v))
 
       pub bad : (number : ℕ) → r ≡ Fault number → Filled o (change kept so-far) (Refused number (4 + i))
@@ -164,7 +164,7 @@ module _ (o : FileRead) (s : List ℕ) (fg bg : Rgba) (n : ℕ) (kept : Store) w
               rest =
                   next ∙ ap (λ (x : SegmentRead). prependAll (G .gs) (addSegment (4 + i) x Rest)) e
                   ∙ prepend-snoc (G .gs) g (Rest g)
-                  ∙ ap (prependAll (G .gs ++ g ∷ [])) (ap₂ (λ (m : ℕ) (ls : List (List ℕ)). segments fg bg (n - (i + 1)) m (g .right) ls) line-no (sym (w .rest g (weighs end l g (sym v ∙ e) .0))));
+                  ∙ ap (prependAll (G .gs ++ g ∷ [])) (ap₂ (λ (m : ℕ) (ls : List (List ℕ)). segmentLines fg bg (n - (i + 1)) m (g .right) ls) line-no (sym (w .rest g (weighs end l g (sym v ∙ e) .0))));
               long-p = ap length ep ∙ length-sets (so-far .positions) (3 * i) (segmentPositions g) ∙ G .long-p;
               long-c = ap length ec ∙ length-sets (so-far .channels) (8 * i) (segmentChannels g) ∙ G .long-c;
               long-k = ap length ek ∙ length-sets (so-far .codes) (2 * i) (segmentCodes g) ∙ G .long-k;
@@ -182,7 +182,7 @@ module _ (o : FileRead) (s : List ℕ) (fg bg : Rgba) (n : ℕ) (kept : Store) w
 
     -- after the last line
     last : i ≡ n → o ≡ prependAll (G .gs) (cond (eq end f1) (found []) (refused torn (3 + n)))
-    unfolding segments
+    unfolding segmentLines
     last e =
         let q : n - i ≡ 0 = omega arith in
         let m : 4 + i - 1 ≡ 3 + n = omega arith in
@@ -192,13 +192,13 @@ module _ (o : FileRead) (s : List ℕ) (fg bg : Rgba) (n : ℕ) (kept : Store) w
     ends-early e x = filled-no o torn (3 + n) _ (last e ∙ rw x (prepend-refused (G .gs) torn (3 + n)))
 
     full : i ≡ n → eq end f1 ≡ true → Filled o (change kept so-far) (Read n)
-    unfolding written
+    unfolding storeLeft
     full e x =
         let f : o ≡ found (G .gs) = last e ∙ rw x (prepend-found (G .gs) [] ∙ ap found (append-nil (G .gs))) in
         let p = all-flat segmentPositions 3 each-p (G .gs) i (G .count) (kept .positions) (so-far .positions) (G .in-p) in
         let c = all-flat segmentChannels 8 each-c (G .gs) i (G .count) (kept .channels) (so-far .channels) (G .in-c) in
         let k = all-flat segmentCodes 2 each-k (G .gs) i (G .count) (kept .codes) (so-far .codes) (G .in-k) in
-        record { answer = ap Read (sym e ∙ sym (G .count)) ∙ sym (ap answerOf f); left = λ hs j. by-parts p c k ∙ ap (λ (x : FileRead). written x kept) (sym f) }
+        record { answer = ap Read (sym e ∙ sym (G .count)) ∙ sym (ap answerOf f); left = λ hs j. by-parts p c k ∙ ap (λ (x : FileRead). storeLeft x kept) (sym f) }
 
     pub closed : i ≡ n → (r : Answer) → r ≡ closedBy end n → Filled o (change kept so-far) r
     closed e r q = go (eq end f1) refl q where

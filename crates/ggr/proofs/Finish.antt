@@ -23,7 +23,7 @@ use Rattle.header.specs.Head.{headOf, nameIn}
 use Rattle.header.specs.Leads.{headBy, leadFits, Leads}
 use Rattle.ggr.specs.declared.Answer.{Answer}
 use Rattle.ggr.specs.declared.Answer.the-variants.{Read, Refused}
-use Rattle.ggr.specs.File.{FileRead, found, refused, segments, fromHead, fitText, fileOf, answerOf, numberOfAnswer, lineOfAnswer, segmentsOfAnswer, numberIn, lineIn, segmentsIn, written, segmentRoom, Done, transparent, whenRead, nameOf}
+use Rattle.ggr.specs.File.{FileRead, found, refused, segmentLines, fromHead, fitText, fileOf, answerOf, numberOfAnswer, lineOfAnswer, segmentsOfAnswer, numberIn, lineIn, segmentsIn, storeLeft, segmentRoom, Done, transparent, whenRead, nameOf}
 use Rattle.ggr.specs.Steps.{Filled}
 
 -- ---- the order of the refusals
@@ -53,7 +53,7 @@ module _ (fg bg : Rgba) (s : List ℕ) {room asked : ℕ} (q : asked ≡ room) (
   unfolding headBy fromHead
   file-refuse a b h = file-head ∙ rw h
 
-  pub file-counted : (n at : ℕ) → r ≡ Counted n at → fileOf room fg bg s ≡ segments fg bg n 4 f0 (lines (drop at s))
+  pub file-counted : (n at : ℕ) → r ≡ Counted n at → fileOf room fg bg s ≡ segmentLines fg bg n 4 f0 (lines (drop at s))
   unfolding headBy fromHead
   file-counted n at h = file-head ∙ rw h
 
@@ -84,7 +84,7 @@ module _ (o : FileRead) (r : Answer) (store : Change Store) (w : Filled o store 
   refused-by (found gs) a b e f = absurd (let z : _≡_ {A = ℕ} 0 1 = cc in omega arith)
   refused-by (refused x y) a b e f = cc
 
-  done : (after : Store) → after ≡ written o (store .entry) → Done o (change (store .entry) after) r
+  done : (after : Store) → after ≡ storeLeft o (store .entry) → Done o (change (store .entry) after) r
   done after e = record {
     answer = w .answer;
     number = rw (w .answer) (told o .0);
@@ -101,13 +101,13 @@ module _ (o : FileRead) (r : Answer) (store : Change Store) (w : Filled o store 
         → p ≡ sets (store .exit .positions) 0 (replicate (length (store .exit .positions) - 0) f0)
         → c ≡ sets (store .exit .channels) 0 (replicate (length (store .exit .channels) - 0) f0)
         → k ≡ replicate (length (store .exit .codes)) 0 → Done o (change (store .entry) (storeOf p c k)) r
-    unfolding written
+    unfolding storeLeft
     done-refused a b e p c k ep ec ek =
         let g = refused-by o a b e (w .answer) in
         let zp : p ≡ replicate (length (store .entry .positions)) f0 = ep ∙ all-zero f0 (store .exit .positions) ∙ ap (λ (n : ℕ). replicate n f0) lp in
         let zc : c ≡ replicate (length (store .entry .channels)) f0 = ec ∙ all-zero f0 (store .exit .channels) ∙ ap (λ (n : ℕ). replicate n f0) lc in
         let zk : k ≡ replicate (length (store .entry .codes)) 0 = ek ∙ ap (λ (n : ℕ). replicate n 0) lk in
-        done (storeOf p c k) (rw (zp, zc, zk) (ap (λ (x : FileRead). written x (store .entry)) (sym g)))
+        done (storeOf p c k) (rw (zp, zc, zk) (ap (λ (x : FileRead). storeLeft x (store .entry)) (sym g)))
 
 -- ---- the name
 module _ (s : List ℕ) (r : Answer) (e : r ≡ answerOf (fileOf mostSegments transparent transparent s)) where

@@ -14,13 +14,13 @@ use Rattle.stops.specs.Stops.{finiteRgba}
 use Rattle.gradient.specs.declared.gimp.Segment.{Segment}
 use Rattle.segment.specs.declared.SegmentRead.{SegmentRead}
 use Rattle.segment.specs.declared.SegmentRead.the-variants.{Valid, Fault}
-use Rattle.segment.specs.Line.{segmentOf}
+use Rattle.segment.specs.Line.{segmentOnLine}
 use Rattle.gradient.specs.Gimp.{carriedOf}
 use Rattle.segment.proofs.Carried.{line-carried}
 use Rattle.header.specs.Head.{Head, counts, fails, headOf}
 use Rattle.header.proofs.Fits.{head-fits}
 use Rattle.ggr.specs.declared.Answer.the-variants.{Read}
-use Rattle.ggr.specs.File.{FileRead, found, refused, joins, joinedTo, before, addSegment, segments, fromHead, fitText, fileOf, answerOf}
+use Rattle.ggr.specs.File.{FileRead, found, refused, joins, joinedTo, before, addSegment, segmentLines, fromHead, fitText, fileOf, answerOf}
 use Rattle.ggr.proofs.Weighing.{weighs}
 
 -- each segment is of a kind carried
@@ -75,16 +75,16 @@ module _ (end : Float) (n line : ℕ) (l : SegmentRead) (rest : Segment → File
   added (Valid g) q gs e = let w = weighs end l g (sym q) in ahead end n g (rest g) (c g (w .0)) (w .1) (ih g) gs e
   added (Fault a) q gs e = no-file e refl
 
-all-read : (fg bg : Rgba) (n line : ℕ) (end : Float) (ls : List (List ℕ)) (gs : List Segment) → segments fg bg n line end ls ≡ found gs → Run end n gs
-unfolding segments allCarried orderly
+all-read : (fg bg : Rgba) (n line : ℕ) (end : Float) (ls : List (List ℕ)) (gs : List Segment) → segmentLines fg bg n line end ls ≡ found gs → Run end n gs
+unfolding segmentLines allCarried orderly
 all-read fg bg zero line end ls gs e =
     let w = passed-test (eq end f1) (found []) _ _ gs e in
     let q : gs ≡ [] = cc in
     record { count = ap length q; kinds = ap allCarried q; order = ap (orderly end) q ∙ w .0 }
 all-read fg bg (suc n) line end [] gs e = no-file e refl
 all-read fg bg (suc n) line end (l ∷ ls) gs e =
-    added end n line (segmentOf fg bg l) (λ g. segments fg bg n (suc line) (g .right) ls) (line-carried fg bg l)
-    (λ g. all-read fg bg n (suc line) (g .right) ls) (joinedTo end (segmentOf fg bg l)) refl gs e
+    added end n line (segmentOnLine fg bg l) (λ g. segmentLines fg bg n (suc line) (g .right) ls) (line-carried fg bg l)
+    (λ g. all-read fg bg n (suc line) (g .right) ls) (joinedTo end (segmentOnLine fg bg l)) refl gs e
 
 -- ---- the header
 from-head : (fg bg : Rgba) (room : ℕ) (s : List ℕ) (h : Head) → headOf room s ≡ h → (gs : List Segment) → fromHead fg bg h ≡ found gs → Given room gs

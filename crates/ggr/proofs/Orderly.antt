@@ -20,7 +20,7 @@ use Rattle.gradient.specs.Joined.{Joined, Inside}
 use Rattle.gradient.proofs.NoGap.{no-gap}
 use Rattle.segment.specs.Store.{Store, segmentPositions}
 use Rattle.ggr.specs.declared.Answer.the-variants.{Read}
-use Rattle.ggr.specs.File.{FileRead, found, joins, fileOf, flat, written, roomIn, Reading}
+use Rattle.ggr.specs.File.{FileRead, found, joins, fileOf, flat, storeLeft, roomIn, Reading}
 use Rattle.ggr.proofs.Filling.{flat-length, each-p}
 use Rattle.ggr.proofs.Given.{orderly, given, found-by}
 
@@ -113,10 +113,10 @@ positionsLeft n store = take (3 * n) (store .exit .positions)
 
 module _ (fg bg : Rgba) (s : List ℕ) (store : Change Store) (n : ℕ) (w : Reading fg bg s store (Read n)) where
   left-of : (gs : List Segment) → fileOf (roomIn (store .entry)) fg bg s ≡ found gs → length gs ≡ n → positionsLeft n store ≡ positionsOf gs
-  unfolding written
+  unfolding storeLeft
   left-of gs e q =
       let d = drop (length (positionsOf gs)) (store .entry .positions) in
-      ap (λ (x : Store). take (3 * n) (x .positions)) (w .left ∙ ap (λ (o : FileRead). written o (store .entry)) e)
+      ap (λ (x : Store). take (3 * n) (x .positions)) (w .left ∙ ap (λ (o : FileRead). storeLeft o (store .entry)) e)
       ∙ take-at (positionsOf gs) d (3 * n) (flat-length segmentPositions 3 each-p gs ∙ ap (λ (m : ℕ). 3 * m) q)
 
   -- the segments of a file that is read run from 0 to 1, each in order and joined to the next

@@ -16,7 +16,7 @@ use Rattle.gradient.specs.declared.gimp.Segment.{Segment}
 use Rattle.text.specs.Text.{every, ascii, unmark}
 use Rattle.segment.specs.declared.SegmentRead.{SegmentRead}
 use Rattle.segment.specs.declared.SegmentRead.the-variants.{Valid, Fault}
-use Rattle.segment.specs.Line.{segmentOf}
+use Rattle.segment.specs.Line.{segmentOnLine}
 use Rattle.segment.specs.Store.{Store, storeOf, segmentPositions, segmentChannels, segmentCodes}
 use Rattle.header.specs.Head.{Head, counts, fails, headOf, nameIn}
 use Rattle.ggr.specs.declared.Answer.{Answer}
@@ -49,15 +49,15 @@ addSegment line (Valid g) rest = before g (rest g)
 addSegment line (Fault number) rest = refused number line
 
 -- the next n segments, the first of them at this line, where the one before ends at `end`; what follows is not read
-unfoldable pub segments : Rgba → Rgba → ℕ → ℕ → Float → List (List ℕ) → FileRead
-segments fg bg zero line end ls = cond (eq end f1) (found []) (refused torn (line - 1))
-segments fg bg (suc n) line end [] = refused fewLines 3
-segments fg bg (suc n) line end (l ∷ ls) =
-    addSegment line (joinedTo end (segmentOf fg bg l)) (λ g. segments fg bg n (suc line) (g .right) ls)
+unfoldable pub segmentLines : Rgba → Rgba → ℕ → ℕ → Float → List (List ℕ) → FileRead
+segmentLines fg bg zero line end ls = cond (eq end f1) (found []) (refused torn (line - 1))
+segmentLines fg bg (suc n) line end [] = refused fewLines 3
+segmentLines fg bg (suc n) line end (l ∷ ls) =
+    addSegment line (joinedTo end (segmentOnLine fg bg l)) (λ g. segmentLines fg bg n (suc line) (g .right) ls)
 
 -- the segments that the header counts, from line 4 and from 0 on
 unfoldable pub fromHead : Rgba → Rgba → Head → FileRead
-fromHead fg bg (counts n ls) = segments fg bg n 4 f0 ls
+fromHead fg bg (counts n ls) = segmentLines fg bg n 4 f0 ls
 fromHead fg bg (fails number line) = refused number line
 
 -- ---- the file: foreground or background not finite is 2, first of all; then 10; then the lines
@@ -115,9 +115,9 @@ abbrev pub atFront {ℓ} : {A : Type ℓ} → (Segment → List A) → List Segm
 atFront f gs old = flat f gs ++ drop (length (flat f gs)) old
 
 -- what reading leaves in its outputs: the segments of the file at the front. A refusal sets the whole lent output to zero.
-unfoldable pub written : FileRead → Store → Store
-written (found gs) s = storeOf (atFront segmentPositions gs (s .positions)) (atFront segmentChannels gs (s .channels)) (atFront segmentCodes gs (s .codes))
-written (refused number line) s = storeOf (replicate (length (s .positions)) f0) (replicate (length (s .channels)) f0) (replicate (length (s .codes)) 0)
+unfoldable pub storeLeft : FileRead → Store → Store
+storeLeft (found gs) s = storeOf (atFront segmentPositions gs (s .positions)) (atFront segmentChannels gs (s .channels)) (atFront segmentCodes gs (s .codes))
+storeLeft (refused number line) s = storeOf (replicate (length (s .positions)) f0) (replicate (length (s .channels)) f0) (replicate (length (s .codes)) 0)
 
 -- room is the whole items that every lent output holds
 unfoldable pub segmentRoom : ℕ → ℕ → ℕ → ℕ
@@ -132,7 +132,7 @@ pub record Done (o : FileRead) (store : Change Store) (r : Answer) : Type 0 wher
   pub number : numberOfAnswer r ≡ numberIn o
   pub line : lineOfAnswer r ≡ lineIn o
   pub segments-read : segmentsOfAnswer r ≡ segmentsIn o
-  pub left : store .exit ≡ written o (store .entry)
+  pub left : store .exit ≡ storeLeft o (store .entry)
 
 -- the promise of reading the text s
 abbrev pub Reading : Rgba → Rgba → List ℕ → Change Store → Answer → Type 0

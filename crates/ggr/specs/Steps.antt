@@ -14,16 +14,16 @@ use Rattle.text.specs.Text.{lines}
 use Rattle.segment.specs.Store.{Store}
 use Rattle.ggr.specs.declared.Answer.{Answer}
 use Rattle.ggr.specs.declared.Answer.the-variants.{Read, Refused}
-use Rattle.ggr.specs.File.{FileRead, found, segments, fileOf, answerOf, written, roomIn}
+use Rattle.ggr.specs.File.{FileRead, found, segmentLines, fileOf, answerOf, storeLeft, roomIn}
 
 -- the answer is right, and so are the outputs where it is no refusal
 pub record Filled (o : FileRead) (store : Change Store) (r : Answer) : Type 0 where
   pub answer : r ≡ answerOf o
-  pub left : (gs : List Segment) → o ≡ found gs → store .exit ≡ written o (store .entry)
+  pub left : (gs : List Segment) → o ≡ found gs → store .exit ≡ storeLeft o (store .entry)
 
 -- of the n segment lines of the text s from `from` on, and of the whole text
 abbrev pub Fills : Rgba → Rgba → List ℕ → ℕ → ℕ → Change Store → Answer → Type 0
-Fills fg bg s from n store r = Filled (segments fg bg n 4 f0 (lines (drop from s))) store r
+Fills fg bg s from n store r = Filled (segmentLines fg bg n 4 f0 (lines (drop from s))) store r
 
 abbrev pub ReadsInto : Rgba → Rgba → List ℕ → Change Store → Answer → Type 0
 ReadsInto fg bg s store r = Filled (fileOf (roomIn (store .entry)) fg bg s) store r

@@ -28,25 +28,25 @@ use Rattle.rows.specs.declared.digits.Digits.{Digits}
 use Rattle.rows.specs.declared.digits.Digits.the-variants.{Is}
 use Rattle.segment.specs.declared.SegmentRead.{SegmentRead}
 use Rattle.segment.specs.declared.SegmentRead.the-variants.{Valid, Fault}
-use Rattle.segment.specs.Line.{segmentOf}
+use Rattle.segment.specs.Line.{segmentOnLine}
 use Rattle.segment.specs.Store.{Store}
 use Rattle.header.specs.Head.{Head, counts, fails, orEmpty, textLines, fromCount, counted, fromThird, fromSecond, fromLines, headOf, title, nameTag}
-use Rattle.ggr.specs.File.{FileRead, found, refused, joins, joinedTo, before, addSegment, segments, fromHead, fitText, fileOf}
+use Rattle.ggr.specs.File.{FileRead, found, refused, joins, joinedTo, before, addSegment, segmentLines, fromHead, fitText, fileOf}
 use Rattle.numerals.specs.Written.{writable}
 use Rattle.writing.specs.Printed.{countText}
-use Rattle.ggr_writing.specs.File.{segmentBetween, segmentsFrom, segmentsOf, segmentText, rowsText, fileText, heading, listName, rises, writableColour, writableSegment, writableFrom, canWrite}
+use Rattle.ggr_writing.specs.File.{segmentBetween, segmentsFrom, segmentsOf, segmentText, segmentsText, fileText, heading, listName, rises, writableColour, writableSegment, writableFrom, canWrite}
 use Rattle.ggr_writing.proofs.Parts.{Shown, shown-both, shown-ascii, lines-line, count-read, count-shown}
 use Rattle.ggr_writing.proofs.Row.{Single, lineOf, line-is, line-shown, line-read, linear, sound-colours}
 use Rattle.ggr_writing.proofs.Orders.{writable-number, writable-within, rises-at, mid-high, mid-low}
 use Rattle.ggr_writing.proofs.Final.{length-segments, length-file, shaped-few}
 
 -- ---- one segment line, and those after it
-step : (fg bg : Rgba) (n line : ℕ) (end : Float) (l : List ℕ) (ls : List (List ℕ)) (g : Segment) (gs : List Segment) → segmentOf fg bg l ≡ Valid g → joins end g ≡ true
-    → segments fg bg n (suc line) (g .right) ls ≡ found gs → segments fg bg (suc n) line end (l ∷ ls) ≡ found (g ∷ gs)
-unfolding segments addSegment joinedTo before
+step : (fg bg : Rgba) (n line : ℕ) (end : Float) (l : List ℕ) (ls : List (List ℕ)) (g : Segment) (gs : List Segment) → segmentOnLine fg bg l ≡ Valid g → joins end g ≡ true
+    → segmentLines fg bg n (suc line) (g .right) ls ≡ found gs → segmentLines fg bg (suc n) line end (l ∷ ls) ≡ found (g ∷ gs)
+unfolding segmentLines addSegment joinedTo before
 step fg bg n line end l ls g gs e j r =
-    ap (λ (o : SegmentRead). addSegment line (joinedTo end o) (λ h. segments fg bg n (suc line) (h .right) ls)) e
-    ∙ ap (λ (b : Bool). addSegment line (cond b (Valid g) (Fault torn)) (λ h. segments fg bg n (suc line) (h .right) ls)) j
+    ap (λ (o : SegmentRead). addSegment line (joinedTo end o) (λ h. segmentLines fg bg n (suc line) (h .right) ls)) e
+    ∙ ap (λ (b : Bool). addSegment line (cond b (Valid g) (Fault torn)) (λ h. segmentLines fg bg n (suc line) (h .right) ls)) j
     ∙ ap (before g) r
 
 -- the lists are of f32
@@ -61,7 +61,7 @@ module _ (fg bg : Rgba) (ps cs : List Float) (one : Singles ps cs) (up : rises (
   single : (i : ℕ) → Single (colourAt cs i)
   single i = record { red = one .channels (4 * i); green = one .channels (4 * i + 1); blue = one .channels (4 * i + 2); alpha = one .channels (4 * i + 3) }
 
-  here-read : (i : ℕ) → writableSegment (between i) ≡ true → segmentOf fg bg (lineOf (between i)) ≡ Valid (between i)
+  here-read : (i : ℕ) → writableSegment (between i) ≡ true → segmentOnLine fg bg (lineOf (between i)) ≡ Valid (between i)
   here-read i w =
       let l = posAt ps i in
       let r = posAt ps (i + 1) in
@@ -108,16 +108,16 @@ module _ (fg bg : Rgba) (ps cs : List Float) (one : Singles ps cs) (up : rises (
 
   -- n lines from segment i on, where the one before ends at `end`, which is position i by value
   rows-read : (n i line : ℕ) (end : Float) → i + n < length ps → writableFrom n i ps cs ≡ true → (n ≡ 0 → eq end f1 ≡ true) → eq (posAt ps i) end ≡ true → eq (posAt ps (i + n)) f1 ≡ true
-      → segments fg bg n line end (lines (rowsText (segmentsFrom n i ps cs))) ≡ found (segmentsFrom n i ps cs)
-  unfolding segments writableFrom segmentsFrom rowsText lines
+      → segmentLines fg bg n line end (lines (segmentsText (segmentsFrom n i ps cs))) ≡ found (segmentsFrom n i ps cs)
+  unfolding segmentLines writableFrom segmentsFrom segmentsText lines
   rows-read zero i line end h w z e last = rw (z refl)
   rows-read (suc n) i line end h w z e last =
       let g = between i in
-      let s = rowsText (segmentsFrom n (i + 1) ps cs) in
+      let s = segmentsText (segmentsFrom n (i + 1) ps cs) in
       let w0 = both-l (writableSegment g) (writableFrom n (i + 1) ps cs) w in
       let w1 = both-r (writableSegment g) (writableFrom n (i + 1) ps cs) w in
       let k : i + 1 + n ≡ i + suc n = omega arith in
-      ap (segments fg bg (suc n) line end) (ap lines (line-is g s) ∙ lines-line (lineOf g) s (line-shown g))
+      ap (segmentLines fg bg (suc n) line end) (ap lines (line-is g s) ∙ lines-line (lineOf g) s (line-shown g))
       ∙ step fg bg n line end (lineOf g) (lines s) g (segmentsFrom n (i + 1) ps cs) (here-read i w0) (here-joins i end (omega arith) w0 e)
       (rows-read n (i + 1) (suc line) (posAt ps (i + 1)) (omega arith) w1 (λ (o : n ≡ 0). ap (λ (j : ℕ). eq (posAt ps j) f1) (only o) ∙ last) (same-value (i + 1) (three i w0 .right)) (ap (λ (j : ℕ). eq (posAt ps j) f1) k ∙ last))
     where
@@ -125,16 +125,16 @@ module _ (fg bg : Rgba) (ps cs : List Float) (one : Singles ps cs) (up : rises (
       only o = omega arith
 
 -- ---- the header
-rows-ascii : (gs : List Segment) → every ascii (rowsText gs) ≡ true
-unfolding rowsText every
+rows-ascii : (gs : List Segment) → every ascii (segmentsText gs) ≡ true
+unfolding segmentsText every
 rows-ascii [] = refl
-rows-ascii (g ∷ gs) = ap (every ascii) (line-is g (rowsText gs)) ∙ every-both ascii (lineOf g) (10 ∷ rowsText gs) (shown-ascii (lineOf g) (line-shown g)) (rows-ascii gs)
+rows-ascii (g ∷ gs) = ap (every ascii) (line-is g (segmentsText gs)) ∙ every-both ascii (lineOf g) (10 ∷ segmentsText gs) (shown-ascii (lineOf g) (line-shown g)) (rows-ascii gs)
 
 file-ascii : (gs : List Segment) → every ascii (fileText gs) ≡ true
 unfolding fileText every
 file-ascii gs =
-    every-both ascii heading (countText (length gs) ++ (10 ∷ rowsText gs)) refl
-    (every-both ascii (countText (length gs)) (10 ∷ rowsText gs) (shown-ascii (countText (length gs)) (count-shown 20 (length gs))) (rows-ascii gs))
+    every-both ascii heading (countText (length gs) ++ (10 ∷ segmentsText gs)) refl
+    (every-both ascii (countText (length gs)) (10 ∷ segmentsText gs) (shown-ascii (countText (length gs)) (count-shown 20 (length gs))) (rows-ascii gs))
 
 file-unmarked : (gs : List Segment) → unmark (fileText gs) ≡ fileText gs
 unfolding fileText unmark
@@ -157,24 +157,24 @@ shown-name : Shown nameLine
 unfolding Shown
 shown-name = search needs
 
-file-lines : (gs : List Segment) → lines (fileText gs) ≡ title ∷ nameLine ∷ countText (length gs) ∷ lines (rowsText gs)
+file-lines : (gs : List Segment) → lines (fileText gs) ≡ title ∷ nameLine ∷ countText (length gs) ∷ lines (segmentsText gs)
 unfolding fileText Shown
 file-lines gs =
-    lines-line title (nameLine ++ (10 ∷ (countText (length gs) ++ (10 ∷ rowsText gs)))) shown-title
-    ∙ ap (λ (ls : List (List ℕ)). title ∷ ls) (lines-line nameLine (countText (length gs) ++ (10 ∷ rowsText gs)) shown-name)
-    ∙ ap (λ (ls : List (List ℕ)). title ∷ nameLine ∷ ls) (lines-line (countText (length gs)) (rowsText gs) (count-shown 20 (length gs)))
+    lines-line title (nameLine ++ (10 ∷ (countText (length gs) ++ (10 ∷ segmentsText gs)))) shown-title
+    ∙ ap (λ (ls : List (List ℕ)). title ∷ ls) (lines-line nameLine (countText (length gs) ++ (10 ∷ segmentsText gs)) shown-name)
+    ∙ ap (λ (ls : List (List ℕ)). title ∷ nameLine ∷ ls) (lines-line (countText (length gs)) (segmentsText gs) (count-shown 20 (length gs)))
 
-head-read : (room m : ℕ) (gs : List Segment) → length gs ≡ suc m → length gs ≤ 256 → length gs ≤ room → headOf room (fileText gs) ≡ counts (length gs) (lines (rowsText gs))
+head-read : (room m : ℕ) (gs : List Segment) → length gs ≡ suc m → length gs ≤ 256 → length gs ≤ room → headOf room (fileText gs) ≡ counts (length gs) (lines (segmentsText gs))
 unfolding fileText textLines orEmpty fromLines fromSecond fromThird counted fromCount same starts
 head-read room m gs e h k =
     ap (λ (s : List ℕ). fromLines room (orEmpty (lines s))) (file-unmarked gs)
     ∙ ap (λ (ls : List (List ℕ)). fromLines room (orEmpty ls)) (file-lines gs)
-    ∙ ap (λ (d : Digits). counted room d (lines (rowsText gs))) (count-read (length gs) (omega arith))
-    ∙ ap (λ (b : Bool). cond (b && leb (length gs) room) (fromCount (length gs) (lines (rowsText gs))) (fails tooManySegments 3)) (le-leb (length gs) mostSegments h)
-    ∙ ap (λ (b : Bool). cond b (fromCount (length gs) (lines (rowsText gs))) (fails tooManySegments 3)) (le-leb (length gs) room k)
+    ∙ ap (λ (d : Digits). counted room d (lines (segmentsText gs))) (count-read (length gs) (omega arith))
+    ∙ ap (λ (b : Bool). cond (b && leb (length gs) room) (fromCount (length gs) (lines (segmentsText gs))) (fails tooManySegments 3)) (le-leb (length gs) mostSegments h)
+    ∙ ap (λ (b : Bool). cond b (fromCount (length gs) (lines (segmentsText gs))) (fails tooManySegments 3)) (le-leb (length gs) room k)
     ∙ some m (length gs) e
   where
-    some : (m n : ℕ) → n ≡ suc m → fromCount n (lines (rowsText gs)) ≡ counts n (lines (rowsText gs))
+    some : (m n : ℕ) → n ≡ suc m → fromCount n (lines (segmentsText gs)) ≡ counts n (lines (segmentsText gs))
     some m n e = rw e refl
 
 -- ---- the file
@@ -196,7 +196,7 @@ file-read fg bg room ps cs one f g lo hi enough up can =
     ap (λ (b : Bool). cond b (cond (fitText (fileText gs)) (fromHead fg bg (headOf room (fileText gs))) (refused notAText 0)) (refused notFinite 0)) (both (finiteRgba fg) (finiteRgba bg) f g)
     ∙ ap (λ (b : Bool). cond b (fromHead fg bg (headOf room (fileText gs))) (refused notAText 0)) (file-fits gs (omega arith))
     ∙ ap (fromHead fg bg) (head-read room (n - 1) gs some (omega arith) (omega arith))
-    ∙ ap (λ (k : ℕ). segments fg bg k 4 f0 (lines (rowsText gs))) long
+    ∙ ap (λ (k : ℕ). segmentLines fg bg k 4 f0 (lines (segmentsText gs))) long
     ∙ rows-read fg bg ps cs one up n 0 4 f0 (omega arith) (both-r (first && last) all can) (λ (z : n ≡ 0). absurd (none z)) (both-l first last ends)
     (ap (λ (k : ℕ). eq (posAt ps k) f1) (zero-add n) ∙ both-r first last ends)
   where

@@ -21,17 +21,17 @@ use Rattle.gradient.specs.declared.gimp.Segment.{Segment}
 use Rattle.gradient.specs.Gimp.{carried, carriedOf}
 use Rattle.segment.specs.declared.SegmentRead.{SegmentRead}
 use Rattle.segment.specs.declared.SegmentRead.the-variants.{Valid, Fault}
-use Rattle.segment.specs.Line.{cut, codeOf, validCodes, endColour, judge, build, fromNumbers, segmentOf}
+use Rattle.segment.specs.Line.{cut, codeOf, validCodes, endColour, judge, build, fromNumbers, segmentOnLine}
 use Rattle.numerals.specs.Written.{writable, signed, textOf}
 use Rattle.numerals.proofs.Trip.{trip}
 use Rattle.numerals.proofs.Marks.{Marks, text-marks, text-some}
-use Rattle.ggr_writing.specs.File.{fieldText, colourText, segmentText, writableColour, writableSegment}
+use Rattle.ggr_writing.specs.File.{spacedNumber, spacedColour, segmentText, writableColour, writableSegment}
 use Rattle.ggr_writing.proofs.Parts.{Shown, shown-both, shown-marks, words-word}
 
 -- ---- numbers, each with a space after it
 fieldsText : List Float → List ℕ
 fieldsText [] = []
-fieldsText (x ∷ xs) = fieldText x ++ fieldsText xs
+fieldsText (x ∷ xs) = spacedNumber x ++ fieldsText xs
 
 textsOf : List Float → List (List ℕ)
 textsOf [] = []
@@ -50,10 +50,10 @@ Sound [] = Unit {0}
 Sound (x ∷ xs) = T (fits binary32 x) × (writable x ≡ true) × Sound xs
 
 words-fields : (xs : List Float) (s : List ℕ) → Sound xs → words (fieldsText xs ++ s) ≡ textsOf xs ++ words s
-unfolding fieldsText textsOf Sound fieldText
+unfolding fieldsText textsOf Sound spacedNumber
 words-fields [] s h = refl
 words-fields (x ∷ xs) s h =
-    ap words (append-assoc (fieldText x) (fieldsText xs) s ∙ append-assoc (textOf x) (32 ∷ []) (fieldsText xs ++ s))
+    ap words (append-assoc (spacedNumber x) (fieldsText xs) s ∙ append-assoc (textOf x) (32 ∷ []) (fieldsText xs ++ s))
     ∙ words-word (textOf x) (fieldsText xs ++ s) (text-marks x) (text-some x (h .1))
     ∙ ap (λ (ws : List (List ℕ)). textOf x ∷ ws) (words-fields xs s (h .2))
 
@@ -64,9 +64,9 @@ numbers-of (x ∷ xs) ws ys h e =
     ap (λ (t : Token). addNumber t (numbers (textsOf xs ++ ws))) (trip x (h .0) (h .1)) ∙ ap (addNumber (Number x)) (numbers-of xs ws ys (h .2) e)
 
 shown-fields : (xs : List Float) → Shown (fieldsText xs)
-unfolding fieldsText Shown fieldText
+unfolding fieldsText Shown spacedNumber
 shown-fields [] = tt
-shown-fields (x ∷ xs) = shown-both (fieldText x) (fieldsText xs) (shown-both (textOf x) (32 ∷ []) (shown-marks (textOf x) (text-marks x)) (omega arith, omega arith, tt)) (shown-fields xs)
+shown-fields (x ∷ xs) = shown-both (spacedNumber x) (fieldsText xs) (shown-both (textOf x) (32 ∷ []) (shown-marks (textOf x) (text-marks x)) (omega arith, omega arith, tt)) (shown-fields xs)
 
 -- ---- the two codes
 abbrev codesText : List ℕ
@@ -102,7 +102,7 @@ pub lineOf : Segment → List ℕ
 lineOf g = fieldsText (numbersOf g) ++ codesText
 
 pub line-is : (g : Segment) (s : List ℕ) → segmentText g ++ s ≡ lineOf g ++ (10 ∷ s)
-unfolding segmentText colourText lineOf fieldsText
+unfolding segmentText spacedColour lineOf fieldsText
 line-is g s = simp append-assoc
 
 pub line-shown : (g : Segment) → Shown (lineOf g)
@@ -127,8 +127,8 @@ build-of : (fg bg : Rgba) (l m r : Float) (p q : Rgba) → fromNumbers fg bg (al
 unfolding fromNumbers build validCodes endColour judge carried
 build-of fg bg l m r p q = simp code-zero
 
-pub line-read : (fg bg : Rgba) (l m r : Float) (p q : Rgba) → Sound (numbersOf (linear l m r p q)) → segmentOf fg bg (lineOf (linear l m r p q)) ≡ Valid (linear l m r p q)
-unfolding segmentOf
+pub line-read : (fg bg : Rgba) (l m r : Float) (p q : Rgba) → Sound (numbersOf (linear l m r p q)) → segmentOnLine fg bg (lineOf (linear l m r p q)) ≡ Valid (linear l m r p q)
+unfolding segmentOnLine
 line-read fg bg l m r p q h = ap (fromNumbers fg bg) (line-numbers (linear l m r p q) h) ∙ build-of fg bg l m r p q
 
 -- every number of a segment that can be written is sound, where each is an f32

@@ -17,8 +17,8 @@ use Rattle.gradient.specs.declared.gimp.Segment.{Segment}
 use Rattle.numerals.specs.Written.{writable, textOf}
 use Rattle.writing.specs.Printed.{countText}
 use Rattle.header.specs.Head.{title, nameTag}
-use Rattle.ggr_writing.specs.declared.Answer.{Answer}
-use Rattle.ggr_writing.specs.declared.Answer.the-variants.{Written, Refused}
+use Rattle.ggr_writing.specs.declared.WriteAnswer.{WriteAnswer}
+use Rattle.ggr_writing.specs.declared.WriteAnswer.the-variants.{Written, Refused}
 
 -- ---- the segments: one for each pair of neighbours, a zero-length pair too, as linear RGB with the middle at the half-way point
 
@@ -44,21 +44,21 @@ segmentsOf ps cs = segmentsFrom (length ps - 1) 0 ps cs
 -- ---- the text: one space between numbers, LF line ends
 
 -- a number, and the space after it
-unfoldable pub fieldText : Float → List ℕ
-fieldText x = textOf x ++ 32 ∷ []
+unfoldable pub spacedNumber : Float → List ℕ
+spacedNumber x = textOf x ++ 32 ∷ []
 
-unfoldable pub colourText : Rgba → List ℕ
-colourText c = fieldText (c .r) ++ (fieldText (c .g) ++ (fieldText (c .b) ++ fieldText (c .a)))
+unfoldable pub spacedColour : Rgba → List ℕ
+spacedColour c = spacedNumber (c .r) ++ (spacedNumber (c .g) ++ (spacedNumber (c .b) ++ spacedNumber (c .a)))
 
 -- 13 numbers, of which the two codes are `0 0`
 unfoldable pub segmentText : Segment → List ℕ
 segmentText g =
-    fieldText (g .left) ++ (fieldText (g .middle) ++ (fieldText (g .right)
-    ++ (colourText (g .lcolor) ++ (colourText (g .rcolor) ++ 48 ∷ 32 ∷ 48 ∷ 10 ∷ []))))
+    spacedNumber (g .left) ++ (spacedNumber (g .middle) ++ (spacedNumber (g .right)
+    ++ (spacedColour (g .lcolor) ++ (spacedColour (g .rcolor) ++ 48 ∷ 32 ∷ 48 ∷ 10 ∷ []))))
 
-unfoldable pub rowsText : List Segment → List ℕ
-rowsText [] = []
-rowsText (g ∷ gs) = segmentText g ++ rowsText gs
+unfoldable pub segmentsText : List Segment → List ℕ
+segmentsText [] = []
+segmentsText (g ∷ gs) = segmentText g ++ segmentsText gs
 
 -- ` flattened`
 abbrev pub listName : List ℕ
@@ -70,7 +70,7 @@ heading = title ++ (10 ∷ (nameTag ++ (listName ++ 10 ∷ [])))
 
 -- the heading, the number of segments, a line for each
 unfoldable pub fileText : List Segment → List ℕ
-fileText gs = heading ++ (countText (length gs) ++ (10 ∷ rowsText gs))
+fileText gs = heading ++ (countText (length gs) ++ (10 ∷ segmentsText gs))
 
 -- ---- refusals, in this order: 1, then 3 over all stops, then 19, then 7
 
@@ -108,8 +108,8 @@ pub data FileWritten : Type 0 where
 unfoldable pub withRoom : ℕ → List ℕ → FileWritten
 withRoom room t = cond (leb (length t) room) (text t) (cleared noRoom)
 
-unfoldable pub writtenOf : ℕ → List Float → List Float → FileWritten
-writtenOf room ps cs =
+unfoldable pub fileWrittenOf : ℕ → List Float → List Float → FileWritten
+fileWrittenOf room ps cs =
     cond (shapedList (length ps) (length cs))
     (cond (rises (inf true) ps)
     (cond (canWrite ps cs) (withRoom room (fileText (segmentsOf ps cs))) (cleared unwritable))
@@ -119,19 +119,19 @@ writtenOf room ps cs =
 -- ---- what is answered and left
 
 -- each case of the answer: how many bytes, or document 01's number
-abbrev pub answerOf : FileWritten → Answer
-answerOf (text t) = Written (length t)
-answerOf (refused number) = Refused number
-answerOf (cleared number) = Refused number
+abbrev pub writeAnswerOf : FileWritten → WriteAnswer
+writeAnswerOf (text t) = Written (length t)
+writeAnswerOf (refused number) = Refused number
+writeAnswerOf (cleared number) = Refused number
 
 -- document 01's number of each answer, 0 for none, and its value, the number of bytes
-abbrev pub numberOfAnswer : Answer → ℕ
-numberOfAnswer (Written n) = 0
-numberOfAnswer (Refused number) = number
+abbrev pub numberOfWriteAnswer : WriteAnswer → ℕ
+numberOfWriteAnswer (Written n) = 0
+numberOfWriteAnswer (Refused number) = number
 
-abbrev pub bytesOfAnswer : Answer → ℕ
-bytesOfAnswer (Written n) = n
-bytesOfAnswer (Refused number) = 0
+abbrev pub bytesOfWriteAnswer : WriteAnswer → ℕ
+bytesOfWriteAnswer (Written n) = n
+bytesOfWriteAnswer (Refused number) = 0
 
 -- what is left in the output: after a success what lies past the text stays
 unfoldable pub leftIn : FileWritten → List ℕ → List ℕ
@@ -140,14 +140,18 @@ leftIn (refused number) old = old
 leftIn (cleared number) old = replicate (length old) 0
 
 -- the answer, and the final contents of the output
-pub record Done (o : FileWritten) (out : Change (List ℕ)) (r : Answer) : Type 0 where
-  pub answer : r ≡ answerOf o
+pub record WritesAs (o : FileWritten) (out : Change (List ℕ)) (r : WriteAnswer) : Type 0 where
+  pub answer : r ≡ writeAnswerOf o
   pub left : out .exit ≡ leftIn o (out .entry)
 
--- so many bytes are enough for a list of n stops: 34 before the lines, and 213 a line
-abbrev pub mostBytes : ℕ → ℕ
-mostBytes n = 34 + 213 * (n - 1)
+-- the bytes of a segment's line at most: 11 numbers of 18 bytes, each with a space, and the two codes
+abbrev pub longestLine : ℕ
+longestLine = 213
+
+-- so many bytes are enough for a list of n stops: 34 before the lines
+abbrev pub enoughBytes : ℕ → ℕ
+enoughBytes n = 34 + longestLine * (n - 1)
 
 -- the promise of writing a list
-abbrev pub Writes : List Float → List Float → Change (List ℕ) → Answer → Type 0
-Writes ps cs out r = Done (writtenOf (length (out .entry)) ps cs) out r
+abbrev pub Writes : List Float → List Float → Change (List ℕ) → WriteAnswer → Type 0
+Writes ps cs out r = WritesAs (fileWrittenOf (length (out .entry)) ps cs) out r

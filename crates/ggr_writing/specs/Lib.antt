@@ -1,3 +1,2 @@
--- What is written of a stop list; what the functions within promise each other.
+-- What is written of a stop list.
 pub mod File
-pub mod Within

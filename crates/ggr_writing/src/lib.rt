@@ -20,32 +20,32 @@ ghost use Rattle.ggr_writing.specs.File.{canWrite, Writes};
 mod lines;
 
 // How many bytes were written, or document 01's number of the refusal.
-pub enum Answer {
+pub enum WriteAnswer {
     Written(usize),
     Refused(u8),
 }
 
 // Writes a list of stops, n positions and 4n channels, as a GIMP file into `text`. 19 and 7 set the whole of it to zero;
 // 1 and 3 leave it as it was, and so does a success what lies past the file.
-pub fn write(positions: &[f32], channels: &[f32], text: &mut [u8]) -> Answer
+pub fn write(positions: &[f32], channels: &[f32], text: &mut [u8]) -> WriteAnswer
     ensures { λ r. ⌜ Writes (old positions) (old channels) (change (old text) (new text)) r ⌝ }
 {
     if !is_shaped(positions.len(), channels.len()) {
-        return Answer::Refused(MISSHAPEN);
+        return WriteAnswer::Refused(MISSHAPEN);
     }
     if !never_falls(positions) {
-        return Answer::Refused(FALLING);
+        return WriteAnswer::Refused(FALLING);
     }
     if !can_write(positions, channels) {
         zero_bytes(text);
-        return Answer::Refused(UNWRITABLE);
+        return WriteAnswer::Refused(UNWRITABLE);
     }
     let end = lines::put_file(text, positions, channels);
     if text.len() < end {
         zero_bytes(text);
-        return Answer::Refused(NO_ROOM);
+        return WriteAnswer::Refused(NO_ROOM);
     }
-    Answer::Written(end)
+    WriteAnswer::Written(end)
 }
 
 // From 2 to 257 stops, four channels each.

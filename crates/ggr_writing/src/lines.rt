@@ -1,63 +1,21 @@
 // The bytes of a file. One past the end of the output is dropped, so that a file too long for it is measured all the same.
 use blend::Rgba;
 use blend::Stop;
-ghost use mathlib.Core.Path.{_≡_};
-ghost use mathlib.Core.List.{[], _∷_};
-ghost use Prim.Native.Nat.{_+_, _-_, _*_, _<_, _≤_};
+use writing::DECIMALS;
+use writing::put;
+use writing::put_all;
+use writing::put_decimal;
+ghost use Prim.Native.Nat.{_≤_};
 ghost use lib.ListN.{length};
 ghost use Rattle.stops.specs.Lent.{old, new};
 ghost use Rattle.refusals.specs.Limits.{mostWritten};
-ghost use Rattle.writing.specs.Printed.{decimalOf, Puts};
-ghost use Rattle.ggr_writing.specs.File.{fieldText, colourText, segmentText, segmentBetween, segmentsFrom, rowsText, segmentsOf};
+ghost use Rattle.writing.specs.Printed.{PutsFrom, Puts};
+ghost use Rattle.ggr_writing.specs.File.{spacedNumber, spacedColour, segmentText, segmentBetween, segmentsFrom, segmentsText, segmentsOf};
 ghost use Rattle.ggr_writing.specs.File.{fileText};
-ghost use Rattle.ggr_writing.specs.Within.{mostPlace, longestLine};
-
-// Digits of the greatest number.
-const DECIMALS: usize = 20;
-
-fn put(out: &mut [u8], at: usize, b: u8) -> usize
-    requires { ⌜ at < mostPlace ⌝ }
-    ensures { λ r. ⌜ Puts (old out) (new out) at (b ∷ []) r ⌝ }
-{
-    if out.len() <= at {
-        return at + 1;
-    }
-    out[at] = b;
-    at + 1
-}
-
-fn put_all(out: &mut [u8], at: usize, text: &[u8]) -> usize
-    requires { ⌜ at + length (now text) ≤ mostPlace ⌝ }
-    ensures { λ r. ⌜ Puts (old out) (new out) at (old text) r ⌝ }
-{
-    let mut i = 0;
-    while i < text.len() {
-        put(out, at + i, text[i]);
-        i += 1;
-    }
-    at + i
-}
-
-// The digits of n, `left` at most.
-fn put_decimal(out: &mut [u8], at: usize, n: usize, left: usize) -> usize
-    requires { ⌜ at + left ≤ mostPlace ⌝ }
-    ensures { λ r. ⌜ Puts (old out) (new out) at (decimalOf left n) r ⌝ }
-{
-    if left == 0 {
-        return at;
-    }
-    let digit = 48 + (n % 10) as u8;
-    if n < 10 {
-        return put(out, at, digit);
-    }
-    let next = put_decimal(out, at, n / 10, left - 1);
-    put(out, next, digit)
-}
 
 // A number and a space.
 fn put_field(out: &mut [u8], at: usize, x: f32) -> usize
-    requires { ⌜ at + 19 ≤ mostPlace ⌝ }
-    ensures { λ r. ⌜ Puts (old out) (new out) at (fieldText x) r ⌝ }
+    ensures { λ r. ⌜ PutsFrom (old out) (new out) at (spacedNumber x) r ⌝ }
 {
     let t = numerals::write(x);
     let bytes = t.bytes;
@@ -67,8 +25,7 @@ fn put_field(out: &mut [u8], at: usize, x: f32) -> usize
 }
 
 fn put_colour(out: &mut [u8], at: usize, c: Rgba) -> usize
-    requires { ⌜ at + 76 ≤ mostPlace ⌝ }
-    ensures { λ r. ⌜ Puts (old out) (new out) at (colourText c) r ⌝ }
+    ensures { λ r. ⌜ PutsFrom (old out) (new out) at (spacedColour c) r ⌝ }
 {
     let r = put_field(out, at, c.r);
     let g = put_field(out, r, c.g);
@@ -78,8 +35,7 @@ fn put_colour(out: &mut [u8], at: usize, c: Rgba) -> usize
 
 // The line of the segment between two stops.
 fn put_segment(out: &mut [u8], at: usize, a: Stop, b: Stop) -> usize
-    requires { ⌜ at + longestLine ≤ mostPlace ⌝ }
-    ensures { λ r. ⌜ Puts (old out) (new out) at (segmentText (segmentBetween a b)) r ⌝ }
+    ensures { λ r. ⌜ PutsFrom (old out) (new out) at (segmentText (segmentBetween a b)) r ⌝ }
 {
     let left = put_field(out, at, a.position);
     let middle = put_field(out, left, (a.position + b.position) / 2.0);
@@ -91,8 +47,7 @@ fn put_segment(out: &mut [u8], at: usize, a: Stop, b: Stop) -> usize
 
 // The lines of the first n segments.
 fn put_rows(out: &mut [u8], at: usize, n: usize, positions: &[f32], channels: &[f32]) -> usize
-    requires { ⌜ at + longestLine * n ≤ mostPlace ⌝ }
-    ensures { λ r. ⌜ Puts (old out) (new out) at (rowsText (segmentsFrom n 0 (old positions) (old channels))) r ⌝ }
+    ensures { λ r. ⌜ PutsFrom (old out) (new out) at (segmentsText (segmentsFrom n 0 (old positions) (old channels))) r ⌝ }
 {
     let mut next = at;
     let mut i = 0;

@@ -52,7 +52,7 @@ gimpSegment ps cs ks i = record {
   colouring = colouringAt ks i;
 }
 
--- ---- the kinds carried: blending linear, sinusoidal, spherical increasing, spherical decreasing, step; colouring RGB, and HSV with hues that rise or fall
+-- ---- the kinds carried: blending linear, sinusoidal, spherical increasing, spherical decreasing, step; colouring RGB, which is 0, and HSV with hues that rise or fall
 abbrev pub linearCode : ℕ
 linearCode = 0
 
@@ -67,9 +67,6 @@ decreasingCode = 4
 
 abbrev pub stepCode : ℕ
 stepCode = 5
-
-abbrev pub rgbCode : ℕ
-rgbCode = 0
 
 abbrev pub risingCode : ℕ
 risingCode = 1

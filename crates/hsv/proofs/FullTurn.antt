@@ -12,7 +12,7 @@ use Rattle.float.specs.F32.{_⊕_, _⊖_, _⊗_, f0}
 use Rattle.float.proofs.Order.{lt-irrefl}
 use Rattle.float.proofs.Finite.{round-zero}
 use Rattle.hsv.specs.Circle.{turn, way, upHue, downHue}
-use Rattle.hsv.proofs.Mirror.{o, dens}
+use Rattle.hsv.proofs.SignedSums.{o, dens}
 
 -- a number less itself
 none : (s : Bool) (a : ℕ) (e : ℤ) → sum binary32 s a (not s) a (down e * down e) ≡ o

@@ -1,3 +1,4 @@
 pub mod Steps
+pub mod SignedSums
 pub mod Mirror
 pub mod FullTurn

@@ -25,7 +25,7 @@ use Rattle.sampling.specs.Sampling.{fresh}
 use Rattle.sampling.proofs.Checks.{ramp-fine}
 use Rattle.difference.specs.Difference.{distanceOf}
 use Rattle.judge.specs.Lists.{Offer, sized, firstBad, offeredRamp}
-use Rattle.judge.specs.Verdicts.{numberOfVerdict, rampCheck, close, farIn, rowsVerdict, allVerdict, pointCount, pointOf, closeAt, pointsVerdict, endsVerdict, listVerdict, verdictOf}
+use Rattle.judge.specs.Verdicts.{numberOfVerdict, rampCheck, close, farIn, rowsVerdict, allVerdict, pointCount, freshPoint, closeAt, pointsVerdict, endsVerdict, listVerdict, verdictOf}
 use Rattle.judge.specs.Inner.{Sound, Readable, anyClose, farFrom, recordVerdict}
 use Rattle.judge.specs.declared.Verdict.{Verdict}
 use Rattle.judge.specs.declared.Verdict.the-variants.{Yes, WrongLength, BadStop, WrongFirst, WrongLast, TooFar, Refused}
@@ -89,7 +89,7 @@ module _ (ramp : Ramp) (asked : Float) (offer : Offer) where
       f ∙ ap (λ (x : Float). recordVerdict (anyClose ramp offer x) (is .rows) (is .counts) max) p
       ∙ ap (λ (near : Float → Bool). recordVerdict near (is .rows) (is .counts) max) (same-close fine w)
       ∙ fresh-points ramp asked is e (closeAt ramp asked offer) max
-      ∙ ap (allVerdict (closeAt ramp asked offer) (pointCount ramp asked) (pointOf ramp asked)) q
+      ∙ ap (allVerdict (closeAt ramp asked offer) (pointCount ramp asked) (freshPoint ramp asked)) q
 
 -- ---- values that are compared
 ne-is : (x y : Float) → ne x y ≡ not (eq x y)
@@ -129,7 +129,7 @@ module _ (ramp : Ramp) (asked : Float) (offer : Offer) where
   unfolding endsVerdict pointsVerdict
   ends-number =
       pick-number (eq (posAt ps 0) (minOf ramp)) _ WrongFirst
-      (pick-number (eq (posAt ps (length ps - 1)) (maxOf ramp)) _ WrongLast (all-number (closeAt ramp asked offer) (pointCount ramp asked) (pointOf ramp asked) (maxOf ramp)) refl) refl
+      (pick-number (eq (posAt ps (length ps - 1)) (maxOf ramp)) _ WrongLast (all-number (closeAt ramp asked offer) (pointCount ramp asked) (freshPoint ramp asked) (maxOf ramp)) refl) refl
 
   pub list-number : numberOfVerdict (listVerdict ramp asked offer) ≡ 0
   unfolding listVerdict

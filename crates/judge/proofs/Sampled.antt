@@ -21,7 +21,7 @@ use Rattle.sampling.specs.Promises.{Samples}
 use Rattle.sampling.specs.declared.Sampled.{Sampled}
 use Rattle.sampling.proofs.Rows.{cell-length, cell-count-most}
 use Rattle.sampling.proofs.Filling.{rows-length, counts-length, count-at}
-use Rattle.judge.specs.Verdicts.{rampCheck, allVerdict, pointCount, pointOf}
+use Rattle.judge.specs.Verdicts.{rampCheck, allVerdict, pointCount, freshPoint}
 use Rattle.judge.specs.Inner.{Readable, recordVerdict}
 use Rattle.judge.proofs.Walking.{same-all}
 
@@ -74,14 +74,14 @@ module _ (ramp : Ramp) (asked : Float) (is : Held) (e : is ≡ fresh ramp asked)
   fresh-readable = rw e (readable (colourOf ramp) (farOf asked) (minOf ramp) (maxOf ramp))
 
   -- its points are those of the cells
-  pub fresh-points : (near : Float → Bool) (max : Float) → recordVerdict near (is .rows) (is .counts) max ≡ allVerdict near (pointCount ramp asked) (pointOf ramp asked) max
+  pub fresh-points : (near : Float → Bool) (max : Float) → recordVerdict near (is .rows) (is .counts) max ≡ allVerdict near (pointCount ramp asked) (freshPoint ramp asked) max
   unfolding fresh
   fresh-points near max =
       let g = colourOf ramp in
       let far = farOf asked in
       rw e
       (same-all near (λ r. getD (countsOf g far (minOf ramp) (maxOf ramp)) r 0) (pointCount ramp asked)
-      (λ r k. getD (rowsOf g far (minOf ramp) (maxOf ramp)) (r * 128 + k) nan) (pointOf ramp asked) max
+      (λ r k. getD (rowsOf g far (minOf ramp) (maxOf ramp)) (r * 128 + k) nan) (freshPoint ramp asked) max
       (λ r h. record {
         many = count-is g far (minOf ramp) (maxOf ramp) r h;
         each = λ j l. point-is g far (minOf ramp) (maxOf ramp) r j h (omega (arith, l, count-is g far (minOf ramp) (maxOf ramp) r h));

@@ -20,7 +20,7 @@ use Rattle.difference.specs.Difference.{differs}
 use Rattle.sampling.specs.Cells.{edgeOf, pointsOf}
 use Rattle.sampling.specs.Constants.{thresholdOf}
 use Rattle.judge.specs.Lists.{Offer, sized, goodStop, firstBad, offeredRamp}
-use Rattle.judge.specs.Verdicts.{rampCheck, close, allVerdict, pointCount, pointOf, closeAt, pointsVerdict, endsVerdict, listVerdict, verdictOf}
+use Rattle.judge.specs.Verdicts.{rampCheck, close, allVerdict, pointCount, freshPoint, closeAt, pointsVerdict, endsVerdict, listVerdict, verdictOf}
 use Rattle.judge.specs.Conditions.{Near, Stands, SameStops}
 use Rattle.judge.specs.Promises.{Judges}
 use Rattle.judge.specs.declared.Verdict.{Verdict}
@@ -98,7 +98,7 @@ module _ (ramp : Ramp) (asked : Float) (offer : Offer) where
   unfolding pointsVerdict
   stands w =
       let s = size n m (w .long) in
-      let near = all-yes (closeAt ramp asked offer) (pointCount ramp asked) (pointOf ramp asked) (maxOf ramp) (w .points) in
+      let near = all-yes (closeAt ramp asked offer) (pointCount ramp asked) (freshPoint ramp asked) (maxOf ramp) (w .points) in
       record {
         fine = w .fine;
         least = s .least;
@@ -109,7 +109,7 @@ module _ (ramp : Ramp) (asked : Float) (offer : Offer) where
         rising = rising offer (w .stops);
         first = as-T _ (w .first);
         last = as-T _ (w .last);
-        near-rows = λ i j h l. told-near (pointOf ramp asked i j) (near .rows i j h l);
+        near-rows = λ i j h l. told-near (freshPoint ramp asked i j) (near .rows i j h l);
         near-max = told-near (maxOf ramp) (near .end);
       }
 
@@ -128,8 +128,8 @@ module _ (ramp : Ramp) (asked : Float) (offer : Offer) where
         first = is-true _ (w .first);
         last = is-true _ (w .last);
         points =
-            yes-all (closeAt ramp asked offer) (pointCount ramp asked) (pointOf ramp asked) (maxOf ramp)
-            (record { rows = λ i j h l. near-told (pointOf ramp asked i j) (w .near-rows i j h l); end = near-told (maxOf ramp) (w .near-max) });
+            yes-all (closeAt ramp asked offer) (pointCount ramp asked) (freshPoint ramp asked) (maxOf ramp)
+            (record { rows = λ i j h l. near-told (freshPoint ramp asked i j) (w .near-rows i j h l); end = near-told (maxOf ramp) (w .near-max) });
       }
 
   -- ---- yes exactly where every one of the conditions holds

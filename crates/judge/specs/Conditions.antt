@@ -13,7 +13,7 @@ use Rattle.gradient.specs.Ramp.{minOf, maxOf, colourOf}
 use Rattle.difference.specs.Difference.{distanceOf}
 use Rattle.sampling.specs.Constants.{cells, thresholdOf}
 use Rattle.judge.specs.Lists.{Offer, mostListed, offeredRamp}
-use Rattle.judge.specs.Verdicts.{rampCheck, pointCount, pointOf}
+use Rattle.judge.specs.Verdicts.{rampCheck, pointCount, freshPoint}
 
 -- the clamped colours at t differ by no more than the threshold in force
 abbrev pub Near : Ramp → Float → Offer → Float → Type 0
@@ -29,7 +29,7 @@ pub record Stands (ramp : Ramp) (asked : Float) (offer : Offer) : Type 0 where
   pub rising : Rising (offer .positions)
   pub first : T (eq (posAt (offer .positions) 0) (minOf ramp))
   pub last : T (eq (posAt (offer .positions) (length (offer .positions) - 1)) (maxOf ramp))
-  pub near-rows : (i j : ℕ) → i < cells → j < pointCount ramp asked i → Near ramp asked offer (pointOf ramp asked i j)
+  pub near-rows : (i j : ℕ) → i < cells → j < pointCount ramp asked i → Near ramp asked offer (freshPoint ramp asked i j)
   pub near-max : Near ramp asked offer (maxOf ramp)
 
 -- as many positions and channels, and the same stops

@@ -58,14 +58,14 @@ module _ (near : Float → Bool) (count : ℕ → ℕ) (point : ℕ → ℕ → 
 
 -- the points of row i of a fresh sampling, and point j of them
 module _ (ramp : Ramp) (asked : Float) where
-  abbrev pub rowPoints : ℕ → List Float
-  rowPoints i = pointsOf (colourOf ramp) (farOf asked) (edgeOf (minOf ramp) (maxOf ramp) i) (edgeOf (minOf ramp) (maxOf ramp) (i + 1))
+  abbrev pub freshRow : ℕ → List Float
+  freshRow i = pointsOf (colourOf ramp) (farOf asked) (edgeOf (minOf ramp) (maxOf ramp) i) (edgeOf (minOf ramp) (maxOf ramp) (i + 1))
 
   abbrev pub pointCount : ℕ → ℕ
-  pointCount i = length (rowPoints i)
+  pointCount i = length (freshRow i)
 
-  abbrev pub pointOf : ℕ → ℕ → Float
-  pointOf i j = getD (rowPoints i) j nan
+  abbrev pub freshPoint : ℕ → ℕ → Float
+  freshPoint i j = getD (freshRow i) j nan
 
 -- ---- the call: a ramp, a threshold as it was asked for, and the list that is offered
 module _ (ramp : Ramp) (asked : Float) (offer : Offer) where
@@ -74,7 +74,7 @@ module _ (ramp : Ramp) (asked : Float) (offer : Offer) where
 
   -- the position that is too far
   unfoldable pub pointsVerdict : Verdict
-  pointsVerdict = allVerdict closeAt (pointCount ramp asked) (pointOf ramp asked) (maxOf ramp)
+  pointsVerdict = allVerdict closeAt (pointCount ramp asked) (freshPoint ramp asked) (maxOf ramp)
 
   -- before it the end that is wrong; values are compared, so -0 is 0
   unfoldable pub endsVerdict : Verdict

@@ -24,10 +24,10 @@ use Rattle.places.specs.declared.RowPlace.{RowPlace}
 use Rattle.places.proofs.Following.{point-is, before-next, next-within, more-follow, before-end}
 use Rattle.linearize.proofs.Checks.{ready}
 use Rattle.next_stop.specs.First.{First, later, firstKept, placesOn, pointsAfter}
-use Rattle.next_stop.specs.Step.{isWithin, placedCheck, stopOf, placeOf, handedBy, ended, Next, nextAfter, firstAfter, handedAt, handedFrom, faultOf, handedOf, HandsOut}
+use Rattle.next_stop.specs.Step.{isWithin, placedCheck, stopWith, listPlaceOf, handedBy, ended, Next, laterNext, firstAfter, handedAt, handedFrom, faultOf, handedOf, HandsOut}
 use Rattle.next_stop.specs.Chain.{Chained, toldBy, spentBy, thenNothing}
-use Rattle.next_stop.specs.declared.Place.{Place}
-use Rattle.next_stop.specs.declared.Place.the-variants as place
+use Rattle.next_stop.specs.declared.ListPlace.{ListPlace}
+use Rattle.next_stop.specs.declared.ListPlace.the-variants as place
 use Rattle.next_stop.specs.declared.Told.{Told}
 use Rattle.next_stop.specs.declared.Told.the-variants as told
 use Rattle.next_stop.specs.declared.Handed.{Handed}
@@ -78,7 +78,7 @@ module _ (rows : List Float) (counts : List ℕ) (max : Float) (ok : Ready rows 
 
   module _ (g : Gradient) (far : Far) (p : RowPlace) (w : InRecord counts p) (lt : p .row < 36) where
     abbrev q : RowPlace
-    q = nextAfter g far rows counts max p .at
+    q = laterNext g far rows counts max p .at
 
     abbrev tail : RowPlace → List Float
     tail = pointsAfter rows counts max
@@ -87,7 +87,7 @@ module _ (rows : List Float) (counts : List ℕ) (max : Float) (ok : Ready rows 
     pub record NextIs : Type 0 where
       pub within : InRecord counts q
       pub kept : thinned g far (pointAt rows max p) (tail p) ≡ pointAt rows max q ∷ thinned g far (pointAt rows max q) (tail q)
-      pub counted : weighed g far (pointAt rows max p) (tail p) ≡ nextAfter g far rows counts max p .tried + weighed g far (pointAt rows max q) (tail q)
+      pub counted : weighed g far (pointAt rows max p) (tail p) ≡ laterNext g far rows counts max p .tried + weighed g far (pointAt rows max q) (tail q)
 
     pub next-is : NextIs
     next-is =
@@ -108,7 +108,7 @@ module _ (rows : List Float) (counts : List ℕ) (max : Float) (ok : Ready rows 
         record {
           within = there .0;
           kept = f .kept ∙ ap₂ (λ (t : Float) (l : List Float). t ∷ thinned g far t l) item rest;
-          counted = f .counted ∙ ap₂ (λ (t : Float) (l : List Float). nextAfter g far rows counts max p .tried + weighed g far t l) item rest;
+          counted = f .counted ∙ ap₂ (λ (t : Float) (l : List Float). laterNext g far rows counts max p .tried + weighed g far t l) item rest;
         }
 
 -- ---- what is told of the points kept
@@ -119,7 +119,7 @@ told1 (suc k) s more = told.Refused (suc k) ∷ []
 -- the points kept, the one before them at `last`: stops up to the first fault, and that
 unfoldable pub toldFrom : Gradient → Float → List Float → List Told
 toldFrom g last [] = []
-toldFrom g last (t ∷ ts) = told1 (stopRefusal 1 0 last t (g t)) (stopOf t (g t)) (toldFrom g t ts)
+toldFrom g last (t ∷ ts) = told1 (stopRefusal 1 0 last t (g t)) (stopWith t (g t)) (toldFrom g t ts)
 
 unfoldable pub faultIn : Gradient → Float → List Float → ℕ
 faultIn g last [] = 0
@@ -148,10 +148,10 @@ module _ (ramp : Ramp) (asked : Float) (was : Held) (fine : thinCheck ramp asked
   abbrev rest : RowPlace → List Float
   rest = pointsAfter (was .rows) (was .counts) (maxOf ramp)
 
-  abbrev handed : Place → Handed
+  abbrev handed : ListPlace → Handed
   handed = handedFrom g far (was .rows) (was .counts) (maxOf ramp)
 
-  pub step-is : (p : Place) (h : Handed) → isWithin (was .counts) p ≡ true → HandsOut ramp asked was p h → h ≡ handed p
+  pub step-is : (p : ListPlace) (h : Handed) → isWithin (was .counts) p ≡ true → HandsOut ramp asked was p h → h ≡ handed p
   unfolding handedOf placedCheck
   step-is p h e w = w .handed ∙ rw (e, fine)
 
@@ -167,8 +167,8 @@ module _ (ramp : Ramp) (asked : Float) (was : Held) (fine : thinCheck ramp asked
   -- a step, and those after it
   module _ (n : Next) (ks : List Float) (m : ℕ) (h : Handed) (hs : List Handed) where
     by-fault : (k : ℕ) → stopRefusal 1 0 (n .last) (at (n .at)) (g (at (n .at))) ≡ k
-        → h ≡ handedBy k (stopOf (at (n .at)) (g (at (n .at)))) (3 * n .tried + 1) (placeOf (n .at)) → Chained ramp asked was (h .place) hs
-        → (Chained ramp asked was (placeOf (n .at)) hs → Tells g (at (n .at)) ks m hs) → Tells g (n .last) (at (n .at) ∷ ks) (n .tried + m) (h ∷ hs)
+        → h ≡ handedBy k (stopWith (at (n .at)) (g (at (n .at)))) (3 * n .tried + 1) (listPlaceOf (n .at)) → Chained ramp asked was (h .place) hs
+        → (Chained ramp asked was (listPlaceOf (n .at)) hs → Tells g (at (n .at)) ks m hs) → Tells g (n .last) (at (n .at) ∷ ks) (n .tried + m) (h ∷ hs)
     unfolding toldFrom faultIn thenNothing spentBy
     by-fault zero f e c ih =
         let t = ih (subst (λ (x : Handed). Chained ramp asked was (x .place) hs) e c) in
@@ -184,7 +184,7 @@ module _ (ramp : Ramp) (asked : Float) (was : Held) (fine : thinCheck ramp asked
         }
 
     pub then-tells : h ≡ handedAt g far (was .rows) (was .counts) (maxOf ramp) n → Chained ramp asked was (h .place) hs
-        → (Chained ramp asked was (placeOf (n .at)) hs → Tells g (at (n .at)) ks m hs) → Tells g (n .last) (at (n .at) ∷ ks) (n .tried + m) (h ∷ hs)
+        → (Chained ramp asked was (listPlaceOf (n .at)) hs → Tells g (at (n .at)) ks m hs) → Tells g (n .last) (at (n .at) ∷ ks) (n .tried + m) (h ∷ hs)
     unfolding handedAt
     then-tells e c ih = by-fault (stopRefusal 1 0 (n .last) (at (n .at)) (g (at (n .at)))) refl e c ih
 
@@ -192,12 +192,12 @@ module _ (ramp : Ramp) (asked : Float) (was : Held) (fine : thinCheck ramp asked
   abbrev Rest : RowPlace → List Handed → Type 0
   Rest p = Tells g (at p) (thinned g far (at p) (rest p)) (weighed g far (at p) (rest p))
 
-  tells-end : (hs : List Handed) (p : RowPlace) → InRecord (was .counts) p → 36 ≤ p .row → Chained ramp asked was (placeOf p) hs → Rest p hs
+  tells-end : (hs : List Handed) (p : RowPlace) → InRecord (was .counts) p → 36 ≤ p .row → Chained ramp asked was (listPlaceOf p) hs → Rest p hs
   unfolding thinned weighed toldFrom
   tells-end hs p w ge c =
       let n = before-end (was .rows) (was .counts) (maxOf ramp) (ready ramp asked was fine) p w (λ k. absurd (omega (arith, ge, k))) in
       let none : rest p ≡ [] = drop-of-length-le (listOf (was .rows) (was .counts) (maxOf ramp)) {i = pointsBefore (was .counts) p + 1} (omega (arith, n)) in
-      let t = ended-tells hs (subst (λ (x : Place). Chained ramp asked was x hs) (sym (ends-after p ge)) c) in
+      let t = ended-tells hs (subst (λ (x : ListPlace). Chained ramp asked was x hs) (sym (ends-after p ge)) c) in
       rw none (record { told = t .0; spent = λ z l. t .1 })
 
   tells-none : (p : RowPlace) → InRecord (was .counts) p → p .row < 36 → Rest p []
@@ -205,25 +205,25 @@ module _ (ramp : Ramp) (asked : Float) (was : Held) (fine : thinCheck ramp asked
       let e = next-is (was .rows) (was .counts) (maxOf ramp) (ready ramp asked was fine) g far p w lt .kept in
       record { told = none-yet (toldFrom g (at p) (thinned g far (at p) (rest p))); spent = λ z l. absurd (omega (arith, ap length e)) }
 
-  tells-next : (h : Handed) (hs : List Handed) (p : RowPlace) → InRecord (was .counts) p → p .row < 36 → Chained ramp asked was (placeOf p) (h ∷ hs)
-      → ((q : RowPlace) → InRecord (was .counts) q → Chained ramp asked was (placeOf q) hs → Rest q hs) → Rest p (h ∷ hs)
+  tells-next : (h : Handed) (hs : List Handed) (p : RowPlace) → InRecord (was .counts) p → p .row < 36 → Chained ramp asked was (listPlaceOf p) (h ∷ hs)
+      → ((q : RowPlace) → InRecord (was .counts) q → Chained ramp asked was (listPlaceOf q) hs → Rest q hs) → Rest p (h ∷ hs)
   unfolding Chained isWithin
   tells-next h hs p w lt c ih =
       let x = next-is (was .rows) (was .counts) (maxOf ramp) (ready ramp asked was fine) g far p w lt in
-      let n = nextAfter g far (was .rows) (was .counts) (maxOf ramp) p in
-      let c′ : HandsOut ramp asked was (place.After (p .row) (p .index)) h × Chained ramp asked was (h .place) hs = (subst (λ (y : Place). HandsOut ramp asked was y h) (sym (goes-on-after p lt)) (c .0), c .1) in
+      let n = laterNext g far (was .rows) (was .counts) (maxOf ramp) p in
+      let c′ : HandsOut ramp asked was (place.After (p .row) (p .index)) h × Chained ramp asked was (h .place) hs = (subst (λ (y : ListPlace). HandsOut ramp asked was y h) (sym (goes-on-after p lt)) (c .0), c .1) in
       let e = step-is (place.After (p .row) (p .index)) h (rw (lt-ltb (p .row) 36 lt, lt-ltb (p .index) (getD (was .counts) (p .row) 0) (w .in-row lt))) (c′ .0) in
       rw (x .kept, x .counted) (then-tells n (thinned g far (at (n .at)) (rest (n .at))) (weighed g far (at (n .at)) (rest (n .at))) h hs e (c′ .1) (ih (n .at) (x .within)))
 
-  tells-nothing : (p : RowPlace) (b : Bool) → ltb (p .row) 36 ≡ b → InRecord (was .counts) p → Chained ramp asked was (placeOf p) [] → Rest p []
+  tells-nothing : (p : RowPlace) (b : Bool) → ltb (p .row) 36 ≡ b → InRecord (was .counts) p → Chained ramp asked was (listPlaceOf p) [] → Rest p []
   tells-nothing p true e w c = tells-none p w (ltb-true (p .row) 36 e)
   tells-nothing p false e w c = tells-end [] p w (ltb-false (p .row) 36 e) c
 
-  tells-more : (h : Handed) (hs : List Handed) (p : RowPlace) (b : Bool) → ltb (p .row) 36 ≡ b → InRecord (was .counts) p → Chained ramp asked was (placeOf p) (h ∷ hs)
-      → ((q : RowPlace) → InRecord (was .counts) q → Chained ramp asked was (placeOf q) hs → Rest q hs) → Rest p (h ∷ hs)
+  tells-more : (h : Handed) (hs : List Handed) (p : RowPlace) (b : Bool) → ltb (p .row) 36 ≡ b → InRecord (was .counts) p → Chained ramp asked was (listPlaceOf p) (h ∷ hs)
+      → ((q : RowPlace) → InRecord (was .counts) q → Chained ramp asked was (listPlaceOf q) hs → Rest q hs) → Rest p (h ∷ hs)
   tells-more h hs p true e w c ih = tells-next h hs p w (ltb-true (p .row) 36 e) c ih
   tells-more h hs p false e w c ih = tells-end (h ∷ hs) p w (ltb-false (p .row) 36 e) c
 
-  pub tells-from : (hs : List Handed) (p : RowPlace) → InRecord (was .counts) p → Chained ramp asked was (placeOf p) hs → Rest p hs
+  pub tells-from : (hs : List Handed) (p : RowPlace) → InRecord (was .counts) p → Chained ramp asked was (listPlaceOf p) hs → Rest p hs
   tells-from [] p w c = tells-nothing p (ltb (p .row) 36) refl w c
   tells-from (h ∷ hs) p w c = tells-more h hs p (ltb (p .row) 36) refl w c (λ q w′ c′. tells-from hs q w′ c′)

@@ -2,7 +2,7 @@
 use mathlib.Core.Path.{_≡_, refl, ap, ap₂, _∙_}
 use mathlib.Core.Bool.{Bool, true, false, cond, _&&_}
 use mathlib.Core.List.{List, [], _∷_, _++_, map}
-use Prim.Native.Nat.{ℕ, zero, suc, _+_, _*_, _≤_, _<_}
+use Prim.Native.Nat.{ℕ, zero, suc, _+_, _≤_, _<_}
 use native.Mathlib.Omega.{arith}
 use borrow.Author.Tests.{lt-leb}
 use lib.Dec.{leb}
@@ -16,7 +16,7 @@ use Rattle.blend.specs.declared.Stop.{Stop}
 use Rattle.stops.specs.Stops.{finiteRgba}
 use Rattle.sampling.specs.Midpoints.{Gradient}
 use Rattle.thinning.specs.Kept.{stopRefusal, firstRefusal, refusalFrom}
-use Rattle.next_stop.specs.Step.{stopOf}
+use Rattle.next_stop.specs.Step.{stopWith}
 use Rattle.next_stop.specs.Chain.{toldStops, positionsIn, channelsIn}
 use Rattle.next_stop.specs.declared.Told.{Told}
 use Rattle.next_stop.specs.declared.Told.the-variants as told
@@ -64,7 +64,7 @@ module _ (g : Gradient) where
 
   -- ---- what is told of the points kept
   abbrev pub stopsAt : List Float → List Stop
-  stopsAt = map (λ (t : Float). stopOf t (g t))
+  stopsAt = map (λ (t : Float). stopWith t (g t))
 
   both-zero : (a b : ℕ) → firstRefusal a b ≡ 0 → (a ≡ 0) × (b ≡ 0)
   both-zero zero b h = (refl, h)
@@ -75,7 +75,7 @@ module _ (g : Gradient) where
   all-told last [] z = refl
   all-told last (t ∷ ks) z =
       let b = both-zero (stopRefusal 1 0 last t (g t)) (faultIn g t ks) z in
-      rw (b .0) (ap (λ (l : List Told). told.Stop (stopOf t (g t)) ∷ l) (all-told t ks (b .1)))
+      rw (b .0) (ap (λ (l : List Told). told.Stop (stopWith t (g t)) ∷ l) (all-told t ks (b .1)))
 
   -- the stops before the first fault, and that
   pub record Faulty (k : ℕ) (last : Float) (ks : List Float) : Type 0 where
@@ -91,7 +91,7 @@ module _ (g : Gradient) where
       by : (r : ℕ) → stopRefusal 1 0 last t (g t) ≡ r → (faultIn g t ks ≡ suc k → Faulty (suc k) t ks) → Faulty (suc k) last (t ∷ ks)
       by zero e ih =
           let f = ih (rw e at z) in
-          record { before = suc (f .before); there = omega (arith, f .there); told = rw e (ap (λ (l : List Told). told.Stop (stopOf t (g t)) ∷ l) (f .told)) }
+          record { before = suc (f .before); there = omega (arith, f .there); told = rw e (ap (λ (l : List Told). told.Stop (stopWith t (g t)) ∷ l) (f .told)) }
       by (suc r) e ih =
           let y : suc r ≡ suc k = rw e at z in
           record { before = 0; there = omega arith; told = rw (e, y) }
@@ -101,12 +101,10 @@ module _ (g : Gradient) where
   positions-are [] = refl
   positions-are (t ∷ ks) = ap (λ (l : List Float). t ∷ l) (positions-are ks)
 
-  pub channels-are : (ks : List Float) → (channelsIn (stopsAt ks) ≡ coloursOf g ks) × (length (coloursOf g ks) ≡ 4 * length ks)
+  pub channels-are : (ks : List Float) → channelsIn (stopsAt ks) ≡ coloursOf g ks
   unfolding channelsIn coloursOf
-  channels-are [] = (refl, refl)
-  channels-are (t ∷ ks) =
-      let ih = channels-are ks in
-      (ap (λ (l : List Float). channelsOf (g t) ++ l) (ih .0), omega (arith, ih .1))
+  channels-are [] = refl
+  channels-are (t ∷ ks) = ap (λ (l : List Float). channelsOf (g t) ++ l) (channels-are ks)
 
 pub written-front : (vs l : List Float) → length vs ≤ length l → take (length vs) (sets l 0 vs) ≡ vs
 written-front vs l h = rw (sets-eq vs l 0 (omega arith)) (take-at vs (drop (0 + length vs) l) (length vs) refl)

@@ -24,16 +24,16 @@ use Rattle.records.specs.Fitness.{thinCheck}
 use Rattle.thinning.specs.Kept.{stopRefusal}
 use Rattle.places.specs.Places.{pointAt, InRecord}
 use Rattle.places.specs.declared.RowPlace.{RowPlace}
-use Rattle.next_stop.specs.Step.{isWithin, placedCheck, numberOfTold, stopOf, placeOf, handedBy, ended, refusedAt, Next, next, firstNext, nextAfter, positionOf, faultOf, handedAt, handedFrom, faultFrom, stepCheck, handedOf, handedNumber, HandsOut}
+use Rattle.next_stop.specs.Step.{isWithin, placedCheck, numberOfTold, stopWith, listPlaceOf, handedBy, ended, refusedAt, Next, next, firstNext, laterNext, positionOf, faultOf, handedAt, handedFrom, faultFrom, stepCheck, handedOf, handedNumber, HandsOut}
 use Rattle.next_stop.specs.Inner.{FindsNext}
 use Rattle.next_stop.specs.declared.Found.{Found}
-use Rattle.next_stop.specs.declared.Place.{Place}
-use Rattle.next_stop.specs.declared.Place.the-variants as place
+use Rattle.next_stop.specs.declared.ListPlace.{ListPlace}
+use Rattle.next_stop.specs.declared.ListPlace.the-variants as place
 use Rattle.next_stop.specs.declared.Handed.{Handed}
 use Rattle.next_stop.specs.declared.Told.the-variants as told
 
 -- ---- a place of the record
-module _ (counts : List ℕ) (p : Place) where
+module _ (counts : List ℕ) (p : ListPlace) where
   pub start-within : p ≡ place.Start → true ≡ isWithin counts p
   unfolding isWithin
   start-within e = rw e
@@ -95,16 +95,16 @@ both-fine false (checked.Refused n) h = absurd (none (eqb n 20) h)
     none false k = let z : _≡_ {A = ℕ} 0 1 = cc in omega arith
 
 -- ---- the place to go on from
-pub goes-on-after : (q : RowPlace) → q .row < 36 → place.After (q .row) (q .index) ≡ placeOf q
-unfolding placeOf
+pub goes-on-after : (q : RowPlace) → q .row < 36 → place.After (q .row) (q .index) ≡ listPlaceOf q
+unfolding listPlaceOf
 goes-on-after q h = rw (lt-ltb (q .row) 36 h)
 
-pub ends-after : (q : RowPlace) → 36 ≤ q .row → place.Ended ≡ placeOf q
-unfolding placeOf
+pub ends-after : (q : RowPlace) → 36 ≤ q .row → place.Ended ≡ listPlaceOf q
+unfolding listPlaceOf
 ends-after q h = rw (le-ltb (q .row) 36 h)
 
 -- ---- what is handed out
-module _ (k : ℕ) (s : Stop) (n : ℕ) (p : Place) where
+module _ (k : ℕ) (s : Stop) (n : ℕ) (p : ListPlace) where
   pub hands-refusal : {r : ℕ} → r ≡ k → (r ≡ 0 → ⊥) → record { told = told.Refused r; evaluations = 0; place = place.Ended } ≡ handedBy k s n p
   hands-refusal e nz = rw e (by k (λ z. nz (e ∙ z)))
     where
@@ -112,48 +112,48 @@ module _ (k : ℕ) (s : Stop) (n : ℕ) (p : Place) where
       by zero nz = absurd (nz refl)
       by (suc k) nz = refl
 
-  pub hands-stop : {r : ℕ} {q : Place} → r ≡ k → r ≡ 0 → q ≡ p → record { told = told.Stop s; evaluations = n; place = q } ≡ handedBy k s n p
+  pub hands-stop : {r : ℕ} {q : ListPlace} → r ≡ k → r ≡ 0 → q ≡ p → record { told = told.Stop s; evaluations = n; place = q } ≡ handedBy k s n p
   hands-stop e z f = rw (← e, z, f)
 
-number-by : (k : ℕ) (s : Stop) (n : ℕ) (p : Place) → numberOfTold (handedBy k s n p .told) ≡ k
+number-by : (k : ℕ) (s : Stop) (n : ℕ) (p : ListPlace) → numberOfTold (handedBy k s n p .told) ≡ k
 number-by zero s n p = refl
 number-by (suc k) s n p = refl
 
 module _ (g : Gradient) (far : Far) (rows : List Float) (counts : List ℕ) (max : Float) where
   -- a stop in hand with its colour
   by-point : (n : Next) (p : Point) (r : Handed) → PointAt g (pointAt rows max (n .at)) p
-      → r ≡ handedBy (stopRefusal 1 0 (n .last) (p .t) (p .colour)) (stopOf (p .t) (p .colour)) (3 * n .tried + 1) (placeOf (n .at))
+      → r ≡ handedBy (stopRefusal 1 0 (n .last) (p .t) (p .colour)) (stopWith (p .t) (p .colour)) (3 * n .tried + 1) (listPlaceOf (n .at))
       → r ≡ handedAt g far rows counts max n
   unfolding handedAt
   by-point n p r a e = e ∙ rw (a .1, a .0)
 
-  pub from-end : (from : Place) → from ≡ place.Ended → ended ≡ handedFrom g far rows counts max from
+  pub from-end : (from : ListPlace) → from ≡ place.Ended → ended ≡ handedFrom g far rows counts max from
   from-end from e = rw e
 
-  module _ (from : Place) (r : Handed) where
+  module _ (from : ListPlace) (r : Handed) where
     pub from-start : (p : Point) → from ≡ place.Start → PointAt g (pointAt rows max (record { row = 0; index = 0 })) p
-        → r ≡ handedBy (stopRefusal 1 0 (p .t) (p .t) (p .colour)) (stopOf (p .t) (p .colour)) 1 (placeOf (record { row = 0; index = 0 }))
+        → r ≡ handedBy (stopRefusal 1 0 (p .t) (p .t) (p .colour)) (stopWith (p .t) (p .colour)) 1 (listPlaceOf (record { row = 0; index = 0 }))
         → r ≡ handedFrom g far rows counts max from
     from-start p e a h =
         by-point (firstNext g far rows counts max) p r a
-        (h ∙ ap (λ (t : Float). handedBy (stopRefusal 1 0 t (p .t) (p .colour)) (stopOf (p .t) (p .colour)) 1 (placeOf (record { row = 0; index = 0 }))) (a .0))
+        (h ∙ ap (λ (t : Float). handedBy (stopRefusal 1 0 t (p .t) (p .colour)) (stopWith (p .t) (p .colour)) 1 (listPlaceOf (record { row = 0; index = 0 }))) (a .0))
         ∙ rw e
 
     pub from-after : (row index : ℕ) (f : Found) → from ≡ place.After row index → FindsNext g far rows counts max (record { row = row; index = index }) f
-        → r ≡ handedBy (stopRefusal 1 0 (f .last) (f .point .t) (f .point .colour)) (stopOf (f .point .t) (f .point .colour)) (3 * f .tried + 1) (placeOf (f .place))
+        → r ≡ handedBy (stopRefusal 1 0 (f .last) (f .point .t) (f .point .colour)) (stopWith (f .point .t) (f .point .colour)) (3 * f .tried + 1) (listPlaceOf (f .place))
         → r ≡ handedFrom g far rows counts max from
     from-after row index f e w h =
         by-point (next (f .last) (f .place) (f .tried)) (f .point) r (w .point) h
         ∙ ap (handedAt g far rows counts max) (w .stop) ∙ rw e
 
-  number-from : (p : Place) → numberOfTold (handedFrom g far rows counts max p .told) ≡ faultFrom g far rows counts max p
+  number-from : (p : ListPlace) → numberOfTold (handedFrom g far rows counts max p .told) ≡ faultFrom g far rows counts max p
   unfolding handedAt
   number-from place.Start = number-by _ _ _ _
   number-from (place.After row index) = number-by _ _ _ _
   number-from place.Ended = refl
 
 -- ---- the call
-module _ (ramp : Ramp) (asked : Float) (was : Held) (p : Place) where
+module _ (ramp : Ramp) (asked : Float) (was : Held) (p : ListPlace) where
   pub step-check : {w : Bool} {c r : Checked} → w ≡ isWithin (was .counts) p → c ≡ thinCheck ramp asked was → r ≡ placedCheck w c → stepCheck ramp asked was p ≡ r
   step-check a b e = sym (e ∙ rw (a, b))
 

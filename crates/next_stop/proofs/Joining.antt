@@ -10,6 +10,7 @@ use lib.Seq.{sets}
 use lib.Ieee.{Float}
 use Rattle.float.specs.F32.{f0}
 use Rattle.blend.specs.Channels.{coloursOf}
+use Rattle.blend.proofs.Channels.{length-colours}
 use Rattle.stops.specs.declared.Checked.{Checked}
 use Rattle.stops.specs.declared.Checked.the-variants as checked
 use Rattle.stops.specs.Lent.{Ramp, change}
@@ -30,9 +31,9 @@ use Rattle.linearize.proofs.Bounds.{stops-bound}
 use Rattle.linearize.proofs.Calls.{kept-room}
 use Rattle.linearize.proofs.Checks.{ready}
 use Rattle.next_stop.specs.First.{pointsAfter}
-use Rattle.next_stop.specs.Step.{isWithin, placedCheck, stopOf, firstNext, handedOf}
-use Rattle.next_stop.specs.Chain.{Chained, toldBy, Joined, Broken}
-use Rattle.next_stop.specs.declared.Place.the-variants as place
+use Rattle.next_stop.specs.Step.{isWithin, placedCheck, stopWith, firstNext, handedOf}
+use Rattle.next_stop.specs.Chain.{Chained, toldBy, ListTold, Broken}
+use Rattle.next_stop.specs.declared.ListPlace.the-variants as place
 use Rattle.next_stop.specs.declared.Told.the-variants as told
 use Rattle.next_stop.specs.declared.Handed.{Handed}
 use Rattle.next_stop.proofs.Numbers.{Early, thin-early}
@@ -105,7 +106,7 @@ module _ (ramp : Ramp) (asked : Float) (was : Held) where
   -- ---- the theorems
   module _ (out out′ : Output) (hs : List Handed) (c : Chained ramp asked was place.Start hs) where
     -- where `thin` makes a list, the steps tell its stops, and then nothing more; and they spend what it spends
-    pub joined : (n e : ℕ) → Thins ramp asked was (change out out′) (listed.Done n e) → Joined n e out′ hs
+    pub joined : (n e : ℕ) → Thins ramp asked was (change out out′) (listed.Done n e) → ListTold n e out′ hs
     unfolding thinOutput positionsWritten channelsWritten listEvaluations
     joined n e w =
         let ks = keptOf g far ts in
@@ -116,12 +117,12 @@ module _ (ramp : Ramp) (asked : Float) (was : Held) where
         let t = whole (d .0) hs c in
         let ps : out′ .positions ≡ sets (out .positions) 0 ks = ap (λ (o : Output). o .positions) (w .output) ∙ rw (d .0, d .1 .0) in
         let cs : out′ .channels ≡ sets (out .channels) 0 (coloursOf g ks) = ap (λ (o : Output). o .channels) (w .output) ∙ rw (d .0, d .1 .0) in
-        let four : 4 * n ≡ length (coloursOf g ks) = omega (arith, d .1 .1 .0, channels-are g ks .1) in
+        let four : 4 * n ≡ length (coloursOf g ks) = omega (arith, d .1 .1 .0, length-colours g ks) in
         record {
           stops = stopsAt g ks;
-          many = length-map ks (λ (x : Float). stopOf x (g x)) ∙ sym (d .1 .1 .0);
+          many = length-map ks (λ (x : Float). stopWith x (g x)) ∙ sym (d .1 .1 .0);
           positions = positions-are g ks ∙ sym (rw (ps, d .1 .1 .0) (written-front ks (out .positions) (omega (arith, fits))));
-          channels = channels-are g ks .0 ∙ sym (rw (cs, four) (written-front (coloursOf g ks) (out .channels) (omega (arith, fits, four, d .1 .1 .0))));
+          channels = channels-are g ks ∙ sym (rw (cs, four) (written-front (coloursOf g ks) (out .channels) (omega (arith, fits, four, d .1 .1 .0))));
           told = t .told ∙ rw (all-told g first ks fault);
           spent = λ l. t .spent fault (omega (arith, l, d .1 .1 .0)) ∙ sym (d .1 .1 .1);
         }

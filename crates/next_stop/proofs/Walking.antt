@@ -19,7 +19,7 @@ use Rattle.places.specs.Places.{listOf, nextPlace, pointAt, pointsBefore, InRec
 use Rattle.places.specs.declared.RowPlace.{RowPlace}
 use Rattle.places.proofs.Following.{list-most, point-is, before-next, next-within, more-follow, before-end}
 use Rattle.next_stop.specs.First.{First, later, firstKept, placesOn}
-use Rattle.next_stop.specs.Step.{next, firstAfter, nextAfter}
+use Rattle.next_stop.specs.Step.{next, firstAfter, laterNext}
 use Rattle.next_stop.specs.Inner.{FindsNext}
 
 -- ---- the first point kept, by the fate of the first point
@@ -55,8 +55,8 @@ module _ (g : Gradient) (far : Far) (rows : List Float) (counts : List ℕ) (max
   -- the walk goes from p₀, the place after `from`, whose point is in hand as the last one kept
   pub record Begun (from : RowPlace) (last : Point) (p₀ : RowPlace) : Type 0 where
     pub start : PointAt g (pointAt rows max from) last
-    pub there : placesOn counts (left (last .t) p₀ .passed) p₀ ≡ nextAfter g far rows counts max from .at
-    pub weighed : left (last .t) p₀ .tried ≡ nextAfter g far rows counts max from .tried
+    pub there : placesOn counts (left (last .t) p₀ .passed) p₀ ≡ laterNext g far rows counts max from .at
+    pub weighed : left (last .t) p₀ .tried ≡ laterNext g far rows counts max from .tried
 
   pub record Walking (last : Point) (p₀ p : RowPlace) (x : Point) (tried : ℕ) : Type 0 where
     pub within : InRecord counts p
@@ -97,13 +97,13 @@ module _ (g : Gradient) (far : Far) (rows : List Float) (counts : List ℕ) (max
           → FindsNext g far rows counts max from (record { point = x; last = last .t; place = p; tried = m })
       unfolding placesOn
       found from b n m e f h =
-          let here : p ≡ nextAfter g far rows counts max from .at = sym (ap (λ (i : First). placesOn counts (i .passed) p) e) ∙ w .there ∙ b .there in
-          let count : m ≡ nextAfter g far rows counts max from .tried = f ∙ sym (ap (λ (i : First). tried + i .tried) e) ∙ w .weighed ∙ b .weighed in
+          let here : p ≡ laterNext g far rows counts max from .at = sym (ap (λ (i : First). placesOn counts (i .passed) p) e) ∙ w .there ∙ b .there in
+          let count : m ≡ laterNext g far rows counts max from .tried = f ∙ sym (ap (λ (i : First). tried + i .tried) e) ∙ w .weighed ∙ b .weighed in
           record {
             stop =
                 ap (λ (t : Float). next t p m) (b .start .0)
                 ∙ ap (λ (q : RowPlace). next (pointAt rows max from) q m) here
-                ∙ ap (next (pointAt rows max from) (nextAfter g far rows counts max from .at)) count;
+                ∙ ap (next (pointAt rows max from) (laterNext g far rows counts max from .at)) count;
             few = h;
             point = w .point;
           }

@@ -11,13 +11,13 @@ use Rattle.stops.specs.Lent.{Ramp}
 use Rattle.sampling.specs.Lent.{Held}
 use Rattle.linearize.specs.Lent.{Output}
 use Rattle.next_stop.specs.Step.{HandsOut}
-use Rattle.next_stop.specs.declared.Place.{Place}
+use Rattle.next_stop.specs.declared.ListPlace.{ListPlace}
 use Rattle.next_stop.specs.declared.Told.{Told}
 use Rattle.next_stop.specs.declared.Told.the-variants as told
 use Rattle.next_stop.specs.declared.Handed.{Handed}
 
 -- any results that the contract of `next_stop` allows, on the same lent memory
-unfoldable pub Chained : Ramp → Float → Held → Place → List Handed → Type 0
+unfoldable pub Chained : Ramp → Float → Held → ListPlace → List Handed → Type 0
 Chained ramp asked was p [] = Unit {0}
 Chained ramp asked was p (h ∷ hs) = HandsOut ramp asked was p h × Chained ramp asked was (h .place) hs
 
@@ -46,7 +46,7 @@ channelsIn [] = []
 channelsIn (s ∷ ss) = channelsOf (s .colour) ++ channelsIn ss
 
 -- the steps hs have told the n stops that `out` holds, as far as they went, and then nothing more; with all of them told they have spent e
-pub record Joined (n e : ℕ) (out : Output) (hs : List Handed) : Type 0 where
+pub record ListTold (n e : ℕ) (out : Output) (hs : List Handed) : Type 0 where
   pub stops : List Stop
   pub many : length stops ≡ n
   pub positions : positionsIn stops ≡ take n (out .positions)

@@ -8,11 +8,11 @@ use Rattle.sampling.specs.Midpoints.{Gradient, Far}
 use Rattle.sampling.specs.Inner.{PointAt}
 use Rattle.places.specs.Places.{pointAt}
 use Rattle.places.specs.declared.RowPlace.{RowPlace}
-use Rattle.next_stop.specs.Step.{next, nextAfter}
+use Rattle.next_stop.specs.Step.{next, laterNext}
 use Rattle.next_stop.specs.declared.Found.{Found}
 
 -- the stop after the one at p is found, with its colour
 pub record FindsNext (g : Gradient) (far : Far) (rows : List Float) (counts : List ℕ) (max : Float) (p : RowPlace) (r : Found) : Type 0 where
-  pub stop : next (r .last) (r .place) (r .tried) ≡ nextAfter g far rows counts max p
+  pub stop : next (r .last) (r .place) (r .tried) ≡ laterNext g far rows counts max p
   pub few : r .tried ≤ recordLength
   pub point : PointAt g (pointAt rows max (r .place)) (r .point)

@@ -23,8 +23,8 @@ use Rattle.thinning.specs.Kept.{stopRefusal}
 use Rattle.places.specs.Places.{firstPlace, nextPlace, pointAt}
 use Rattle.places.specs.declared.RowPlace.{RowPlace}
 use Rattle.next_stop.specs.First.{First, firstKept, placesOn, pointsAfter}
-use Rattle.next_stop.specs.declared.Place.{Place}
-use Rattle.next_stop.specs.declared.Place.the-variants as place
+use Rattle.next_stop.specs.declared.ListPlace.{ListPlace}
+use Rattle.next_stop.specs.declared.ListPlace.the-variants as place
 use Rattle.next_stop.specs.declared.Told.{Told}
 use Rattle.next_stop.specs.declared.Told.the-variants as told
 use Rattle.next_stop.specs.declared.Handed.{Handed}
@@ -38,7 +38,7 @@ numberOfTold (told.Refused n) = n
 -- ---- the check of a step
 
 -- a place of the record's rows and counts; the start and the end are none, and always taken
-unfoldable pub isWithin : List ℕ → Place → Bool
+unfoldable pub isWithin : List ℕ → ListPlace → Bool
 isWithin counts place.Start = true
 isWithin counts (place.After row index) = ltb row cells && ltb index (getD counts row 0)
 isWithin counts place.Ended = true
@@ -51,15 +51,15 @@ placedCheck false (checked.Refused n) = cond (eqb n otherThreshold) (checked.Ref
 
 -- ---- what is handed out
 
-abbrev pub stopOf : Float → Rgba → Stop
-stopOf t c = record { position = t; colour = c }
+abbrev pub stopWith : Float → Rgba → Stop
+stopWith t c = record { position = t; colour = c }
 
 -- the place after the stop at a place; max is the last stop
-unfoldable pub placeOf : RowPlace → Place
-placeOf q = cond (ltb (q .row) cells) (place.After (q .row) (q .index)) place.Ended
+unfoldable pub listPlaceOf : RowPlace → ListPlace
+listPlaceOf q = cond (ltb (q .row) cells) (place.After (q .row) (q .index)) place.Ended
 
 -- a stop, unless it is refused; after a refusal among the stops nothing more comes
-abbrev pub handedBy : ℕ → Stop → ℕ → Place → Handed
+abbrev pub handedBy : ℕ → Stop → ℕ → ListPlace → Handed
 handedBy zero s evaluations p = record { told = told.Stop s; evaluations = evaluations; place = p }
 handedBy (suc r) s evaluations p = record { told = told.Refused (suc r); evaluations = 0; place = place.Ended }
 
@@ -67,7 +67,7 @@ abbrev pub ended : Handed
 ended = record { told = told.Ended; evaluations = 0; place = place.Ended }
 
 -- a refusal of the check leaves the place as it was
-abbrev pub refusedAt : Place → ℕ → Handed
+abbrev pub refusedAt : ListPlace → ℕ → Handed
 refusedAt p n = record { told = told.Refused n; evaluations = 0; place = p }
 
 -- where the next stop stands, the position of the one before it, and how many points were weighed
@@ -89,8 +89,8 @@ module _ (g : Gradient) (far : Far) (rows : List Float) (counts : List ℕ) (max
   abbrev pub firstAfter : RowPlace → First
   firstAfter p = firstKept g far (pointAt rows max p) (pointsAfter rows counts max p)
 
-  abbrev pub nextAfter : RowPlace → Next
-  nextAfter p = next (pointAt rows max p) (placesOn counts (firstAfter p .passed) (nextPlace counts p)) (firstAfter p .tried)
+  abbrev pub laterNext : RowPlace → Next
+  laterNext p = next (pointAt rows max p) (placesOn counts (firstAfter p .passed) (nextPlace counts p)) (firstAfter p .tried)
 
   -- the position of a stop, its colour, and its fault: 8, 9 or 0; there is room for one stop, so no 7
   abbrev pub positionOf : Next → Float
@@ -101,21 +101,21 @@ module _ (g : Gradient) (far : Far) (rows : List Float) (counts : List ℕ) (max
 
   -- 3 for each point weighed, 1 for the stop
   unfoldable pub handedAt : Next → Handed
-  handedAt n = handedBy (faultOf n) (stopOf (positionOf n) (g (positionOf n))) (3 * n .tried + 1) (placeOf (n .at))
+  handedAt n = handedBy (faultOf n) (stopWith (positionOf n) (g (positionOf n))) (3 * n .tried + 1) (listPlaceOf (n .at))
 
   -- a step whose check is passed: what it hands out, and its fault
-  abbrev pub handedFrom : Place → Handed
+  abbrev pub handedFrom : ListPlace → Handed
   handedFrom place.Start = handedAt firstNext
-  handedFrom (place.After row index) = handedAt (nextAfter (record { row = row; index = index }))
+  handedFrom (place.After row index) = handedAt (laterNext (record { row = row; index = index }))
   handedFrom place.Ended = ended
 
-  abbrev pub faultFrom : Place → ℕ
+  abbrev pub faultFrom : ListPlace → ℕ
   faultFrom place.Start = faultOf firstNext
-  faultFrom (place.After row index) = faultOf (nextAfter (record { row = row; index = index }))
+  faultFrom (place.After row index) = faultOf (laterNext (record { row = row; index = index }))
   faultFrom place.Ended = 0
 
 -- ---- the call: a ramp, a threshold as it was asked for, a record and a place
-module _ (ramp : Ramp) (asked : Float) (was : Held) (p : Place) where
+module _ (ramp : Ramp) (asked : Float) (was : Held) (p : ListPlace) where
   abbrev pub stepCheck : Checked
   stepCheck = placedCheck (isWithin (was .counts) p) (thinCheck ramp asked was)
 
@@ -126,6 +126,6 @@ module _ (ramp : Ramp) (asked : Float) (was : Held) (p : Place) where
   handedNumber = onFine stepCheck (faultFrom (colourOf ramp) (farOf asked) (was .rows) (was .counts) (maxOf ramp) p) (λ n. n)
 
 -- `next_stop`: what is handed out, and the number of its refusal
-pub record HandsOut (ramp : Ramp) (asked : Float) (was : Held) (p : Place) (r : Handed) : Type 0 where
+pub record HandsOut (ramp : Ramp) (asked : Float) (was : Held) (p : ListPlace) (r : Handed) : Type 0 where
   pub handed : r ≡ handedOf ramp asked was p
   pub number : numberOfTold (r .told) ≡ handedNumber ramp asked was p

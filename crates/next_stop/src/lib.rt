@@ -26,12 +26,12 @@ ghost use Rattle.sampling.specs.Constants.{recordLength};
 ghost use Rattle.sampling.specs.Lent.{lentHeld};
 ghost use Rattle.places.specs.Places.{Ready};
 ghost use Rattle.thinning.specs.Kept.{stopRefusal};
-ghost use Rattle.next_stop.specs.Step.{isWithin, placedCheck, placeOf, stopOf, handedBy, handedFrom, HandsOut};
+ghost use Rattle.next_stop.specs.Step.{isWithin, placedCheck, listPlaceOf, stopWith, handedBy, handedFrom, HandsOut};
 
 mod walk;
 
 // Where a caller is in a list: before its first stop, after the stop at a row and an index of the record, or past its end.
-pub enum Place {
+pub enum ListPlace {
     Start,
     After { row: usize, index: usize },
     Ended,
@@ -48,7 +48,7 @@ pub enum Told {
 pub struct Handed {
     pub told: Told,
     pub evaluations: usize,
-    pub place: Place,
+    pub place: ListPlace,
 }
 
 // The next point kept and its place, the number that stood before it, and how many points were weighed.
@@ -60,13 +60,13 @@ pub(crate) struct Found {
 }
 
 // A place of the record: it has that row, and the row has that point. Start and end are none, and always there.
-fn is_within(counts: &[u8], place: Place) -> bool
+fn is_within(counts: &[u8], place: ListPlace) -> bool
     ensures { λ r. ⌜ r ≡ isWithin (old counts) place ⌝ }
 {
     match place {
-        Place::Start => true,
-        Place::Ended => true,
-        Place::After { row, index } => {
+        ListPlace::Start => true,
+        ListPlace::Ended => true,
+        ListPlace::After { row, index } => {
             if row >= Sampler::CELLS {
                 return false;
             }
@@ -94,30 +94,30 @@ fn placed_check(within: bool, checked: Checked) -> Checked
 }
 
 // The place after the stop at a place: max is the last.
-fn place_of(at: RowPlace) -> Place
-    ensures { λ r. ⌜ r ≡ placeOf at ⌝ }
+fn place_of(at: RowPlace) -> ListPlace
+    ensures { λ r. ⌜ r ≡ listPlaceOf at ⌝ }
 {
     let row = at.row;
     if row < Sampler::CELLS {
-        return Place::After {
+        return ListPlace::After {
             row,
             index: at.index,
         };
     }
-    Place::Ended
+    ListPlace::Ended
 }
 
 // The stop at p, after the one at `last`, is handed out or refused; there is room for one stop, and so no 7.
 fn hand_out(last: f32, p: Point, tried: usize, at: RowPlace) -> Handed
     requires { ⌜ tried ≤ recordLength ⌝ }
-    ensures { λ r. ⌜ r ≡ handedBy (stopRefusal 1 0 last (p .t) (p .colour)) (stopOf (p .t) (p .colour)) (3 * tried + 1) (placeOf at) ⌝ }
+    ensures { λ r. ⌜ r ≡ handedBy (stopRefusal 1 0 last (p .t) (p .colour)) (stopWith (p .t) (p .colour)) (3 * tried + 1) (listPlaceOf at) ⌝ }
 {
     let refusal = stop_refusal(1, 0, last, p.t, p.colour);
     if refusal != 0 {
         return Handed {
             told: Told::Refused(refusal),
             evaluations: 0,
-            place: Place::Ended,
+            place: ListPlace::Ended,
         };
     }
     let colour = p.colour;
@@ -142,24 +142,24 @@ fn step_from(
     max: f32,
     rows: &[f32],
     counts: &[u8],
-    place: Place,
+    place: ListPlace,
 ) -> Handed
     requires { ⌜ Ready (now rows) (now counts) × (checkOf (rampIn kind positions channels codes) ≡ Fine) ⌝ }
     requires { ⌜ isWithin (now counts) place ≡ true ⌝ }
     ensures { λ r. ⌜ r ≡ handedFrom (colourOf (lentRamp kind positions channels codes)) (exceeds cutoff) (old rows) (old counts) max place ⌝ }
 {
     match place {
-        Place::Ended => Handed {
+        ListPlace::Ended => Handed {
             told: Told::Ended,
             evaluations: 0,
-            place: Place::Ended,
+            place: ListPlace::Ended,
         },
-        Place::Start => {
+        ListPlace::Start => {
             let at = RowPlace { row: 0, index: 0 };
             let p = lone_point(kind, positions, channels, codes, point_at(rows, max, at));
             hand_out(p.t, p, 0, at)
         }
-        Place::After { row, index } => {
+        ListPlace::After { row, index } => {
             let at = RowPlace { row, index };
             let f = find(
                 kind,
@@ -190,7 +190,7 @@ pub fn next_stop(
     rows: &[f32],
     counts: &[u8],
     marks: &[u32],
-    place: Place,
+    place: ListPlace,
 ) -> Handed
     ensures { λ r. ⌜ HandsOut (lentRamp kind positions channels codes) threshold (lentHeld rows counts marks .entry) place r ⌝ }
 {

@@ -13,8 +13,8 @@ use lib.Ieee.Fits.{down-pos}
 use lib.Ieee.Nearest.{closest, closest-same}
 use lib.Ieee.Positive.{above}
 use borrow.Author.Tests.{ltb-true, ltb-false, le-leb, lt-leb}
-use Rattle.numerals.specs.Written.{signed, nine, places, plain, inRange, textOf}
-use Rattle.numerals.proofs.Trip.{Ranged, ranged}
+use Rattle.numerals.specs.Written.{signed, nine, places, plainDecimal, inRange, textOf}
+use Rattle.numerals.proofs.Ranged.{Ranged, ranged}
 use Rattle.numerals.specs.Steps.{withSign, Ranging}
 
 -- ---- the text, inside the range and out of it
@@ -102,7 +102,7 @@ module _ (num den m d : ℕ) (dp : 0 < den) (ep : 0 < d) (same : num * d ≡ m *
   unfolding nine
   nine-same =
       ap (λ (k : ℕ). nine num den k) (places-same 15 0)
-      ∙ ap (λ (x : ℕ). cond (eqb x (10 ^ 9)) (plain (10 ^ 8) (places 15 m d 0 - 1)) (plain x (places 15 m d 0)))
+      ∙ ap (λ (x : ℕ). cond (eqb x (10 ^ 9)) (plainDecimal (10 ^ 8) (places 15 m d 0 - 1)) (plainDecimal x (places 15 m d 0)))
       (closest-same (num * 10 ^ places 15 m d 0) den (m * 10 ^ places 15 m d 0) d dp ep (cross (10 ^ places 15 m d 0)))
 
 -- ---- what the code takes from the bits b

@@ -4,6 +4,10 @@ pub mod Put
 pub mod Texts
 pub mod Scale
 pub mod Near
+pub mod Halves
+pub mod TakenPlaces
+pub mod OwnDigits
+pub mod Ranged
 pub mod Trip
 pub mod Above
 pub mod Signs

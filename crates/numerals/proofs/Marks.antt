@@ -9,7 +9,7 @@ use lib.Dec.{leb, eqb}
 use lib.ListN.{length, length-append}
 use lib.Ieee.{Float, nan, inf, fin, up, down}
 use lib.Ieee.Nearest.{closest}
-use Rattle.numerals.specs.Written.{digits, plain, places, nine, inRange, writable, signed, textOf}
+use Rattle.numerals.specs.Written.{digits, plainDecimal, places, nine, inRange, writable, signed, textOf}
 use Rattle.numerals.proofs.Put.{plain-length}
 
 -- ---- every byte is a digit, the point or the sign: none of them is white space
@@ -27,8 +27,8 @@ unfolding Marks digits
 marks-digits zero x = tt
 marks-digits (suc w) x = (omega arith, omega arith, marks-digits w x)
 
-marks-plain : (d k : ℕ) → Marks (plain d k)
-unfolding Marks plain
+marks-plain : (d k : ℕ) → Marks (plainDecimal d k)
+unfolding Marks plainDecimal
 marks-plain d k = marks-append (digits (max 1 (9 - k)) (d / 10 ^ k)) (46 ∷ digits k d) (marks-digits (max 1 (9 - k)) (d / 10 ^ k)) (omega arith, omega arith, marks-digits k d)
 
 marks-signed : (s : Bool) (t : List ℕ) → Marks t → Marks (signed s t)
@@ -47,16 +47,16 @@ places-few (suc f) num den from = go (leb (10 ^ 8 * den) (num * 10 ^ from)) (pla
     go false h = omega arith
 
 -- a property of every plain decimal of at most 15 places is one of every text of nine digits
-of-nine : (P : List ℕ → Type 0) → ((d k : ℕ) → k ≤ 15 → P (plain d k)) → (num den k : ℕ) → k ≤ 15 → P (nine num den k)
+of-nine : (P : List ℕ → Type 0) → ((d k : ℕ) → k ≤ 15 → P (plainDecimal d k)) → (num den k : ℕ) → k ≤ 15 → P (nine num den k)
 unfolding nine
 of-nine P h num den k l = go (eqb (closest (num * 10 ^ k) den) (10 ^ 9))
   where
-    go : (b : Bool) → P (cond b (plain (10 ^ 8) (k - 1)) (plain (closest (num * 10 ^ k) den) k))
+    go : (b : Bool) → P (cond b (plainDecimal (10 ^ 8) (k - 1)) (plainDecimal (closest (num * 10 ^ k) den) k))
     go true = h (10 ^ 8) (k - 1) (omega arith)
     go false = h (closest (num * 10 ^ k) den) k l
 
 -- ---- of a text: none, zero, or nine digits after the sign
-of-text : (P : List ℕ → Type 0) → P [] → ((s : Bool) → P (signed s (48 ∷ []))) → ((s : Bool) (d k : ℕ) → k ≤ 15 → P (signed s (plain d k))) → (x : Float) → P (textOf x)
+of-text : (P : List ℕ → Type 0) → P [] → ((s : Bool) → P (signed s (48 ∷ []))) → ((s : Bool) (d k : ℕ) → k ≤ 15 → P (signed s (plainDecimal d k))) → (x : Float) → P (textOf x)
 unfolding textOf
 of-text P n z h nan = n
 of-text P n z h (inf s) = n
@@ -69,10 +69,10 @@ of-text P n z h (fin s (suc m) e) = go (inRange (suc m * up e) (down e))
 
 pub text-marks : (x : Float) → Marks (textOf x)
 unfolding Marks
-text-marks x = of-text Marks tt (λ s. marks-signed s (48 ∷ []) (omega arith, omega arith, tt)) (λ s d k l. marks-signed s (plain d k) (marks-plain d k)) x
+text-marks x = of-text Marks tt (λ s. marks-signed s (48 ∷ []) (omega arith, omega arith, tt)) (λ s d k l. marks-signed s (plainDecimal d k) (marks-plain d k)) x
 
 -- ---- how long
-plain-short : (d k : ℕ) → k ≤ 15 → length (plain d k) ≤ 17
+plain-short : (d k : ℕ) → k ≤ 15 → length (plainDecimal d k) ≤ 17
 plain-short d k h = let m : max 1 (9 - k) ≤ 16 - k = max-le (omega arith) (omega arith) in omega (arith, plain-length d k)
 
 signed-short : (s : Bool) (t : List ℕ) → length t ≤ 17 → length (signed s t) ≤ 18
@@ -81,7 +81,7 @@ signed-short true t h = omega arith
 signed-short false t h = omega arith
 
 pub text-short : (x : Float) → length (textOf x) ≤ 18
-text-short x = of-text (λ t. length t ≤ 18) (omega arith) (λ s. signed-short s (48 ∷ []) (omega arith)) (λ s d k l. signed-short s (plain d k) (plain-short d k l)) x
+text-short x = of-text (λ t. length t ≤ 18) (omega arith) (λ s. signed-short s (48 ∷ []) (omega arith)) (λ s d k l. signed-short s (plainDecimal d k) (plain-short d k l)) x
 
 signed-some : (s : Bool) (t : List ℕ) → 0 < length t → 0 < length (signed s t)
 unfolding signed

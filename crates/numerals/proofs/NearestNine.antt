@@ -12,12 +12,13 @@ use lib.Pow.{pow-add}
 use lib.Ieee.{nearest}
 use lib.Ieee.Nearest.{closest, closest-mono}
 use Rattle.decimal.proofs.Scale.{ten-le}
-use Rattle.numerals.specs.Written.{places, plain, nine, signed}
-use Rattle.numerals.specs.Nearest.{far, NearestNine}
+use Rattle.numerals.specs.Written.{places, plainDecimal, nine, signed}
+use Rattle.numerals.specs.Nearest.{decimalGap, NearestNine}
 use Rattle.decimal.specs.Form.{Form}
 use Rattle.numerals.proofs.Tens.{ten-pos}
 use Rattle.numerals.proofs.Texts.{plain-form}
-use Rattle.numerals.proofs.Trip.{Cmp, cmp, Within, closest-half, Places, places-are, few, tenfold, ten-back}
+use Rattle.numerals.proofs.Halves.{Cmp, cmp, Within, closest-half}
+use Rattle.numerals.proofs.TakenPlaces.{Places, places-are, few, tenfold, ten-back}
 
 -- ---- the whole number nearest to a / b: no other is nearer, and where one is as near, it is even
 abbrev apart : ℕ → ℕ → ℕ
@@ -107,7 +108,7 @@ module _ (num den k : ℕ) (some : 0 < den) (reach : 10 ^ 8 * den ≤ num * 10 ^
   d = closest (num * 10 ^ k) den
 
   -- more places
-  finer : (e j : ℕ) → e < 10 ^ 9 → k < j → far num den (10 ^ 8) k * 10 ^ j < far num den e j * 10 ^ k
+  finer : (e j : ℕ) → e < 10 ^ 9 → k < j → decimalGap num den (10 ^ 8) k * 10 ^ j < decimalGap num den e j * 10 ^ k
   finer e j h l = fine-far (num * 10 ^ k) (10 ^ 8 * den) (num * 10 ^ j) (e * den) (10 ^ k) (10 ^ j) (mul-right-comm num (10 ^ j) (10 ^ k)) reach under
     where
       more : 10 ^ k * 10 ≤ 10 ^ j
@@ -119,27 +120,27 @@ module _ (num den k : ℕ) (some : 0 < den) (reach : 10 ^ 8 * den ≤ num * 10 ^
           let b : den * (10 ^ k * 10) ≤ den * 10 ^ j = mul-le-mul-left den more in
           omega arith
 
-  pub all-least : (e j : ℕ) → e < 10 ^ 9 → far num den d k * 10 ^ j ≤ far num den e j * 10 ^ k
+  pub all-least : (e j : ℕ) → e < 10 ^ 9 → decimalGap num den d k * 10 ^ j ≤ decimalGap num den e j * 10 ^ k
   all-least e j h = go (leb j k) (leb→le j k) (nleb→lt j k)
     where
-      go : (b : Bool) → (T b → j ≤ k) → (T (not b) → k < j) → far num den d k * 10 ^ j ≤ far num den e j * 10 ^ k
+      go : (b : Bool) → (T b → j ≤ k) → (T (not b) → k < j) → decimalGap num den d k * 10 ^ j ≤ decimalGap num den e j * 10 ^ k
       go true f g = fewer (k - j) (split j k (f tt))
         where
           split : (x y : ℕ) → x ≤ y → y ≡ x + (y - x)
           split x y l = omega arith
 
-          fewer : (i : ℕ) → k ≡ j + i → far num den d k * 10 ^ j ≤ far num den e j * 10 ^ k
+          fewer : (i : ℕ) → k ≡ j + i → decimalGap num den d k * 10 ^ j ≤ decimalGap num den e j * 10 ^ k
           fewer i s =
               let p : 10 ^ k ≡ 10 ^ j * 10 ^ i = ap (λ (x : ℕ). 10 ^ x) s ∙ pow-add 10 j i in
               let w = whole-least (num * 10 ^ k) den some (e * 10 ^ i) in
               let z = far-scaled num den e j (10 ^ i) (10 ^ k) (10 ^ j) p in
-              le-trans (mul-le-mul-right (10 ^ j) (le-trans w (le-of-eq z))) (le-of-eq (mul-assoc (far num den e j) (10 ^ i) (10 ^ j) ∙ ap (λ (x : ℕ). far num den e j * x) (mul-comm (10 ^ i) (10 ^ j) ∙ sym p)))
+              le-trans (mul-le-mul-right (10 ^ j) (le-trans w (le-of-eq z))) (le-of-eq (mul-assoc (decimalGap num den e j) (10 ^ i) (10 ^ j) ∙ ap (λ (x : ℕ). decimalGap num den e j * x) (mul-comm (10 ^ i) (10 ^ j) ∙ sym p)))
       go false f g = le-trans (mul-le-mul-right (10 ^ j) (whole-least (num * 10 ^ k) den some (10 ^ 8))) (weaker (finer e j h (g tt)))
         where
           weaker : {x y : ℕ} → x < y → x ≤ y
           weaker l = omega arith
 
-  pub all-even : (e j : ℕ) → e < 10 ^ 9 → far num den e j * 10 ^ k ≡ far num den d k * 10 ^ j → (e * 10 ^ k ≡ d * 10 ^ j → ⊥) → d % 2 ≡ 0
+  pub all-even : (e j : ℕ) → e < 10 ^ 9 → decimalGap num den e j * 10 ^ k ≡ decimalGap num den d k * 10 ^ j → (e * 10 ^ k ≡ d * 10 ^ j → ⊥) → d % 2 ≡ 0
   all-even e j h eq n = go (leb j k) (leb→le j k) (nleb→lt j k)
     where
       go : (b : Bool) → (T b → j ≤ k) → (T (not b) → k < j) → d % 2 ≡ 0
@@ -153,13 +154,13 @@ module _ (num den k : ℕ) (some : 0 < den) (reach : 10 ^ 8 * den ≤ num * 10 ^
               let p : 10 ^ k ≡ 10 ^ j * 10 ^ i = ap (λ (x : ℕ). 10 ^ x) s ∙ pow-add 10 j i in
               let z = far-scaled num den e j (10 ^ i) (10 ^ k) (10 ^ j) p in
               whole-even (num * 10 ^ k) den some (e * 10 ^ i)
-              (z ∙ cancel (far num den e j) (10 ^ i) (10 ^ j) (far num den d k) (ten-pos j) (sym (ap (λ (x : ℕ). far num den e j * x) p) ∙ eq))
+              (z ∙ cancel (decimalGap num den e j) (10 ^ i) (10 ^ j) (decimalGap num den d k) (ten-pos j) (sym (ap (λ (x : ℕ). decimalGap num den e j * x) p) ∙ eq))
               (λ (y : e * 10 ^ i ≡ d). n (ap (λ (x : ℕ). e * x) (p ∙ mul-comm (10 ^ j) (10 ^ i)) ∙ sym (mul-assoc e (10 ^ i) (10 ^ j)) ∙ ap (λ (x : ℕ). x * 10 ^ j) y))
             where
               cancel : (x t q y : ℕ) → 0 < q → x * (q * t) ≡ y * q → x * t ≡ y
               cancel x t q y pos e = eq-of-mul-eq-mul-right q pos (x * t) y (mul-assoc x t q ∙ ap (λ (z : ℕ). x * z) (mul-comm t q) ∙ e)
       go false f g =
-          absurd (clash (far num den d k * 10 ^ j) (far num den (10 ^ 8) k * 10 ^ j) (far num den e j * 10 ^ k)
+          absurd (clash (decimalGap num den d k * 10 ^ j) (decimalGap num den (10 ^ 8) k * 10 ^ j) (decimalGap num den e j * 10 ^ k)
           (mul-le-mul-right (10 ^ j) (whole-least (num * 10 ^ k) den some (10 ^ 8))) (finer e j h (g tt)) eq)
         where
           clash : (x y z : ℕ) → x ≤ y → y < z → z ≡ x → ⊥
@@ -208,20 +209,20 @@ module _ (s : Bool) (num den : ℕ) (some : 0 < den) (low : 8796093 * den ≤ nu
   carried e = record {
     least-digits = lit≤ tt;
     most-digits = lit< tt;
-    least = λ e j h. less (far num den (10 ^ 8) (k-of - 1)) (far num den e j) (10 ^ j) (10 ^ (k-of - 1)) (moved e j h);
+    least = λ e j h. less (decimalGap num den (10 ^ 8) (k-of - 1)) (decimalGap num den e j) (10 ^ j) (10 ^ (k-of - 1)) (moved e j h);
     even = λ e j h f n. refl;
   }
     where
       ten : 10 ^ k-of ≡ 10 ^ (k-of - 1) * 10
       ten = ten-back k-of some-place
 
-      same : far num den d-of k-of ≡ far num den (10 ^ 8) (k-of - 1) * 10
+      same : decimalGap num den d-of k-of ≡ decimalGap num den (10 ^ 8) (k-of - 1) * 10
       same =
-          ap (λ (x : ℕ). far num den x k-of) e
+          ap (λ (x : ℕ). decimalGap num den x k-of) e
           ∙ far-scaled num den (10 ^ 8) (k-of - 1) 10 (10 ^ k-of) (10 ^ (k-of - 1)) ten
 
-      moved : (e j : ℕ) → e < 10 ^ 9 → far num den (10 ^ 8) (k-of - 1) * 10 * 10 ^ j ≤ far num den e j * (10 ^ (k-of - 1) * 10)
-      moved e j h = le-trans (le-of-eq (ap (λ (x : ℕ). x * 10 ^ j) (sym same))) (le-trans (all-least num den k-of some (taken .reach) e j h) (le-of-eq (ap (λ (x : ℕ). far num den e j * x) ten)))
+      moved : (e j : ℕ) → e < 10 ^ 9 → decimalGap num den (10 ^ 8) (k-of - 1) * 10 * 10 ^ j ≤ decimalGap num den e j * (10 ^ (k-of - 1) * 10)
+      moved e j h = le-trans (le-of-eq (ap (λ (x : ℕ). x * 10 ^ j) (sym same))) (le-trans (all-least num den k-of some (taken .reach) e j h) (le-of-eq (ap (λ (x : ℕ). decimalGap num den e j * x) ten)))
 
       less : (x y q p : ℕ) → x * 10 * q ≤ y * (p * 10) → x * q ≤ y * p
       less x y q p h = omega arith
@@ -233,6 +234,6 @@ module _ (s : Bool) (num den : ℕ) (some : 0 < den) (low : 8796093 * den ≤ nu
       top : (k : ℕ) → k ≤ 15 → k - 1 ≤ 15
       top k h = omega arith
 
-      go : (b : Bool) → (T b → d-of ≡ 10 ^ 9) → (d-of ≡ 10 ^ 9 → T b) → NineText (signed s (cond b (plain (10 ^ 8) (k-of - 1)) (plain d-of k-of))) s num den
+      go : (b : Bool) → (T b → d-of ≡ 10 ^ 9) → (d-of ≡ 10 ^ 9 → T b) → NineText (signed s (cond b (plainDecimal (10 ^ 8) (k-of - 1)) (plainDecimal d-of k-of))) s num den
       go true h i = record { d = 10 ^ 8; k = k-of - 1; form = plain-form s (10 ^ 8) (k-of - 1) (lit< tt) (top k-of (taken .last)); nearest = carried (h tt) }
       go false h i = record { d = d-of; k = k-of; form = plain-form s d-of k-of (lt-of-le-ne d-le i) (taken .last); nearest = plain-nine i }

@@ -9,7 +9,7 @@ use lib.ListN.{length, take, drop, set, replicate, length-append, length-drop, t
 use lib.Seq.{sets, sets-eq, length-take-le}
 use native.Mathlib.Numerals.{add-one}
 use Rattle.slices.proofs.Stores.{sets-append}
-use Rattle.numerals.specs.Written.{digits, plain, signed, TextIs}
+use Rattle.numerals.specs.Written.{digits, plainDecimal, signed, TextIs}
 
 -- a store just before the seam
 set-seam : (o t : List ℕ) (n v : ℕ) → n < length o → set (take (suc n) o ++ t) n v ≡ take n o ++ (v ∷ t)
@@ -82,8 +82,8 @@ module _ (o : List ℕ) (at w x : ℕ) (out : List ℕ) (i y : ℕ) (fits : at +
 
 -- ---- digits, the point, digits
 pub plain-is : (o o1 o3 : List ℕ) (at w k d ten : ℕ) → o1 ≡ sets o at (digits w (d / ten)) → o3 ≡ sets (set o1 (at + w) 46) (at + w + 1) (digits k d) → ten ≡ 10 ^ k → w ≡ max 1 (9 - k)
-    → o3 ≡ sets o at (plain d k)
-unfolding plain
+    → o3 ≡ sets o at (plainDecimal d k)
+unfolding plainDecimal
 plain-is o o1 o3 at w k d ten e f t g =
     let q = digits w (d / ten) in
     f
@@ -94,8 +94,8 @@ plain-is o o1 o3 at w k d ten e f t g =
     ∙ ap (λ (n : ℕ). sets o at (digits n (d / ten) ++ (46 ∷ digits k d))) g
     ∙ ap (λ (n : ℕ). sets o at (digits (max 1 (9 - k)) (d / n) ++ (46 ∷ digits k d))) t
 
-pub plain-length : (d k : ℕ) → length (plain d k) ≡ max 1 (9 - k) + 1 + k
-unfolding plain
+pub plain-length : (d k : ℕ) → length (plainDecimal d k) ≡ max 1 (9 - k) + 1 + k
+unfolding plainDecimal
 plain-length d k =
     length-append (digits (max 1 (9 - k)) (d / 10 ^ k)) (46 ∷ digits k d)
     ∙ omega (arith, digits-length (max 1 (9 - k)) (d / 10 ^ k), digits-length k d)
@@ -128,14 +128,14 @@ text-as t u bytes len e h = subst (λ (x : List ℕ). TextIs x bytes len) e h
 short : (k n : ℕ) → k ≤ 15 → n ≡ max 1 (9 - k) + 1 + k → n ≤ 17
 short k n h e = let m : max 1 (9 - k) ≤ 16 - k = max-le (omega arith) (omega arith) in omega arith
 
-pub minus-put : (s : Bool) (d k len : ℕ) (u bytes : List ℕ) → s ≡ true → u ≡ plain d k → k ≤ 15 → len ≡ 1 + length (plain d k) → bytes ≡ sets (set (replicate 18 0) 0 45) 1 (plain d k) → TextIs (signed s u) bytes len
+pub minus-put : (s : Bool) (d k len : ℕ) (u bytes : List ℕ) → s ≡ true → u ≡ plainDecimal d k → k ≤ 15 → len ≡ 1 + length (plainDecimal d k) → bytes ≡ sets (set (replicate 18 0) 0 45) 1 (plainDecimal d k) → TextIs (signed s u) bytes len
 unfolding signed
 minus-put s d k len u bytes e f h l b =
-    text-as (45 ∷ plain d k) (signed s u) bytes len (sym (ap (λ (b : Bool). signed b u) e ∙ ap (λ (l : List ℕ). 45 ∷ l) f))
-    (text-put (45 ∷ plain d k) bytes len (omega (arith, short k (length (plain d k)) h (plain-length d k))) (omega arith) b)
+    text-as (45 ∷ plainDecimal d k) (signed s u) bytes len (sym (ap (λ (b : Bool). signed b u) e ∙ ap (λ (l : List ℕ). 45 ∷ l) f))
+    (text-put (45 ∷ plainDecimal d k) bytes len (omega (arith, short k (length (plainDecimal d k)) h (plain-length d k))) (omega arith) b)
 
-pub plus-put : (s : Bool) (d k len : ℕ) (u bytes : List ℕ) → s ≡ false → u ≡ plain d k → k ≤ 15 → len ≡ 0 + length (plain d k) → bytes ≡ sets (replicate 18 0) 0 (plain d k) → TextIs (signed s u) bytes len
+pub plus-put : (s : Bool) (d k len : ℕ) (u bytes : List ℕ) → s ≡ false → u ≡ plainDecimal d k → k ≤ 15 → len ≡ 0 + length (plainDecimal d k) → bytes ≡ sets (replicate 18 0) 0 (plainDecimal d k) → TextIs (signed s u) bytes len
 unfolding signed
 plus-put s d k len u bytes e f h l b =
-    text-as (plain d k) (signed s u) bytes len (sym (ap (λ (b : Bool). signed b u) e ∙ f))
-    (text-put (plain d k) bytes len (omega (arith, short k (length (plain d k)) h (plain-length d k))) (l ∙ zero-add (length (plain d k))) b)
+    text-as (plainDecimal d k) (signed s u) bytes len (sym (ap (λ (b : Bool). signed b u) e ∙ f))
+    (text-put (plainDecimal d k) bytes len (omega (arith, short k (length (plainDecimal d k)) h (plain-length d k))) (l ∙ zero-add (length (plainDecimal d k))) b)

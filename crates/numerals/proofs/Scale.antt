@@ -9,7 +9,7 @@ use lib.Dec.{leb, eqb, lit<, lit≤}
 use lib.Pow.{pow-add, pow-pos, pow-mono, shl-exact}
 use lib.Ieee.Nearest.{closest, closest-same}
 use borrow.Author.Tests.{le-leb, lt-leb, ne-eqb}
-use Rattle.numerals.specs.Written.{places, nine, plain}
+use Rattle.numerals.specs.Written.{places, nine, plainDecimal}
 use Rattle.numerals.specs.Steps.{Nines, Settled}
 use Rattle.decimal.proofs.Scale.{ten-is}
 use Rattle.numerals.proofs.Tens.{ten-more}
@@ -162,8 +162,8 @@ module _ (m shift d k ten : ℕ) (h : Nines m shift d k ten) where
   unfolding nine
   settled-ten l e = record {
     text-is =
-        ap (λ (x : ℕ). cond (eqb (closest (m * 10 ^ x) (2 ^ shift)) (10 ^ 9)) (plain (10 ^ 8) (x - 1)) (plain (closest (m * 10 ^ x) (2 ^ shift)) x)) (sym (h .places-are))
-        ∙ ap (λ (x : ℕ). cond (eqb x (10 ^ 9)) (plain (10 ^ 8) (k - 1)) (plain x k)) (sym (h .nearest) ∙ e);
+        ap (λ (x : ℕ). cond (eqb (closest (m * 10 ^ x) (2 ^ shift)) (10 ^ 9)) (plainDecimal (10 ^ 8) (x - 1)) (plainDecimal (closest (m * 10 ^ x) (2 ^ shift)) x)) (sym (h .places-are))
+        ∙ ap (λ (x : ℕ). cond (eqb x (10 ^ 9)) (plainDecimal (10 ^ 8) (k - 1)) (plainDecimal x k)) (sym (h .nearest) ∙ e);
     few = less (h .few);
     power =
         ap (λ (x : ℕ). x / 10) (h .power ∙ ap (λ (x : ℕ). 10 ^ x) (back l) ∙ ten-more (k - 1))
@@ -180,9 +180,9 @@ module _ (m shift d k ten : ℕ) (h : Nines m shift d k ten) where
   unfolding nine
   settled-nine e = record {
     text-is =
-        ap (λ (x : ℕ). cond (eqb (closest (m * 10 ^ x) (2 ^ shift)) (10 ^ 9)) (plain (10 ^ 8) (x - 1)) (plain (closest (m * 10 ^ x) (2 ^ shift)) x)) (sym (h .places-are))
-        ∙ ap (λ (x : ℕ). cond (eqb x (10 ^ 9)) (plain (10 ^ 8) (k - 1)) (plain x k)) (sym (h .nearest))
-        ∙ ap (λ (b : Bool). cond b (plain (10 ^ 8) (k - 1)) (plain d k)) (ne-eqb d (10 ^ 9) e);
+        ap (λ (x : ℕ). cond (eqb (closest (m * 10 ^ x) (2 ^ shift)) (10 ^ 9)) (plainDecimal (10 ^ 8) (x - 1)) (plainDecimal (closest (m * 10 ^ x) (2 ^ shift)) x)) (sym (h .places-are))
+        ∙ ap (λ (x : ℕ). cond (eqb x (10 ^ 9)) (plainDecimal (10 ^ 8) (k - 1)) (plainDecimal x k)) (sym (h .nearest))
+        ∙ ap (λ (b : Bool). cond b (plainDecimal (10 ^ 8) (k - 1)) (plainDecimal d k)) (ne-eqb d (10 ^ 9) e);
     few = h .few;
     power = h .power;
   }

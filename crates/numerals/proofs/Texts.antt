@@ -14,7 +14,7 @@ use Rattle.decimal.specs.Decimal.{areDigits, valueAfter}
 use Rattle.decimal.specs.Form.{Sign, none, minus, Rest, point, Form}
 use Rattle.decimal.proofs.Parts.{value-split, digit}
 use Rattle.decimal.proofs.Scale.{ten-le}
-use Rattle.numerals.specs.Written.{digits, plain, signed}
+use Rattle.numerals.specs.Written.{digits, plainDecimal, signed}
 use Rattle.numerals.proofs.Put.{digits-length}
 use Rattle.numerals.proofs.Tens.{ten-pos}
 
@@ -69,8 +69,8 @@ module _ (w d k : ℕ) (l : d / 10 ^ k < 10 ^ w) where
       }
 
 -- what is written of d / 10 ^ k has the form of a token, and writes that number
-pub plain-form : (s : Bool) (d k : ℕ) → d < 10 ^ 9 → k ≤ 15 → Form (signed s (plain d k)) s d k
-unfolding plain signed
+pub plain-form : (s : Bool) (d k : ℕ) → d < 10 ^ 9 → k ≤ 15 → Form (signed s (plainDecimal d k)) s d k
+unfolding plainDecimal signed
 plain-form s d k l h = go (max 1 (9 - k)) (le-max-left 1 (9 - k)) (le-max-right 1 (9 - k)) (max-le (one k h) (rest k))
   where
     one : (x : ℕ) → x ≤ 15 → 1 ≤ 18 - x

@@ -4,7 +4,7 @@ use Prim.Native.Nat.{ℕ, _*_, _^_, _≤_, _<_}
 use mathlib.Core.Bool.{Bool, true, false}
 use lib.Ieee.{Float, neg}
 use lib.Ieee.Nearest.{closest}
-use Rattle.numerals.specs.Written.{places, nine, plain}
+use Rattle.numerals.specs.Written.{places, nine, plainDecimal}
 
 -- x with its sign changed where neg
 abbrev pub withSign : Bool → Float → Float
@@ -28,6 +28,6 @@ pub record Nines (m shift d k ten : ℕ) : Type 0 where
 
 -- the text of m / 2 ^ shift is d / 10 ^ k written out
 pub record Settled (m shift d k ten : ℕ) : Type 0 where
-  pub text-is : nine m (2 ^ shift) (places 15 m (2 ^ shift) 0) ≡ plain d k
+  pub text-is : nine m (2 ^ shift) (places 15 m (2 ^ shift) 0) ≡ plainDecimal d k
   pub few : k ≤ 15
   pub power : ten ≡ 10 ^ k

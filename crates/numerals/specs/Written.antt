@@ -17,8 +17,8 @@ digits zero x = []
 digits (suc w) x = (48 + x / 10 ^ w % 10) ∷ digits w x
 
 -- d / 10 ^ k in plain decimal, for a d of nine digits
-unfoldable pub plain : ℕ → ℕ → List ℕ
-plain d k = digits (max 1 (9 - k)) (d / 10 ^ k) ++ (46 ∷ digits k d)
+unfoldable pub plainDecimal : ℕ → ℕ → List ℕ
+plainDecimal d k = digits (max 1 (9 - k)) (d / 10 ^ k) ++ (46 ∷ digits k d)
 
 -- how many places after the point make nine digits of num / den: the first k from `from` on, at most f more, with 10 ^ 8 ≤ num / den * 10 ^ k
 unfoldable pub places : ℕ → ℕ → ℕ → ℕ → ℕ
@@ -29,7 +29,7 @@ places (suc f) num den from =
 
 -- num / den to the nearest number of k places, a tie to the even one; where that has ten digits, it is 10 ^ 9 / 10 ^ k, and one place goes
 unfoldable pub nine : ℕ → ℕ → ℕ → List ℕ
-nine num den k = cond (eqb (closest (num * 10 ^ k) den) (10 ^ 9)) (plain (10 ^ 8) (k - 1)) (plain (closest (num * 10 ^ k) den) k)
+nine num den k = cond (eqb (closest (num * 10 ^ k) den) (10 ^ 9)) (plainDecimal (10 ^ 8) (k - 1)) (plainDecimal (closest (num * 10 ^ k) den) k)
 
 -- ---- a number
 

@@ -5,7 +5,7 @@ ghost use lib.ListN.{length, replicate};
 ghost use lib.Seq.{sets};
 ghost use lib.Dec.{T};
 ghost use lib.Ieee.Positive.{above};
-ghost use Rattle.numerals.specs.Written.{digits, plain, nine, places, signed, writable, textOf, TextIs};
+ghost use Rattle.numerals.specs.Written.{digits, plainDecimal, nine, places, signed, writable, textOf, TextIs};
 ghost use Rattle.numerals.specs.Steps.{withSign, Ranging, Nines, Settled};
 
 // The smallest and the greatest magnitude that can be written.
@@ -153,7 +153,7 @@ fn nine_of(m: u64, shift: u64) -> Nine
 // d / 10 ^ k, at `at`; where the text ends.
 fn put_plain(out: &mut [u8], at: usize, d: u64, k: usize, ten: u64) -> usize
     requires { ⌜ (at ≤ 1) × ((length (now out) ≡ 18) × ((k ≤ 15) × (ten ≡ 10 ^ k))) ⌝ }
-    ensures { λ r. ⌜ (r ≡ at + length (plain d k)) × (now (out .exit) ≡ sets (now (out .entry)) at (plain d k)) ⌝ }
+    ensures { λ r. ⌜ (r ≡ at + length (plainDecimal d k)) × (now (out .exit) ≡ sets (now (out .entry)) at (plainDecimal d k)) ⌝ }
 {
     let w = width(k);
     put_digits(out, at, w, d / ten);

@@ -21,7 +21,7 @@ use Rattle.gradient.specs.Ramp.{isGimp, minIn, maxIn, minOf, maxOf}
 use Rattle.gradient.proofs.Valid.{valid}
 use Rattle.sampling.specs.Constants.{farthest}
 use Rattle.reach.specs.KeptCells.{isDomain}
-use Rattle.sharp_ramp.specs.Sharp.{bandAt, insetOf, sharpPositions, channelAt, sharpChannels, bands, buildOf}
+use Rattle.sharp_ramp.specs.Sharp.{bandAt, insetOf, sharpPositions, bandChannel, sharpChannels, bands, buildOf}
 use Rattle.sharp_ramp.specs.declared.Built.the-variants.{Stops}
 use Rattle.sharp_ramp.proofs.Filling.{listed-at}
 use Rattle.sharp_ramp.proofs.Laws.{room as whole-colours, made, length-positions, length-channels}
@@ -124,6 +124,6 @@ module _ (colours : List Float) (min max s : Float) (p c m : ℕ) (built : build
         of-pairs = refl;
         passes = built-passes colours min max s p c m built;
         near = near;
-        within = λ i l. rw (listed-at (channelAt colours) (8 * n) i (omega (arith, length-channels colours n))) (within (4 * (i / 8) + i % 4) (omega (arith, length-channels colours n, r .whole)));
+        within = λ i l. rw (listed-at (bandChannel colours) (8 * n) i (omega (arith, length-channels colours n))) (within (4 * (i / 8) + i % 4) (omega (arith, length-channels colours n, r .whole)));
         places = places;
       }

@@ -36,7 +36,7 @@ use Rattle.paint_segments.proofs.Fitting.{over-fit}
 use Rattle.paint.specs.Canvas.{colourRoom, canvas}
 use Rattle.paint.specs.Promises.{AtIs, PaintIs}
 use Rattle.paint.specs.Within.{stopColour, Paintable}
-use Rattle.paint.specs.declared.Answer.the-variants as answer
+use Rattle.paint.specs.declared.ColourAnswer.the-variants as answer
 use Rattle.paint.specs.declared.Painted.the-variants as painted
 
 -- ---- the answers

@@ -11,17 +11,17 @@ use Rattle.stops.specs.declared.Checked.{Checked}
 use Rattle.stops.specs.declared.Checked.the-variants as checked
 use Rattle.gradient.specs.Ramp.{checkOf, colourOf}
 use Rattle.stops.specs.Answers.{onFine}
-use Rattle.paint.specs.declared.Answer.{Answer}
-use Rattle.paint.specs.declared.Answer.the-variants as answer
+use Rattle.paint.specs.declared.ColourAnswer.{ColourAnswer}
+use Rattle.paint.specs.declared.ColourAnswer.the-variants as answer
 use Rattle.paint.specs.declared.Painted.{Painted}
 use Rattle.paint.specs.declared.Painted.the-variants as painted
 
-abbrev pub numberOfAt : Answer → ℕ
+abbrev pub numberOfAt : ColourAnswer → ℕ
 numberOfAt (answer.Colour c) = 0
 numberOfAt (answer.Refused n) = n
 
 -- the value beside it: a colour, or none; no answer has a line
-abbrev pub coloursOfAt : Answer → List Rgba
+abbrev pub coloursOfAt : ColourAnswer → List Rgba
 coloursOfAt (answer.Colour c) = c ∷ []
 coloursOfAt (answer.Refused n) = []
 
@@ -31,7 +31,7 @@ numberOfPainted (painted.Refused n) = n
 
 module _ (ramp : Ramp) where
   -- the colour at t, or the refusal
-  unfoldable pub atAnswer : Float → Answer
+  unfoldable pub atAnswer : Float → ColourAnswer
   atAnswer t = onFine (checkOf ramp) (answer.Colour (colourOf ramp t)) answer.Refused
 
   -- painting n colours where there is room for so many: 1 to 3, then 7

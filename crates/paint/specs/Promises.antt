@@ -8,11 +8,11 @@ use Rattle.gradient.specs.Ramp.{checkOf, colourOf}
 use Rattle.stops.specs.Answers.{numberOfChecked, onFine}
 use Rattle.paint.specs.Answers.{numberOfAt, coloursOfAt, numberOfPainted, atAnswer, paintCheck, paintAnswer}
 use Rattle.paint.specs.Canvas.{colourRoom, canvas}
-use Rattle.paint.specs.declared.Answer.{Answer}
+use Rattle.paint.specs.declared.ColourAnswer.{ColourAnswer}
 use Rattle.paint.specs.declared.Painted.{Painted}
 
 module _ (ramp : Ramp) where
-  pub record AtIs (t : Float) (r : Answer) : Type 0 where
+  pub record AtIs (t : Float) (r : ColourAnswer) : Type 0 where
     pub number : numberOfAt r ≡ numberOfChecked (checkOf ramp)
     pub colours : coloursOfAt r ≡ onFine (checkOf ramp) (colourOf ramp t ∷ []) (λ n. [])
     pub answer : r ≡ atAnswer ramp t

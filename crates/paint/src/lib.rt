@@ -23,7 +23,7 @@ ghost use Rattle.paint.specs.Within.{stopColour, Paintable};
 mod pairs;
 
 // The colour at t, or the number of the refusal.
-pub enum Answer {
+pub enum ColourAnswer {
     Colour(Rgba),
     Refused(u8),
 }
@@ -34,12 +34,18 @@ pub enum Painted {
     Refused(u8),
 }
 
-pub fn at(kind: Kind, positions: &[f32], channels: &[f32], codes: &[u8], t: f32) -> Answer
+pub fn at(kind: Kind, positions: &[f32], channels: &[f32], codes: &[u8], t: f32) -> ColourAnswer
     ensures { λ r. ⌜ AtIs (lentRamp kind positions channels codes) t r ⌝ }
 {
     match gradient::check(kind, positions, channels, codes) {
-        Checked::Fine => Answer::Colour(gradient::colour_at(kind, positions, channels, codes, t)),
-        Checked::Refused(n) => Answer::Refused(n),
+        Checked::Fine => ColourAnswer::Colour(gradient::colour_at(
+            kind,
+            positions,
+            channels,
+            codes,
+            t,
+        )),
+        Checked::Refused(n) => ColourAnswer::Refused(n),
     }
 }
 

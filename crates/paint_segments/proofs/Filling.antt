@@ -10,13 +10,9 @@ use lib.Ieee.{Float, nan}
 use Rattle.slices.proofs.Stores.{sets-next}
 use Rattle.blend.specs.Channels.{channelsOf, coloursOf}
 use Rattle.blend.specs.declared.Rgba.{Rgba}
+use Rattle.blend.proofs.Channels.{length-colours}
 
 module _ (g : Float → Rgba) where
-  pub length-colours : (ts : List Float) → length (coloursOf g ts) ≡ 4 * length ts
-  unfolding coloursOf
-  length-colours [] = refl
-  length-colours (t ∷ ts) = let h = length-colours ts in omega arith
-
   colours-append : (xs ys : List Float) → coloursOf g (xs ++ ys) ≡ coloursOf g xs ++ coloursOf g ys
   unfolding coloursOf
   colours-append [] ys = refl
@@ -29,7 +25,7 @@ module _ (g : Float → Rgba) where
   module _ (ts out : List Float) (room : 4 * length ts ≤ length out) where
     pub colours-next : (i : ℕ) {c : Rgba} → i < length ts → c ≡ g (getD ts i nan) → sets (coloursOf g (take i ts) ++ drop (4 * i) out) (4 * i) (channelsOf c) ≡ coloursOf g (take (i + 1) ts) ++ drop (4 * (i + 1)) out
     colours-next i {c} h e =
-        sets-next (coloursOf g (take i ts)) (channelsOf c) out (4 * i) (4 * (i + 1)) (length-colours (take i ts) ∙ ap (λ (n : ℕ). 4 * n) (length-take-le i ts (omega arith))) (omega arith) (omega arith)
+        sets-next (coloursOf g (take i ts)) (channelsOf c) out (4 * i) (4 * (i + 1)) (length-colours g (take i ts) ∙ ap (λ (n : ℕ). 4 * n) (length-take-le i ts (omega arith))) (omega arith) (omega arith)
         ∙ ap (λ (r : List Float). r ++ drop (4 * (i + 1)) out)
         (ap (λ (d : Rgba). coloursOf g (take i ts) ++ channelsOf d) e ∙ ap (λ (r : List Float). coloursOf g (take i ts) ++ r) (sym (colours-one (getD ts i nan)))
         ∙ sym (colours-append (take i ts) (getD ts i nan ∷ [])) ∙ ap (coloursOf g) (sym (take-suc ts i nan h) ∙ ap (λ (n : ℕ). take n ts) (sym (add-one i))))

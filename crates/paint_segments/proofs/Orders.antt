@@ -14,7 +14,7 @@ use Rattle.float.proofs.Order.{no-nan-l, not-lt→le}
 use Rattle.stops.specs.Stops.{posAt}
 use Rattle.sharp_ramp.specs.Sharp.{steady}
 use Rattle.sharp_ramp.proofs.Valid.{steady-rising}
-use Rattle.paint_segments.specs.Within.{inOrder, Orderly}
+use Rattle.paint_segments.specs.Within.{segmentsInOrder, Orderly}
 
 zero-is : isNan f0 ≡ false
 unfolding isNan ofBits
@@ -28,25 +28,25 @@ module _ (ps : List Float) where
   abbrev last : Float
   last = posAt ps (length ps - 1)
 
-  pub too-few : length ps < 3 → false ≡ inOrder ps
-  unfolding inOrder
+  pub too-few : length ps < 3 → false ≡ segmentsInOrder ps
+  unfolding segmentsInOrder
   too-few h = simp (lt-leb 3 (length ps) h)
 
   module _ (three : 3 ≤ length ps) where
-    pub below : lt (posAt ps 0) f0 ≡ true → false ≡ inOrder ps
-    unfolding inOrder
+    pub below : lt (posAt ps 0) f0 ≡ true → false ≡ segmentsInOrder ps
+    unfolding segmentsInOrder
     below a = simp (le-leb 3 (length ps) three, a)
 
-    pub above : lt (posAt ps 0) f0 ≡ false → lt f1 last ≡ true → false ≡ inOrder ps
-    unfolding inOrder
+    pub above : lt (posAt ps 0) f0 ≡ false → lt f1 last ≡ true → false ≡ segmentsInOrder ps
+    unfolding segmentsInOrder
     above a b = simp (le-leb 3 (length ps) three, a, b)
 
-    pub by-steps : {r : Bool} → lt (posAt ps 0) f0 ≡ false → lt f1 last ≡ false → r ≡ steady last (inf true) ps → r ≡ inOrder ps
-    unfolding inOrder
+    pub by-steps : {r : Bool} → lt (posAt ps 0) f0 ≡ false → lt f1 last ≡ false → r ≡ steady last (inf true) ps → r ≡ segmentsInOrder ps
+    unfolding segmentsInOrder
     by-steps a b e = e ∙ simp (le-leb 3 (length ps) three, a, b)
 
-  pub in-order : inOrder ps ≡ true → Orderly ps
-  unfolding inOrder
+  pub in-order : segmentsInOrder ps ≡ true → Orderly ps
+  unfolding segmentsInOrder
   in-order h =
       let few = leb 3 (length ps) in
       let low = not (lt (posAt ps 0) f0) in

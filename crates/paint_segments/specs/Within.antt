@@ -26,8 +26,8 @@ pub record Fits (ps cs : List Float) (ks : List ℕ) (ts out : List Float) : Typ
   pub room : 4 * length ts ≤ length out
 
 -- the positions of segments in order, by the test that painting makes: three positions or more, the first not below 0, the last not above 1, and none below the one before it
-unfoldable pub inOrder : List Float → Bool
-inOrder ps =
+unfoldable pub segmentsInOrder : List Float → Bool
+segmentsInOrder ps =
     let last = posAt ps (length ps - 1) in
     leb 3 (length ps) && (not (lt (posAt ps 0) f0) && (not (lt f1 last) && steady last (inf true) ps))
 

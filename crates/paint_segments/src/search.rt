@@ -5,14 +5,14 @@ ghost use mathlib.Core.Bool.{true};
 ghost use Prim.Native.Nat.{_≤_, _<_};
 ghost use Rattle.stops.specs.Lent.{old};
 ghost use Rattle.gradient.specs.Gimp.{segments, leftAt, rightAt, segmentFound};
-ghost use Rattle.paint_segments.specs.Within.{inOrder, Orderly, strictlyInside};
+ghost use Rattle.paint_segments.specs.Within.{segmentsInOrder, Orderly, strictlyInside};
 
 // With fewer segments than this the search is as quick as a guess.
 const MANY: usize = 32;
 
 // Whether the positions rise, from 0 or later to 1 or before.
 pub(crate) fn is_orderly(positions: &[f32]) -> bool
-    ensures { λ r. ⌜ r ≡ inOrder (old positions) ⌝ }
+    ensures { λ r. ⌜ r ≡ segmentsInOrder (old positions) ⌝ }
 {
     let n = positions.len();
     if n < 3 {

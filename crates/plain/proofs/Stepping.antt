@@ -4,8 +4,8 @@ use mathlib.Core.Bool.{true}
 use Prim.Native.Nat.{ℕ, min}
 use borrow.Author.Tests.{eq-eqb, ne-eqb}
 use Rattle.blend.specs.declared.Stop.{Stop}
-use Rattle.next_stop.specs.declared.Place.{Place}
-use Rattle.next_stop.specs.declared.Place.the-variants as place
+use Rattle.next_stop.specs.declared.ListPlace.{ListPlace}
+use Rattle.next_stop.specs.declared.ListPlace.the-variants as place
 use Rattle.next_stop.specs.declared.Told.{Told}
 use Rattle.next_stop.specs.declared.Told.the-variants as told
 use Rattle.next_stop.specs.declared.Handed.{Handed}
@@ -27,7 +27,7 @@ module _ (p : PlainPlace) where
     unfolding placeFrom
     from-end h = rw (ne-eqb (p .state) 0 no, ne-eqb (p .state) 1 h)
 
-pub shown-after : (p : Place) (row index : ℕ) {n m : ℕ} → p ≡ place.After row index → n ≡ min row mostPlain → m ≡ min index mostPlain
+pub shown-after : (p : ListPlace) (row index : ℕ) {n m : ℕ} → p ≡ place.After row index → n ≡ min row mostPlain → m ≡ min index mostPlain
     → record { state = 1; row = n; index = m } ≡ placeShown p
 shown-after p row index e f h = rw (e, f, h)
 

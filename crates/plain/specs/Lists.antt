@@ -6,13 +6,13 @@ use Rattle.linearize.specs.declared.Listed.the-variants as listed
 use Rattle.refresh.specs.declared.Refreshed.{Refreshed}
 use Rattle.refresh.specs.declared.Refreshed.the-variants as refreshed
 use Rattle.plain.specs.declared.lists.SampleMade.{SampleMade}
-use Rattle.plain.specs.declared.lists.ListMade.{ListMade}
+use Rattle.plain.specs.declared.lists.PlainList.{PlainList}
 
 abbrev pub sampledShown : Sampled → SampleMade
 sampledShown (sampled.Done n) = record { refusal = 0; evaluations = n }
 sampledShown (sampled.Refused n) = record { refusal = n; evaluations = 0 }
 
-abbrev pub listedShown : Listed → ListMade
+abbrev pub listedShown : Listed → PlainList
 listedShown (listed.Done n m) = record { refusal = 0; stops = n; evaluations = m }
 listedShown (listed.Refused n) = record { refusal = n; stops = 0; evaluations = 0 }
 

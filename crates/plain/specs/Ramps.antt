@@ -5,8 +5,8 @@ use Rattle.stops.specs.declared.Checked.{Checked}
 use Rattle.stops.specs.declared.Checked.the-variants as checked
 use Rattle.sharp_ramp.specs.declared.Built.{Built}
 use Rattle.sharp_ramp.specs.Sharp.{numberOfBuilt, stopsOfBuilt}
-use Rattle.paint.specs.declared.Answer.{Answer}
-use Rattle.paint.specs.declared.Answer.the-variants as answer
+use Rattle.paint.specs.declared.ColourAnswer.{ColourAnswer}
+use Rattle.paint.specs.declared.ColourAnswer.the-variants as answer
 use Rattle.plain.specs.declared.ramps.Domain.{Domain}
 use Rattle.plain.specs.declared.ramps.Shown.{Shown}
 use Rattle.plain.specs.declared.ramps.SharpBuilt.{SharpBuilt}
@@ -16,7 +16,7 @@ abbrev pub domainBy : Checked → Float → Float → Domain
 domainBy checked.Fine lo hi = record { refusal = 0; min = lo; max = hi }
 domainBy (checked.Refused n) lo hi = record { refusal = n; min = f0; max = f0 }
 
-abbrev pub answerShown : Answer → Shown
+abbrev pub answerShown : ColourAnswer → Shown
 answerShown (answer.Colour c) = record { refusal = 0; colour = c }
 answerShown (answer.Refused n) = record { refusal = n; colour = record { r = f0; g = f0; b = f0; a = f0 } }
 

@@ -3,8 +3,8 @@ use mathlib.Core.Bool.{true, false, cond}
 use Prim.Native.Nat.{ℕ, min}
 use lib.Dec.{eqb}
 use Rattle.float.specs.F32.{f0}
-use Rattle.next_stop.specs.declared.Place.{Place}
-use Rattle.next_stop.specs.declared.Place.the-variants as place
+use Rattle.next_stop.specs.declared.ListPlace.{ListPlace}
+use Rattle.next_stop.specs.declared.ListPlace.the-variants as place
 use Rattle.next_stop.specs.declared.Told.{Told}
 use Rattle.next_stop.specs.declared.Told.the-variants as told
 use Rattle.next_stop.specs.declared.Handed.{Handed}
@@ -16,10 +16,10 @@ abbrev pub mostPlain : ℕ
 mostPlain = 4294967295
 
 -- 0 is the start, 1 after a stop, any other number the end
-unfoldable pub placeFrom : PlainPlace → Place
+unfoldable pub placeFrom : PlainPlace → ListPlace
 placeFrom p = cond (eqb (p .state) 0) place.Start (cond (eqb (p .state) 1) (place.After (p .row) (p .index)) place.Ended)
 
-abbrev pub placeShown : Place → PlainPlace
+abbrev pub placeShown : ListPlace → PlainPlace
 placeShown place.Start = record { state = 0; row = 0; index = 0 }
 placeShown (place.After row index) = record { state = 1; row = min row mostPlain; index = min index mostPlain }
 placeShown place.Ended = record { state = 2; row = 0; index = 0 }

@@ -14,7 +14,7 @@ pub struct SampleMade {
 
 // The refusal, or 0 and how many stops were written with how many evaluations.
 #[repr(C)]
-pub struct ListMade {
+pub struct PlainList {
     pub refusal: u32,
     pub stops: usize,
     pub evaluations: usize,
@@ -35,16 +35,16 @@ pub fn sampled_shown(sampled: Sampled) -> SampleMade
     }
 }
 
-pub fn listed_shown(listed: Listed) -> ListMade
+pub fn listed_shown(listed: Listed) -> PlainList
     ensures { λ r. ⌜ r ≡ listedShown listed ⌝ }
 {
     match listed {
-        Listed::Done { stops, evaluations } => ListMade {
+        Listed::Done { stops, evaluations } => PlainList {
             refusal: 0,
             stops,
             evaluations,
         },
-        Listed::Refused(n) => ListMade {
+        Listed::Refused(n) => PlainList {
             refusal: n as u32,
             stops: 0,
             evaluations: 0,

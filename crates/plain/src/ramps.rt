@@ -1,6 +1,6 @@
 // The answers of the calls on ramps as plain fields.
 use blend::Rgba;
-use paint::Answer;
+use paint::ColourAnswer;
 use paint::Painted;
 use sharp_ramp::Built;
 use stops::Checked;
@@ -57,12 +57,12 @@ pub fn domain_by(checked: Checked, min: f32, max: f32) -> Domain
     }
 }
 
-pub fn answer_shown(answer: Answer) -> Shown
+pub fn answer_shown(answer: ColourAnswer) -> Shown
     ensures { λ r. ⌜ r ≡ answerShown answer ⌝ }
 {
     match answer {
-        Answer::Colour(colour) => Shown { refusal: 0, colour },
-        Answer::Refused(n) => Shown {
+        ColourAnswer::Colour(colour) => Shown { refusal: 0, colour },
+        ColourAnswer::Refused(n) => Shown {
             refusal: n as u32,
             colour: Rgba {
                 r: 0.0,

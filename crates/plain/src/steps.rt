@@ -1,7 +1,7 @@
 // One stop at a time as plain fields: the place that a caller keeps, and what a step hands out.
 use blend::Rgba;
 use next_stop::Handed;
-use next_stop::Place;
+use next_stop::ListPlace;
 use next_stop::Told;
 ghost use mathlib.Core.Path.{_≡_};
 ghost use Prim.Native.Nat.{min};
@@ -35,20 +35,20 @@ pub struct StopHanded {
 }
 
 // Any other state is the end.
-pub fn place_from(place: PlainPlace) -> Place
+pub fn place_from(place: PlainPlace) -> ListPlace
     ensures { λ r. ⌜ r ≡ placeFrom place ⌝ }
 {
     let state = place.state;
     if state == START {
-        return Place::Start;
+        return ListPlace::Start;
     }
     if state == AFTER {
-        return Place::After {
+        return ListPlace::After {
             row: place.row as usize,
             index: place.index as usize,
         };
     }
-    Place::Ended
+    ListPlace::Ended
 }
 
 // A number in 32 bits; the largest where it has more.
@@ -61,21 +61,21 @@ fn narrow(n: usize) -> u32
     MOST as u32
 }
 
-fn place_shown(place: Place) -> PlainPlace
+fn place_shown(place: ListPlace) -> PlainPlace
     ensures { λ r. ⌜ r ≡ placeShown place ⌝ }
 {
     match place {
-        Place::Start => PlainPlace {
+        ListPlace::Start => PlainPlace {
             state: START,
             row: 0,
             index: 0,
         },
-        Place::After { row, index } => PlainPlace {
+        ListPlace::After { row, index } => PlainPlace {
             state: AFTER,
             row: narrow(row),
             index: narrow(index),
         },
-        Place::Ended => PlainPlace {
+        ListPlace::Ended => PlainPlace {
             state: ENDED,
             row: 0,
             index: 0,

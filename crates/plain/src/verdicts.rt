@@ -1,7 +1,7 @@
 // A verdict on a list as plain fields.
 use judge::Verdict;
 ghost use mathlib.Core.Path.{_≡_};
-ghost use Rattle.plain.specs.Verdicts.{plainOf, verdictShown};
+ghost use Rattle.plain.specs.Verdicts.{codeAlone, verdictShown};
 
 // What is said of the list; nothing, where the ramp is refused.
 pub const NOT_JUDGED: u32 = 0;
@@ -31,7 +31,7 @@ pub struct Judgement {
 
 // A verdict that names no stop and no point.
 fn plainly(refusal: u32, verdict: u32) -> Judgement
-    ensures { λ r. ⌜ r ≡ plainOf refusal verdict ⌝ }
+    ensures { λ r. ⌜ r ≡ codeAlone refusal verdict ⌝ }
 {
     Judgement {
         refusal,

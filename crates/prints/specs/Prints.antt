@@ -66,8 +66,8 @@ tokenBits s = patternOf (readOf (bytes s))
 
 -- In order: linear, smoothstep, basis and Catmull-Rom from 0 to 1, at 0.25, 0.25, 0.5 and 0.25; sharp, 2 colours, softness 0.5 on 0..1; the roots of 2 and of 2 ^ -149; two tokens;
 -- GIMP segments 0..0.5 and 0.5..1 at 0.5, whose reds tell which is taken; and one with its middle at 0.25, at 0.625, where the red from 0 to 1 is the factor.
-abbrev pub table : List Print
-table =
+abbrev pub printTable : List Print
+printTable =
     record { from = stops Linear 0x3e80_0000 ∷ []; is = 0x3e80_0000 ∷ [] }
     ∷ record { from = stops Smoothstep 0x3e80_0000 ∷ []; is = 0x3e20_0000 ∷ [] }
     ∷ record { from = stops Basis 0x3f00_0000 ∷ []; is = 0x3f00_0000 ∷ [] }
@@ -88,7 +88,7 @@ next {A} p q = ap₂ (λ (x : A) (xs : List A). x ∷ xs) p q
 root-print : (i : ℕ) → _≡_ {A = List ℕ} (getD (map (λ (row : ℕ × ℕ). root-bits (row .0)) roots) i 0 ∷ []) (getD (map (λ (row : ℕ × ℕ). row .1) roots) i 0 ∷ [])
 root-print i = ap (λ (l : List ℕ). getD l i 0 ∷ []) root-prints
 
-pub claim : map (λ (p : Print). p .from) table ≡ map (λ (p : Print). p .is) table
+pub claim : map (λ (p : Print). p .from) printTable ≡ map (λ (p : Print). p .is) printTable
 unfolding red tokenBits
 claim =
     next refl

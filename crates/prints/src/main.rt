@@ -11,7 +11,7 @@ use blend::Rgba;
 use decimal::Token;
 use linearize::Listed;
 use linearize::Sampler;
-use paint::Answer;
+use paint::ColourAnswer;
 use sharp_ramp::Built;
 use stops::Kind;
 
@@ -22,8 +22,8 @@ fn red(label: &[u8], kind: Kind, positions: &[f32], channels: &[f32], codes: &[u
     out(label);
     out(b"\t");
     match colorgrad::at(kind, positions, channels, codes, t) {
-        Answer::Colour(c) => bits(c.r),
-        Answer::Refused(n) => refused(n),
+        ColourAnswer::Colour(c) => bits(c.r),
+        ColourAnswer::Refused(n) => refused(n),
     }
     out(b"\n");
 }

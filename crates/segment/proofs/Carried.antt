@@ -14,7 +14,7 @@ use Rattle.gradient.specs.declared.gimp.Segment.{Segment}
 use Rattle.rows.specs.Rows.{Numbers, all, none}
 use Rattle.segment.specs.declared.SegmentRead.{SegmentRead}
 use Rattle.segment.specs.declared.SegmentRead.the-variants.{Valid, Fault}
-use Rattle.segment.specs.Line.{codeOf, validCodes, endColour, judge, build, fromNumbers, segmentOf}
+use Rattle.segment.specs.Line.{codeOf, validCodes, endColour, judge, build, fromNumbers, segmentOnLine}
 
 no-segment : {X : Type 0} {g : Segment} {o : SegmentRead} {a : ℕ} → o ≡ Valid g → o ≡ Fault a → X
 no-segment e f = absurd (let z : _≡_ {A = ℕ} 0 1 = cc in omega arith)
@@ -55,6 +55,6 @@ read-carried fg bg (all xs) g e = go (eqb (length xs) 13) (eqb (length xs) 15) _
   go false true ys i = built fg bg xs g i
   go false false ys i = no-segment i refl
 
-pub line-carried : (fg bg : Rgba) (l : List ℕ) (g : Segment) → segmentOf fg bg l ≡ Valid g → carriedOf g ≡ true
-unfolding segmentOf
+pub line-carried : (fg bg : Rgba) (l : List ℕ) (g : Segment) → segmentOnLine fg bg l ≡ Valid g → carriedOf g ≡ true
+unfolding segmentOnLine
 line-carried fg bg l g e = read-carried fg bg _ g e

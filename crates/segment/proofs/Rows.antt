@@ -19,7 +19,7 @@ use Rattle.rows.proofs.Numbers.{row-is, row-not, row-next}
 use Rattle.blend.specs.declared.Rgba.{Rgba}
 use Rattle.segment.specs.declared.SegmentRead.{SegmentRead}
 use Rattle.segment.specs.declared.SegmentRead.the-variants.{Fault}
-use Rattle.segment.specs.Line.{build, fromNumbers, segmentOf, SegmentAt}
+use Rattle.segment.specs.Line.{build, fromNumbers, segmentOnLine, SegmentAt}
 use Rattle.segment.specs.Steps.{segmentLength}
 
 -- neither 13 numbers nor 15
@@ -39,7 +39,7 @@ by-length fg bg xs d n l h e = rw l (go (eqb n 13) refl (eqb n 15) refl h) where
 
 module _ (fg bg : Rgba) {s : List ℕ} {at : ℕ} {d : List Float} {n next : ℕ} (w : RowAt Spaces s at d n next) {t : Bool} (e : t ≡ segmentLength n) where
   pub segment-none : t ≡ false → SegmentAt fg bg s at (Fault badSegment) next
-  unfolding segmentOf partsAt
+  unfolding segmentOnLine partsAt
   segment-none h = record {
     is = not-segment fg bg _ (λ k i. row-not w k (most k i) (λ q. no (i ∙ ap segmentLength (sym q) ∙ sym e ∙ h)));
     goes-on = w .goes-on;
@@ -59,7 +59,7 @@ module _ (fg bg : Rgba) {s : List ℕ} {at : ℕ} {d : List Float} {n next : ℕ
     go (suc m) i = omega arith
 
   pub segment-some : t ≡ true → (o : SegmentRead) → o ≡ build fg bg d → SegmentAt fg bg s at o next
-  unfolding segmentOf partsAt rowEnd
+  unfolding segmentOnLine partsAt rowEnd
   segment-some h o b =
       let r = row-is w (some h) in
       record {

@@ -75,11 +75,11 @@ fromNumbers fg bg (all xs) =
     (cond (eqb (length xs) 15) (build fg bg xs) (Fault badSegment))
 
 -- the numbers are the words of the line
-unfoldable pub segmentOf : Rgba → Rgba → List ℕ → SegmentRead
-segmentOf fg bg l = fromNumbers fg bg (numbers (words l))
+unfoldable pub segmentOnLine : Rgba → Rgba → List ℕ → SegmentRead
+segmentOnLine fg bg l = fromNumbers fg bg (numbers (words l))
 
 -- the line at `at` holds this; `next` is where the line after it starts, or `at` where there are no numbers, and after a valid segment the lines go on there
 pub record SegmentAt (fg bg : Rgba) (s : List ℕ) (at : ℕ) (o : SegmentRead) (next : ℕ) : Type 0 where
-  pub is : o ≡ segmentOf fg bg (firstOf (lines (drop at s)))
+  pub is : o ≡ segmentOnLine fg bg (firstOf (lines (drop at s)))
   pub goes-on : next ≡ cond (eqb (length (rowAt Spaces s at)) 0) at (rowEnd Spaces s at)
   pub rest : (g : Segment) → o ≡ Valid g → lines (drop next s) ≡ restOf (lines (drop at s))

@@ -18,7 +18,7 @@ use Rattle.float.specs.F32.{_⊕_, _⊖_, _⊗_, _⊘_, f4, tenth}
 use Rattle.float.specs.Number.{clampOf, countOf}
 use Rattle.blend.specs.Points.{linspaceAt}
 use Rattle.blend.specs.Finite.{allFinite}
-use Rattle.sharp_ramp.specs.Sharp.{softnessOf, insetOf, bandAt, listed, sharpPositions, channelAt, sharpChannels, domainFits, steady, roomy, bands, buildOf, numberOfBuilt, stopsOfBuilt, outputAfter, Builds}
+use Rattle.sharp_ramp.specs.Sharp.{softnessOf, insetOf, bandAt, listed, sharpPositions, bandChannel, sharpChannels, domainFits, steady, roomy, bands, buildOf, numberOfBuilt, stopsOfBuilt, afterBuilding, Builds}
 use Rattle.sharp_ramp.specs.declared.Built.{Built}
 use Rattle.sharp_ramp.specs.declared.Built.the-variants.{Stops, Refused}
 use Rattle.sharp_ramp.proofs.Filling.{length-listed}
@@ -167,7 +167,7 @@ length-positions min max s n = length-listed (bandAt min max (insetOf min max s 
 
 pub length-channels : (colours : List Float) (n : ℕ) → length (sharpChannels colours n) ≡ 8 * n
 unfolding sharpChannels
-length-channels colours n = length-listed (channelAt colours) (8 * n)
+length-channels colours n = length-listed (bandChannel colours) (8 * n)
 
 -- the positions, built in a longer list
 pub positions-are : (min max s : Float) (n : ℕ) (rest : List Float) {inset : Float} {l : List Float} → inset ≡ insetOf min max s n
@@ -181,23 +181,23 @@ positions-are min max s n rest {inset} e h =
 pub longer : (k : ℕ) (l xs : List Float) → take k l ≡ xs → length xs ≡ k → k ≤ length l
 longer k l xs e h = let q = sym (length-take k l) ∙ ap length e ∙ h in omega arith
 
-pub channels-are : (colours : List Float) (n : ℕ) (rest : List Float) {l : List Float} → l ≡ listed (channelAt colours) (8 * n) ++ rest → l ≡ sharpChannels colours n ++ rest
+pub channels-are : (colours : List Float) (n : ℕ) (rest : List Float) {l : List Float} → l ≡ listed (bandChannel colours) (8 * n) ++ rest → l ≡ sharpChannels colours n ++ rest
 unfolding sharpChannels
 channels-are colours n rest h = h
 
-pub after-refused : (k : ℕ) (written old : List Float) → old ≡ outputAfter (Refused k) written old
-unfolding outputAfter
+pub after-refused : (k : ℕ) (written old : List Float) → old ≡ afterBuilding (Refused k) written old
+unfolding afterBuilding
 after-refused k written old = refl
 
-pub after-stops : (m k : ℕ) (written old : List Float) → length written ≡ k → {l : List Float} → l ≡ written ++ drop k old → l ≡ outputAfter (Stops m) written old
-unfolding outputAfter
+pub after-stops : (m k : ℕ) (written old : List Float) → length written ≡ k → {l : List Float} → l ≡ written ++ drop k old → l ≡ afterBuilding (Stops m) written old
+unfolding afterBuilding
 after-stops m k written old h e = e ∙ ap (λ (j : ℕ). written ++ drop j old) (sym h)
 
-pub after-copy : (m : ℕ) (written old xs : List Float) → xs ≡ written → {l : List Float} → l ≡ xs ++ drop (length xs) old → l ≡ outputAfter (Stops m) written old
-unfolding outputAfter
+pub after-copy : (m : ℕ) (written old xs : List Float) → xs ≡ written → {l : List Float} → l ≡ xs ++ drop (length xs) old → l ≡ afterBuilding (Stops m) written old
+unfolding afterBuilding
 after-copy m written old xs h e = e ∙ ap (λ (ys : List Float). ys ++ drop (length ys) old) h
 
 -- all that `build` promises, from its answer and what that leaves
 pub builds : {colours : List Float} {min max s : Float} {ps ps′ cs cs′ : List Float} {r : Built} → r ≡ buildOf colours min max s (length ps) (length cs)
-    → ps′ ≡ outputAfter r (sharpPositions min max s (bands colours)) ps → cs′ ≡ outputAfter r (sharpChannels colours (bands colours)) cs → Builds colours min max s ps ps′ cs cs′ r
+    → ps′ ≡ afterBuilding r (sharpPositions min max s (bands colours)) ps → cs′ ≡ afterBuilding r (sharpChannels colours (bands colours)) cs → Builds colours min max s ps ps′ cs cs′ r
 builds e p q = record { answer = e; number = ap numberOfBuilt e; stops = ap stopsOfBuilt e; positions = rw e at p; channels = rw e at q }

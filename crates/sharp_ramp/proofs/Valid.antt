@@ -19,7 +19,7 @@ use Rattle.stops.specs.declared.Checked.the-variants.{Fine}
 use Rattle.stops.proofs.Checking.{Shape}
 use Rattle.stops.proofs.Valid.{Valid, rises, finite-number}
 use Rattle.gradient.specs.Ramp.{checkOf}
-use Rattle.sharp_ramp.specs.Sharp.{sharpPositions, channelAt, sharpChannels, steady, bands, buildOf}
+use Rattle.sharp_ramp.specs.Sharp.{sharpPositions, bandChannel, sharpChannels, steady, bands, buildOf}
 use Rattle.sharp_ramp.specs.declared.Built.the-variants.{Stops}
 use Rattle.sharp_ramp.proofs.Filling.{listed-at}
 use Rattle.sharp_ramp.proofs.Laws.{few, room, made, steady-finite, steady-rises, length-positions, length-channels}
@@ -28,7 +28,7 @@ use Rattle.gradient.proofs.Valid.{passes}
 -- a channel of a stop is one of a colour
 channel-finite : (colours : List Float) (n m : ℕ) → allFinite colours ≡ true → length colours ≡ 4 * n → m < 8 * n → finite (getD (sharpChannels colours n) m nan) ≡ true
 unfolding sharpChannels
-channel-finite colours n m h e l = ap finite (listed-at (channelAt colours) (8 * n) m l) ∙ finite-each colours h (4 * (m / 8) + m % 4) (omega arith)
+channel-finite colours n m h e l = ap finite (listed-at (bandChannel colours) (8 * n) m l) ∙ finite-each colours h (4 * (m / 8) + m % 4) (omega arith)
 
 all-four : {p q r s : Bool} → p ≡ true → q ≡ true → r ≡ true → s ≡ true → (p && q && r && s) ≡ true
 all-four p q r s = simp (p, q, r, s)

@@ -41,11 +41,11 @@ unfoldable pub sharpPositions : Float → Float → Float → ℕ → List Float
 sharpPositions min max s n = listed (bandAt min max (insetOf min max s n) n) (2 * n)
 
 -- channel m of the stops: stop m / 4 has the colour of band m / 8
-abbrev pub channelAt : List Float → ℕ → Float
-channelAt colours m = getD colours (4 * (m / 8) + m % 4) nan
+abbrev pub bandChannel : List Float → ℕ → Float
+bandChannel colours m = getD colours (4 * (m / 8) + m % 4) nan
 
 unfoldable pub sharpChannels : List Float → ℕ → List Float
-sharpChannels colours n = listed (channelAt colours) (8 * n)
+sharpChannels colours n = listed (bandChannel colours) (8 * n)
 
 -- ---- the refusals
 -- 17: n bands over a domain
@@ -84,14 +84,14 @@ stopsOfBuilt (Refused k) = 0
 
 -- ---- the outputs
 -- what was written, and past it what was there; a refusal changes nothing
-unfoldable pub outputAfter : Built → List Float → List Float → List Float
-outputAfter (Stops m) written old = written ++ drop (length written) old
-outputAfter (Refused k) written old = old
+unfoldable pub afterBuilding : Built → List Float → List Float → List Float
+afterBuilding (Stops m) written old = written ++ drop (length written) old
+afterBuilding (Refused k) written old = old
 
 -- the promise of `build`: the answer, its number and value, and what both lent outputs hold at the end
 pub record Builds (colours : List Float) (min max s : Float) (ps ps′ cs cs′ : List Float) (r : Built) : Type 0 where
   pub answer : r ≡ buildOf colours min max s (length ps) (length cs)
   pub number : numberOfBuilt r ≡ numberOfBuilt (buildOf colours min max s (length ps) (length cs))
   pub stops : stopsOfBuilt r ≡ stopsOfBuilt (buildOf colours min max s (length ps) (length cs))
-  pub positions : ps′ ≡ outputAfter (buildOf colours min max s (length ps) (length cs)) (sharpPositions min max s (bands colours)) ps
-  pub channels : cs′ ≡ outputAfter (buildOf colours min max s (length ps) (length cs)) (sharpChannels colours (bands colours)) cs
+  pub positions : ps′ ≡ afterBuilding (buildOf colours min max s (length ps) (length cs)) (sharpPositions min max s (bands colours)) ps
+  pub channels : cs′ ≡ afterBuilding (buildOf colours min max s (length ps) (length cs)) (sharpChannels colours (bands colours)) cs

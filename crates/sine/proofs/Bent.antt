@@ -12,7 +12,7 @@ use borrow.Author.Tests.{le-leb, lt-leb, eq-eqb, ne-eqb}
 use Rattle.float.specs.F32.{_⊕_, _⊖_, _⊗_, f1}
 use Rattle.float.specs.Number.{clampOf, wholeOf, countOf}
 use Rattle.sine.specs.Table.{entry}
-use Rattle.sine.specs.Sum.{nearer, sum, lower, upper, turned}
+use Rattle.sine.specs.Sum.{nearer, sum, lower, upper, byHalf}
 use Rattle.sine.specs.Wave.{steps, unit, indexOf, lineOf, waveAt, waveOf}
 use Rattle.sine.proofs.Ruled.{rule}
 use Rattle.sine.proofs.Summed.{told-entry}
@@ -26,7 +26,7 @@ near-most i h e = subst (λ (j : ℕ). j ≤ 512) (sym e) (go (decLe i 512))
     go (no f) = let l = lt-of-not-le f in rw (lt-leb i 512 l) (omega arith)
 
 module _ (i : ℕ) (few : i ≤ 1024) {j h : ℕ} (ej : j ≡ nearer i) (eh : h ≡ sum j) (clear : lower h ≡ upper h) where
-  both : turned i (lower h) ≡ entry i
+  both : byHalf i (lower h) ≡ entry i
   both = let e = eh ∙ ap sum ej in told-entry i (lower h) (upper h) few (ap lower e) (ap upper e) clear
 
   pub told-low : i ≤ 512 → lower h ≡ entry i

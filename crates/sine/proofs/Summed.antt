@@ -8,7 +8,7 @@ use lib.Dec.{T, eqb, eqb→eq}
 use lib.ListN.{length}
 use borrow.Author.Tests.{eq-eqb}
 use Rattle.sine.specs.Table.{table, entry}
-use Rattle.sine.specs.Sum.{nearer, less, sum, lower, upper, turned}
+use Rattle.sine.specs.Sum.{nearer, less, sum, lower, upper, byHalf}
 use Rattle.sine.proofs.Every.{every, at}
 
 -- ---- the products on the way fit, and each step takes off no more than there is
@@ -27,7 +27,7 @@ summed j ez ea eb ec ed er = cc
 
 -- ---- what is told
 unfoldable told : ℕ → ℕ → Bool
-told i x = let h = sum (nearer i) in cond (eqb (lower h) (upper h)) (eqb (turned i (lower h)) x) true
+told i x = let h = sum (nearer i) in cond (eqb (lower h) (upper h)) (eqb (byHalf i (lower h)) x) true
 
 long : length table ≡ 1025
 unfolding table
@@ -37,10 +37,10 @@ all-told : T (every told 0 table)
 unfolding table every told sum
 all-told = tt
 
-pub told-entry : (i n m : ℕ) → i ≤ 1024 → n ≡ lower (sum (nearer i)) → m ≡ upper (sum (nearer i)) → n ≡ m → turned i n ≡ entry i
+pub told-entry : (i n m : ℕ) → i ≤ 1024 → n ≡ lower (sum (nearer i)) → m ≡ upper (sum (nearer i)) → n ≡ m → byHalf i n ≡ entry i
 unfolding told
 told-entry i n m h e f q =
-    ap (turned i) e
-    ∙ eqb→eq (turned i (lower (sum (nearer i)))) (entry i)
-    (subst (λ (b : Bool). T (cond b (eqb (turned i (lower (sum (nearer i)))) (entry i)) true)) (eq-eqb (lower (sum (nearer i))) (upper (sum (nearer i))) (sym e ∙ q ∙ f))
+    ap (byHalf i) e
+    ∙ eqb→eq (byHalf i (lower (sum (nearer i)))) (entry i)
+    (subst (λ (b : Bool). T (cond b (eqb (byHalf i (lower (sum (nearer i)))) (entry i)) true)) (eq-eqb (lower (sum (nearer i))) (upper (sum (nearer i))) (sym e ∙ q ∙ f))
     (at told table all-told i (subst (λ (k : ℕ). i < k) (sym long) (omega arith))))

@@ -25,5 +25,5 @@ abbrev pub upper : ℕ → ℕ
 upper h = (h + (2 ^ 19 + 2 ^ 11)) / 2 ^ 20
 
 -- n, or as far below 2^24 on the table's other half
-abbrev pub turned : ℕ → ℕ → ℕ
-turned i n = cond (leb i 512) n (2 ^ 24 - n)
+abbrev pub byHalf : ℕ → ℕ → ℕ
+byHalf i n = cond (leb i 512) n (2 ^ 24 - n)

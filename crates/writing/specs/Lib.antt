@@ -1,3 +1,2 @@
 -- What the tool prints.
 pub mod Printed
-pub mod Within

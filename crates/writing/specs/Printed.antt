@@ -1,5 +1,5 @@
 -- What the tool prints. Document 01, 'Tools read standard input ..': numbers come out as 8 hex digits of bits; every line ends with LF.
-use Prim.Native.Nat.{ℕ, zero, suc, _+_, _/_, _%_}
+use Prim.Native.Nat.{ℕ, zero, suc, _+_, _/_, _%_, min}
 use mathlib.Core.Path.{_≡_}
 use mathlib.Core.Bool.{cond}
 use mathlib.Core.List.{List, [], _∷_, _++_}
@@ -82,7 +82,18 @@ replyText (reply.Unread line) ps cs = unreadText line
 replyText (reply.Refused number) ps cs = refusedText number
 replyText (reply.Made n evaluations) ps cs = listText n evaluations ps cs
 
--- ---- the promise: the text is written from `at` on, as far as the output goes, and the next one starts at r
+-- ---- the promises
+
+-- the greatest place, the largest number of 64 bits
+abbrev pub mostPlace : ℕ
+mostPlace = 18446744073709551615
+
+-- a text is written from `at` on, as far as the output goes, and the next one starts at r; where it would start past the greatest place, at that
+pub record PutsFrom (out out′ : List ℕ) (at : ℕ) (text : List ℕ) (r : ℕ) : Type 0 where
+  pub next : r ≡ min (at + length text) mostPlace
+  pub written : out′ ≡ sets out at text
+
+-- the same of a text that ends before the greatest place
 pub record Puts (out out′ : List ℕ) (at : ℕ) (text : List ℕ) (r : ℕ) : Type 0 where
   pub next : r ≡ at + length text
   pub written : out′ ≡ sets out at text

@@ -1,14 +1,13 @@
-// What is printed. A byte past the end of the output is dropped, so that a text too long for it is measured all the same.
+// What is printed. A byte past the end of the output is dropped, so that a text too long for it is measured all the same. A
+// place is a usize: after the greatest one comes that one again.
 use blend::Rgba;
 use blend::Stop;
 ghost use mathlib.Core.Path.{_≡_};
 ghost use mathlib.Core.List.{[], _∷_};
-ghost use Prim.Native.Nat.{_+_, _*_, _<_, _≤_};
-ghost use lib.ListN.{length};
+ghost use Prim.Native.Nat.{_<_};
 ghost use Rattle.stops.specs.Lent.{old, new};
 ghost use Rattle.writing.specs.Printed.{decimalOf, hexOf, hexDigit, fieldText, colourText, stopText, rowsText, lineText};
-ghost use Rattle.writing.specs.Printed.{unreadText, refusedText, listText, replyText, Puts};
-ghost use Rattle.writing.specs.Within.{mostPlace};
+ghost use Rattle.writing.specs.Printed.{unreadText, refusedText, listText, replyText, PutsFrom, Puts};
 
 // What the tool has to say: which line cannot be read, why there is no list, or a list of so many stops. How many is a
 // u32, so that no text is too long to be measured.
@@ -23,37 +22,42 @@ const TAB: u8 = 9;
 const LF: u8 = 10;
 
 // Digits of the greatest number, and of the bits of an f32.
-const DECIMALS: usize = 20;
+pub const DECIMALS: usize = 20;
 
 const HEX_DIGITS: usize = 8;
 
-fn put(out: &mut [u8], at: usize, b: u8) -> usize
-    requires { ⌜ at < mostPlace ⌝ }
-    ensures { λ r. ⌜ Puts (old out) (new out) at (b ∷ []) r ⌝ }
+const MOST_PLACE: usize = 18446744073709551615;
+
+// Writes a byte at a place; the place after it.
+pub fn put(out: &mut [u8], at: usize, b: u8) -> usize
+    ensures { λ r. ⌜ PutsFrom (old out) (new out) at (b ∷ []) r ⌝ }
 {
-    if out.len() <= at {
+    if at < out.len() {
+        out[at] = b;
         return at + 1;
     }
-    out[at] = b;
-    at + 1
+    if at < MOST_PLACE {
+        return at + 1;
+    }
+    at
 }
 
-fn put_all(out: &mut [u8], at: usize, text: &[u8]) -> usize
-    requires { ⌜ at + length (now text) ≤ mostPlace ⌝ }
-    ensures { λ r. ⌜ Puts (old out) (new out) at (old text) r ⌝ }
+// Writes bytes from a place on; the place after them.
+pub fn put_all(out: &mut [u8], at: usize, text: &[u8]) -> usize
+    ensures { λ r. ⌜ PutsFrom (old out) (new out) at (old text) r ⌝ }
 {
+    let mut next = at;
     let mut i = 0;
     while i < text.len() {
-        put(out, at + i, text[i]);
+        next = put(out, next, text[i]);
         i += 1;
     }
-    at + i
+    next
 }
 
-// The digits of n, `left` at most.
-fn put_decimal(out: &mut [u8], at: usize, n: usize, left: usize) -> usize
-    requires { ⌜ at + left ≤ mostPlace ⌝ }
-    ensures { λ r. ⌜ Puts (old out) (new out) at (decimalOf left n) r ⌝ }
+// Writes the digits of n, the last `left` where it has more; the place after them.
+pub fn put_decimal(out: &mut [u8], at: usize, n: usize, left: usize) -> usize
+    ensures { λ r. ⌜ PutsFrom (old out) (new out) at (decimalOf left n) r ⌝ }
 {
     if left == 0 {
         return at;
@@ -78,8 +82,7 @@ fn hex_digit(d: u8) -> u8
 
 // The last `left` hex digits of n.
 fn put_hex(out: &mut [u8], at: usize, n: u32, left: usize) -> usize
-    requires { ⌜ at + left ≤ mostPlace ⌝ }
-    ensures { λ r. ⌜ Puts (old out) (new out) at (hexOf left n) r ⌝ }
+    ensures { λ r. ⌜ PutsFrom (old out) (new out) at (hexOf left n) r ⌝ }
 {
     if left == 0 {
         return at;
@@ -91,16 +94,14 @@ fn put_hex(out: &mut [u8], at: usize, n: u32, left: usize) -> usize
 
 // A tab, and the bits of x.
 fn put_field(out: &mut [u8], at: usize, x: f32) -> usize
-    requires { ⌜ at + 9 ≤ mostPlace ⌝ }
-    ensures { λ r. ⌜ Puts (old out) (new out) at (fieldText x) r ⌝ }
+    ensures { λ r. ⌜ PutsFrom (old out) (new out) at (fieldText x) r ⌝ }
 {
     let next = put(out, at, TAB);
     put_hex(out, next, float::to_bits(x), HEX_DIGITS)
 }
 
 fn put_colour(out: &mut [u8], at: usize, c: Rgba) -> usize
-    requires { ⌜ at + 36 ≤ mostPlace ⌝ }
-    ensures { λ r. ⌜ Puts (old out) (new out) at (colourText c) r ⌝ }
+    ensures { λ r. ⌜ PutsFrom (old out) (new out) at (colourText c) r ⌝ }
 {
     let r = put_field(out, at, c.r);
     let g = put_field(out, r, c.g);
@@ -110,8 +111,7 @@ fn put_colour(out: &mut [u8], at: usize, c: Rgba) -> usize
 
 // The line of a stop, 50 bytes.
 fn put_stop(out: &mut [u8], at: usize, s: Stop) -> usize
-    requires { ⌜ at + 50 ≤ mostPlace ⌝ }
-    ensures { λ r. ⌜ Puts (old out) (new out) at (stopText s) r ⌝ }
+    ensures { λ r. ⌜ PutsFrom (old out) (new out) at (stopText s) r ⌝ }
 {
     let word = put_all(out, at, b"stop");
     let position = put_field(out, word, s.position);
@@ -121,8 +121,7 @@ fn put_stop(out: &mut [u8], at: usize, s: Stop) -> usize
 
 // The lines of the first n stops.
 fn put_rows(out: &mut [u8], at: usize, n: usize, positions: &[f32], channels: &[f32]) -> usize
-    requires { ⌜ at + 50 * n ≤ mostPlace ⌝ }
-    ensures { λ r. ⌜ Puts (old out) (new out) at (rowsText n (old positions) (old channels)) r ⌝ }
+    ensures { λ r. ⌜ PutsFrom (old out) (new out) at (rowsText n (old positions) (old channels)) r ⌝ }
 {
     let mut next = at;
     let mut i = 0;
@@ -135,8 +134,7 @@ fn put_rows(out: &mut [u8], at: usize, n: usize, positions: &[f32], channels: &[
 
 // A word and a number, alone on a line.
 fn put_line(out: &mut [u8], word: &[u8], n: usize) -> usize
-    requires { ⌜ length (now word) ≤ 40 ⌝ }
-    ensures { λ r. ⌜ Puts (old out) (new out) 0 (lineText (old word) n) r ⌝ }
+    ensures { λ r. ⌜ PutsFrom (old out) (new out) 0 (lineText (old word) n) r ⌝ }
 {
     let next = put_all(out, 0, word);
     let end = put_decimal(out, next, n, DECIMALS);

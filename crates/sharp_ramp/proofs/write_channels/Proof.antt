@@ -6,14 +6,14 @@ use native.Mathlib.Omega.{arith}
 use lib.ListN.{length, drop}
 use lib.Ieee.{Float}
 use denote.Ref.{now}
-use Rattle.sharp_ramp.specs.Sharp.{listed, channelAt}
+use Rattle.sharp_ramp.specs.Sharp.{listed, bandChannel}
 use Rattle.sharp_ramp.proofs.Filling.{fill-start, fill-length, fill-step, fill-end}
 use Rattle.sharp_ramp.proofs.Laws.{channels-are}
 use Rattle.sharp_ramp.proofs.write_channels.Statement.{statement}
 use Rattle.sharp_ramp.proofs.write_channels.Tie as tie
 
 abbrev Inv-loop : tie.InvT-loop
-Inv-loop colours n channels₀ m j₀ channels j = (j ≤ m) × (channels ≡ listed (channelAt colours) j ++ drop j channels₀)
+Inv-loop colours n channels₀ m j₀ channels j = (j ≤ m) × (channels ≡ listed (bandChannel colours) j ++ drop j channels₀)
 
 abbrev μ-loop : tie.MeasureT-loop
 μ-loop colours n channels₀ m j₀ channels j = m - j
@@ -23,7 +23,7 @@ abbrev old : tie.Start Inv-loop μ-loop → List Float
 old c = now (c .args .channels)
 
 abbrev f : tie.Start Inv-loop μ-loop → ℕ → Float
-f c = channelAt (now (c .args .colours))
+f c = bandChannel (now (c .args .colours))
 
 -- the slice is as long as it was
 same : (c : tie.At-loop Inv-loop μ-loop) → length (c .loop .channels) ≡ length (old (c .before))

@@ -1,9 +1,8 @@
 -- The cycle of calls {put_decimal}: the measure is how many digits are left, and the last digit follows those before it. Assumes nothing.
 use borrow.Author.Needs.{needs}
 use native.Mathlib.Omega.{arith}
-use Prim.Native.Nat.{_-_, _/_}
 use denote.Ref.{now}
-use Rattle.writing.proofs.Texts.{puts-then, puts-size, length-decimal, decimal-none, decimal-last, decimal-more}
+use Rattle.writing.proofs.Texts.{decimal-none, decimal-last, decimal-more}
 use Prim.Native.Nat.{ℕ, _<_}
 use borrow.Fn.Kinds.{In}
 use borrow.Fn.PlainCycle.{Measures, is, falls, and}
@@ -31,7 +30,7 @@ put-decimal-returns : (t : ℕ) → put-decimal-lts.Need-returns (
   put-decimal-below t,
   put-decimal.Post,
 ) (put-decimal-at t) put-decimal.Post
-put-decimal-returns t c = decimal-none (now (c .before .before .args .out)) (c .before .before .args .at) (c .before .before .args .n) (c .before .before .args .left) (c .if1 .taken)
+put-decimal-returns t c = decimal-none (now (c .before .before .args .out)) (c .before .before .args .at) (c .before .before .args .n) (c .before .before .args .left) (omega arith) (c .if1 .taken)
 
 put-decimal-cast-digit : (t : ℕ) → put-decimal-lts.Need-cast-digit (
   put-reads.Asked,
@@ -63,7 +62,7 @@ put-decimal-same-length : (t : ℕ) → put-decimal-lts.Need-same-length (
   put-decimal-below t,
   put-decimal.Post,
 ) (put-decimal-at t) put-decimal.Post
-put-decimal-same-length t c = puts-size (c .before .before .put .ensures)
+put-decimal-same-length t c = search needs
 
 put-decimal-returns-2 : (t : ℕ) → put-decimal-lts.Need-returns-2 (
   put-reads.Asked,
@@ -87,7 +86,7 @@ put-decimal-put-decimal-requires : (t : ℕ) → put-decimal-lts.Need-put-decima
   put-decimal-below t,
   put-decimal.Post,
 ) (put-decimal-at t) put-decimal.Post
-put-decimal-put-decimal-requires t c κs = (omega arith, omega arith)
+put-decimal-put-decimal-requires t c κs = (omega arith, tt)
 
 put-decimal-put-requires-2 : (t : ℕ) → put-decimal-lts.Need-put-requires-2 (
   put-reads.Asked,
@@ -95,7 +94,7 @@ put-decimal-put-requires-2 : (t : ℕ) → put-decimal-lts.Need-put-requires-2 (
   put-decimal-below t,
   put-decimal.Post,
 ) (put-decimal-at t) put-decimal.Post
-put-decimal-put-requires-2 t c κs = omega (arith, c .before .before .before .put-decimal .ensures .next, length-decimal (c .before .before .before .before .before .before .before .before .args .left - 1) (c .before .before .before .before .before .before .before .before .args .n / 10))
+put-decimal-put-requires-2 t c κs = search needs
 
 put-decimal-same-length-2 : (t : ℕ) → put-decimal-lts.Need-same-length-2 (
   put-reads.Asked,
@@ -103,7 +102,7 @@ put-decimal-same-length-2 : (t : ℕ) → put-decimal-lts.Need-same-length-2 (
   put-decimal-below t,
   put-decimal.Post,
 ) (put-decimal-at t) put-decimal.Post
-put-decimal-same-length-2 t c = puts-size (puts-then (c .before .before .before .before .before .before .put-decimal .ensures) (c .before .before .put2 .ensures))
+put-decimal-same-length-2 t c = search needs
 
 put-decimal-returns-3 : (t : ℕ) → put-decimal-lts.Need-returns-3 (
   put-reads.Asked,
@@ -112,7 +111,7 @@ put-decimal-returns-3 : (t : ℕ) → put-decimal-lts.Need-returns-3 (
   put-decimal.Post,
 ) (put-decimal-at t) put-decimal.Post
 put-decimal-returns-3 t c = let at-put-decimal = c .before .before .before .before .before .before in let at-else2 = at-put-decimal .before .before in let at-else1 = at-else2 .before in let at-start = at-else1 .before .before in
-    decimal-more (at-start .args .n) (at-start .args .left) (at-else1 .if1 .left) (at-else2 .if2 .left) (at-put-decimal .put-decimal .ensures) (c .before .before .put2 .ensures)
+    decimal-more (at-start .args .n) (at-start .args .left) (at-else1 .if1 .left) (at-else2 .if2 .left) (at-put-decimal .put-decimal .ensures) (c .before .before .put2 .ensures) (omega arith)
 
 pub +put-decimal-spec : {M : Type 1} → statement M
 +put-decimal-spec = close μ-put-decimal λ t. put-decimal-lts.spec (

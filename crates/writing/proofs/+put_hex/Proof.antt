@@ -1,9 +1,8 @@
 -- The cycle of calls {put_hex}: the measure is how many digits are left, and the last digit follows those before it. Assumes nothing.
 use borrow.Author.Needs.{needs}
 use native.Mathlib.Omega.{arith}
-use Prim.Native.Nat.{_-_, _/_}
 use denote.Ref.{now}
-use Rattle.writing.proofs.Texts.{puts-then, puts-size, length-hex, hex-none, hex-more}
+use Rattle.writing.proofs.Texts.{hex-none, hex-more}
 use Prim.Native.Nat.{ℕ, _<_}
 use borrow.Fn.Kinds.{In}
 use borrow.Fn.PlainCycle.{Measures, is, falls, and}
@@ -32,7 +31,7 @@ put-hex-returns : (t : ℕ) → put-hex-lts.Need-returns (
   put-reads.Asked,
   put-reads.Learnt,
 ) (put-hex-at t) put-hex.Post
-put-hex-returns t c = hex-none (now (c .before .before .args .out)) (c .before .before .args .at) (c .before .before .args .n) (c .before .before .args .left) (c .if1 .taken)
+put-hex-returns t c = hex-none (now (c .before .before .args .out)) (c .before .before .args .at) (c .before .before .args .n) (c .before .before .args .left) (omega arith) (c .if1 .taken)
 
 put-hex-cast-hex-digit : (t : ℕ) → put-hex-lts.Need-cast-hex-digit (
   hex-digit-reads.Asked,
@@ -72,7 +71,7 @@ put-hex-put-hex-requires : (t : ℕ) → put-hex-lts.Need-put-hex-requires (
   put-reads.Asked,
   put-reads.Learnt,
 ) (put-hex-at t) put-hex.Post
-put-hex-put-hex-requires t c κs = (omega arith, omega arith)
+put-hex-put-hex-requires t c κs = (omega arith, tt)
 
 put-hex-put-requires : (t : ℕ) → put-hex-lts.Need-put-requires (
   hex-digit-reads.Asked,
@@ -82,7 +81,7 @@ put-hex-put-requires : (t : ℕ) → put-hex-lts.Need-put-requires (
   put-reads.Asked,
   put-reads.Learnt,
 ) (put-hex-at t) put-hex.Post
-put-hex-put-requires t c κs = omega (arith, c .before .before .before .put-hex .ensures .next, length-hex (c .before .before .before .before .before .before .before .before .args .left - 1) (c .before .before .before .before .before .before .before .before .args .n / 16))
+put-hex-put-requires t c κs = search needs
 
 put-hex-same-length : (t : ℕ) → put-hex-lts.Need-same-length (
   hex-digit-reads.Asked,
@@ -92,7 +91,7 @@ put-hex-same-length : (t : ℕ) → put-hex-lts.Need-same-length (
   put-reads.Asked,
   put-reads.Learnt,
 ) (put-hex-at t) put-hex.Post
-put-hex-same-length t c = puts-size (puts-then (c .before .before .before .before .before .before .put-hex .ensures) (c .before .before .put .ensures))
+put-hex-same-length t c = search needs
 
 put-hex-returns-2 : (t : ℕ) → put-hex-lts.Need-returns-2 (
   hex-digit-reads.Asked,
@@ -103,7 +102,7 @@ put-hex-returns-2 : (t : ℕ) → put-hex-lts.Need-returns-2 (
   put-reads.Learnt,
 ) (put-hex-at t) put-hex.Post
 put-hex-returns-2 t c = let at-put-hex = c .before .before .before .before .before .before in let at-hex-digit = at-put-hex .before .before in let at-else1 = at-hex-digit .before in let at-start = at-else1 .before .before in
-    hex-more (at-start .args .n) (at-start .args .left) (at-else1 .if1 .left) (at-hex-digit .hex-digit .ensures) (at-put-hex .put-hex .ensures) (c .before .before .put .ensures)
+    hex-more (at-start .args .n) (at-start .args .left) (at-else1 .if1 .left) (at-hex-digit .hex-digit .ensures) (at-put-hex .put-hex .ensures) (c .before .before .put .ensures) (omega arith)
 
 pub +put-hex-spec : {M : Type 1} → statement M
 +put-hex-spec = close μ-put-hex λ t. put-hex-lts.spec (

@@ -2,24 +2,22 @@
 use borrow.Author.Needs.{needs}
 use native.Mathlib.Omega.{arith}
 use mathlib.Core.Path.{_≡_, refl, _∙_}
-use Prim.Native.Nat.{_+_, _-_, _≤_}
+use Prim.Native.Nat.{_-_}
+use denote.Ref.{now}
 use lib.ListN.{length, take}
-use Rattle.writing.specs.Printed.{Puts}
-use Rattle.writing.proofs.Texts.{puts-size, bytes-next, bytes-done}
+use Rattle.writing.specs.Printed.{PutsFrom}
+use Rattle.writing.proofs.Texts.{from-nil, from-size, bytes-next, bytes-done}
 use Rattle.writing.proofs.put_all.Statement.{statement}
 use Rattle.writing.proofs.put_all.Tie as tie
 
 abbrev Inv-loop : tie.InvT-loop
-Inv-loop out₀ at text i₀ out i = (i ≤ length text) × (length out ≡ length out₀) × Puts out₀ out at (take i text) (at + i)
+Inv-loop out₀ at text next₀ i₀ out next i = (length out ≡ length out₀) × PutsFrom out₀ out at (take i text) next
 
 abbrev μ-loop : tie.MeasureT-loop
-μ-loop out₀ at text i₀ out i = length text - i
+μ-loop out₀ at text next₀ i₀ out next i = length text - i
 
 loop-holds : tie.Need-loop-holds Inv-loop μ-loop
-loop-holds c = (omega arith, refl, record { next = refl; written = refl })
-
-add-put : tie.Need-add-put Inv-loop μ-loop
-add-put c = search needs
+loop-holds c = (refl, from-nil (now (c .before .before .args .out)) (c .before .before .args .at) (omega arith))
 
 shared-slice-read-put : tie.Need-shared-slice-read-put Inv-loop μ-loop
 shared-slice-read-put c = search needs
@@ -34,16 +32,14 @@ loop-less : tie.Need-loop-less Inv-loop μ-loop
 loop-less c = search needs
 
 loop-again : tie.Need-loop-again Inv-loop μ-loop
-loop-again c = (omega arith, puts-size (c .before .before .put .ensures) ∙ c .before .before .before .before .before .before .loop .inv .1, bytes-next (c .before .before .before .before .before .before .before .before .before .args .text .now) (c .before .before .before .before .before .before .loop .i) (search needs) (c .before .before .before .before .before .before .loop .inv .2) (c .before .before .put .ensures))
-
-add-result : tie.Need-add-result Inv-loop μ-loop
-add-result c = search needs
+loop-again c = let l = c .before .before .before .before .before .before in
+    (from-size (c .before .before .put .ensures) ∙ l .loop .inv .0, bytes-next (l .before .before .before .args .text .now) (l .loop .i) (search needs) (l .loop .inv .1) (c .before .before .put .ensures) (omega arith))
 
 same-length : tie.Need-same-length Inv-loop μ-loop
-same-length c = c .before .loop .inv .1
+same-length c = c .before .loop .inv .0
 
 returns : tie.Need-returns Inv-loop μ-loop
-returns c = bytes-done (c .before .before .before .before .args .text .now) (c .before .loop .i) (c .before .loop .inv .0) (search needs) (c .before .loop .inv .2)
+returns c = bytes-done (c .before .before .before .before .args .text .now) (c .before .loop .i) (search needs) (c .before .loop .inv .1)
 
 pub put-all-spec : {M : Type 1} → statement M
 put-all-spec =
@@ -52,12 +48,10 @@ put-all-spec =
     Inv-loop
     μ-loop
     loop-holds
-    add-put
     shared-slice-read-put
     put-requires
     add-i
     loop-less
     loop-again
-    add-result
     same-length
     returns)

@@ -1,8 +1,8 @@
 -- `put_line` meets its contract: the word, the number, the end. Assumes nothing.
 use borrow.Author.Needs.{needs}
-use native.Mathlib.Omega.{arith}
 use Rattle.writing.specs.Printed.{lineText}
-use Rattle.writing.proofs.Texts.{puts-then, puts-size, length-decimal}
+use native.Mathlib.Omega.{arith}
+use Rattle.writing.proofs.Texts.{puts-then}
 use Rattle.writing.proofs.put_line.Statement.{statement}
 use Rattle.writing.proofs.put_line.Tie as tie
 
@@ -10,18 +10,18 @@ put-all-requires : tie.Need-put-all-requires
 put-all-requires c κs = search needs
 
 put-decimal-requires : tie.Need-put-decimal-requires
-put-decimal-requires c κs = omega (arith, c .before .before .before .put-all .ensures .next)
+put-decimal-requires c κs = search needs
 
 put-requires : tie.Need-put-requires
-put-requires c κs = let at-put-all = c .before .before .before .before .before .before .before in let at-start = at-put-all .before .before .before .before in
-    omega (arith, at-put-all .put-all .ensures .next, c .before .before .before .put-decimal .ensures .next, length-decimal 20 (at-start .args .n))
+put-requires c κs = search needs
 
 same-length : tie.Need-same-length
-same-length c = puts-size (puts-then (c .before .before .before .before .before .before .before .before .before .before .put-all .ensures) (puts-then (c .before .before .before .before .before .before .put-decimal .ensures) (c .before .before .put .ensures)))
+same-length c = search needs
 
 returns : tie.Need-returns
 unfolding lineText
-returns c = puts-then (c .before .before .before .before .before .before .before .before .before .before .put-all .ensures) (puts-then (c .before .before .before .before .before .before .put-decimal .ensures) (c .before .before .put .ensures))
+returns c = let at-put-decimal = c .before .before .before .before .before .before in let at-put-all = at-put-decimal .before .before .before .before in
+    puts-then (at-put-all .put-all .ensures) (puts-then (at-put-decimal .put-decimal .ensures) (λ l. c .before .before .put .ensures)) (omega arith)
 
 pub put-line-spec : {M : Type 1} → statement M
 put-line-spec =

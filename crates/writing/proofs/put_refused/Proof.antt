@@ -1,7 +1,9 @@
 -- `put_refused` meets its contract: its word and the number. Assumes nothing.
 use borrow.Author.Needs.{needs}
+use native.Mathlib.Omega.{arith}
 use Rattle.writing.specs.Printed.{refusedText}
-use Rattle.writing.proofs.Texts.{puts-size}
+use Rattle.writing.proofs.Lengths.{length-refused}
+use Rattle.writing.proofs.Texts.{whole}
 use Rattle.writing.proofs.put_refused.Statement.{statement}
 use Rattle.writing.proofs.put_refused.Tie as tie
 
@@ -12,11 +14,11 @@ put-line-requires : tie.Need-put-line-requires
 put-line-requires c κs = search needs
 
 same-length : tie.Need-same-length
-same-length c = puts-size (c .before .before .put-line .ensures)
+same-length c = search needs
 
 returns : tie.Need-returns
 unfolding refusedText
-returns c = c .before .before .put-line .ensures
+returns c = whole (c .before .before .put-line .ensures) (omega (arith, length-refused (c .before .before .before .before .before .before .args .number)))
 
 pub put-refused-spec : {M : Type 1} → statement M
 put-refused-spec =

@@ -5,7 +5,7 @@ use mathlib.Core.Path.{_≡_, refl, _∙_}
 use Prim.Native.Nat.{_-_}
 use denote.Ref.{now}
 use lib.ListN.{length}
-use Rattle.writing.proofs.Texts.{puts-size, Rowed, rowed-start, rowed-next, rowed-done}
+use Rattle.writing.proofs.Texts.{from-size, Rowed, rowed-start, rowed-next, rowed-done}
 use Rattle.writing.proofs.put_rows.Statement.{statement}
 use Rattle.writing.proofs.put_rows.Tie as tie
 
@@ -16,13 +16,13 @@ abbrev μ-loop : tie.MeasureT-loop
 μ-loop out₀ at n positions channels next₀ i₀ out next i = n - i
 
 loop-holds : tie.Need-loop-holds Inv-loop μ-loop
-loop-holds c = (refl, rowed-start (now (c .before .before .before .args .out)) (c .before .before .before .args .at) (c .before .before .before .args .n) (c .before .before .before .args .positions .now) (c .before .before .before .args .channels .now))
+loop-holds c = (refl, rowed-start (now (c .before .before .before .args .out)) (c .before .before .before .args .at) (c .before .before .before .args .n) (c .before .before .before .args .positions .now) (c .before .before .before .args .channels .now) (omega arith))
 
 stop-requires : tie.Need-stop-requires Inv-loop μ-loop
 stop-requires c κs = search needs
 
 put-stop-requires : tie.Need-put-stop-requires Inv-loop μ-loop
-put-stop-requires c κs = omega (arith, c .before .before .before .loop .inv .1 .put .next, c .before .before .before .loop .inv .1 .size)
+put-stop-requires c κs = search needs
 
 add-i : tie.Need-add-i Inv-loop μ-loop
 add-i c = search needs
@@ -31,7 +31,7 @@ loop-less : tie.Need-loop-less Inv-loop μ-loop
 loop-less c = search needs
 
 loop-again : tie.Need-loop-again Inv-loop μ-loop
-loop-again c = (puts-size (c .before .before .put-stop .ensures) ∙ c .before .before .before .before .before .before .loop .inv .0, rowed-next (search needs) (c .before .before .before .stop .ensures) (c .before .before .before .before .before .before .loop .inv .1) (c .before .before .put-stop .ensures))
+loop-again c = (from-size (c .before .before .put-stop .ensures) ∙ c .before .before .before .before .before .before .loop .inv .0, rowed-next (search needs) (c .before .before .before .stop .ensures) (c .before .before .before .before .before .before .loop .inv .1) (c .before .before .put-stop .ensures) (omega arith))
 
 same-length : tie.Need-same-length Inv-loop μ-loop
 same-length c = c .before .loop .inv .0

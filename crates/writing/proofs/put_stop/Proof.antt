@@ -1,8 +1,8 @@
 -- `put_stop` meets its contract: the word, then the fields. Assumes nothing.
 use borrow.Author.Needs.{needs}
-use native.Mathlib.Omega.{arith}
 use Rattle.writing.specs.Printed.{stopText}
-use Rattle.writing.proofs.Texts.{puts-then, puts-size, length-field, length-colour}
+use native.Mathlib.Omega.{arith}
+use Rattle.writing.proofs.Texts.{puts-then}
 use Rattle.writing.proofs.put_stop.Statement.{statement}
 use Rattle.writing.proofs.put_stop.Tie as tie
 
@@ -13,24 +13,21 @@ put-all-requires : tie.Need-put-all-requires
 put-all-requires c κs = search needs
 
 put-field-requires : tie.Need-put-field-requires
-put-field-requires c κs = omega (arith, c .before .before .before .put-all .ensures .next)
+put-field-requires c κs = search needs
 
 put-colour-requires : tie.Need-put-colour-requires
-put-colour-requires c κs = let at-put-all = c .before .before .before .before .before .before .before in let at-start = at-put-all .before .before .before .before in
-    omega (arith, at-put-all .put-all .ensures .next, c .before .before .before .put-field .ensures .next, length-field (at-start .args .s .position))
+put-colour-requires c κs = search needs
 
 put-requires : tie.Need-put-requires
-put-requires c κs = let at-put-field = c .before .before .before .before .before .before .before in let at-put-all = at-put-field .before .before .before .before in let at-start = at-put-all .before .before .before .before in
-    omega (arith, at-put-all .put-all .ensures .next, at-put-field .put-field .ensures .next, length-field (at-start .args .s .position), c .before .before .before .put-colour .ensures .next, length-colour (at-start .args .s .colour))
+put-requires c κs = search needs
 
 same-length : tie.Need-same-length
-same-length c = let at-put-colour = c .before .before .before .before .before .before in let at-put-field = at-put-colour .before .before .before .before in let at-put-all = at-put-field .before .before .before .before in
-    puts-size (puts-then (at-put-all .put-all .ensures) (puts-then (at-put-field .put-field .ensures) (puts-then (at-put-colour .put-colour .ensures) (c .before .before .put .ensures))))
+same-length c = search needs
 
 returns : tie.Need-returns
 unfolding stopText
 returns c = let at-put-colour = c .before .before .before .before .before .before in let at-put-field = at-put-colour .before .before .before .before in let at-put-all = at-put-field .before .before .before .before in
-    puts-then (at-put-all .put-all .ensures) (puts-then (at-put-field .put-field .ensures) (puts-then (at-put-colour .put-colour .ensures) (c .before .before .put .ensures)))
+    puts-then (at-put-all .put-all .ensures) (puts-then (at-put-field .put-field .ensures) (puts-then (at-put-colour .put-colour .ensures) (λ l. c .before .before .put .ensures))) (omega arith)
 
 pub put-stop-spec : {M : Type 1} → statement M
 put-stop-spec =

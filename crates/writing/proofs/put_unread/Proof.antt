@@ -1,7 +1,9 @@
 -- `put_unread` meets its contract: its word and the number. Assumes nothing.
 use borrow.Author.Needs.{needs}
+use native.Mathlib.Omega.{arith}
 use Rattle.writing.specs.Printed.{unreadText}
-use Rattle.writing.proofs.Texts.{puts-size}
+use Rattle.writing.proofs.Lengths.{length-unread}
+use Rattle.writing.proofs.Texts.{whole}
 use Rattle.writing.proofs.put_unread.Statement.{statement}
 use Rattle.writing.proofs.put_unread.Tie as tie
 
@@ -12,11 +14,11 @@ put-line-requires : tie.Need-put-line-requires
 put-line-requires c κs = search needs
 
 same-length : tie.Need-same-length
-same-length c = puts-size (c .before .before .put-line .ensures)
+same-length c = search needs
 
 returns : tie.Need-returns
 unfolding unreadText
-returns c = c .before .before .put-line .ensures
+returns c = whole (c .before .before .put-line .ensures) (omega (arith, length-unread (c .before .before .before .before .before .before .args .line)))
 
 pub put-unread-spec : {M : Type 1} → statement M
 put-unread-spec =

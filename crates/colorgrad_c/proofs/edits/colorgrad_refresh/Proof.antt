@@ -1,32 +1,11 @@
--- `colorgrad_refresh` meets its contract: the call of `refresh` for the kind of the code, its answer shown; a code that names none is refused. Assumes nothing.
-use mathlib.Core.Path.{refl}
-use Rattle.refusals.specs.Refusals.{misshapen}
-use Rattle.refresh.specs.declared.Refreshed.the-variants as refreshed
-use Rattle.plain.proofs.Coding.{of-a-kind, of-no-kind}
+-- `colorgrad_refresh` meets its contract: the edit of sort 0 is a colour's. Assumes nothing.
+use Rattle.plain.specs.Edits.{editOf}
 use borrow.Author.Needs.{needs}
 use Rattle.colorgrad_c.proofs.edits.colorgrad_refresh.Statement.{statement}
 use Rattle.colorgrad_c.proofs.edits.colorgrad_refresh.Tie as tie
 
-kind-of-requires : tie.Need-kind-of-requires
-kind-of-requires c κs = search needs
-
-enum-known-known : tie.Need-enum-known-known
-enum-known-known c = search needs
-
-enum-told : tie.Need-enum-told
-enum-told c = search needs
-
-refreshed-shown-requires : tie.Need-refreshed-shown-requires
-refreshed-shown-requires c κs = search needs
-
-returns : tie.Need-returns
-returns c = of-no-kind (refreshed.Refused misshapen) (c .before .before .before .kind-of .ensures) (c .before .enum-told .given .1) (refl, refl) (c .refreshed-shown .ensures)
-
-refresh-requires : tie.Need-refresh-requires
-refresh-requires c κs = search needs
-
-refreshed-shown-requires-2 : tie.Need-refreshed-shown-requires-2
-refreshed-shown-requires-2 c κs = search needs
+colorgrad-edit-requires : tie.Need-colorgrad-edit-requires
+colorgrad-edit-requires c κs = search needs
 
 same-length : tie.Need-same-length
 same-length c = search needs
@@ -37,24 +16,16 @@ same-length-2 c = search needs
 same-length-3 : tie.Need-same-length-3
 same-length-3 c = search needs
 
-returns-2 : tie.Need-returns-2
-returns-2 c =
-    let called = c .before .before .before .before .before .before .before in
-    let named = called .before .before .before .before .before in
-    of-a-kind _ (named .before .before .kind-of .ensures) (named .known .given .1) (called .refresh .ensures) (c .refreshed-shown2 .ensures)
+returns : tie.Need-returns
+unfolding editOf
+returns c = c .before .before .before .before .before .before .colorgrad-edit .ensures
 
 pub colorgrad-refresh-spec : {M : Type 1} → statement M
 colorgrad-refresh-spec =
     tie.close
     (tie.spec
-    kind-of-requires
-    enum-known-known
-    enum-told
-    refreshed-shown-requires
-    returns
-    refresh-requires
-    refreshed-shown-requires-2
+    colorgrad-edit-requires
     same-length
     same-length-2
     same-length-3
-    returns-2)
+    returns)

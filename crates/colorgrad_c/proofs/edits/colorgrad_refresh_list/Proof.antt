@@ -1,32 +1,11 @@
--- `colorgrad_refresh_list` meets its contract: the call of `refresh` for the kind of the code, its answer shown; a code that names none is refused. Assumes nothing.
-use mathlib.Core.Path.{refl}
-use Rattle.refusals.specs.Refusals.{misshapen}
-use Rattle.linearize.specs.declared.Listed.the-variants as listed
-use Rattle.plain.proofs.Coding.{of-a-kind, of-no-kind}
+-- `colorgrad_refresh_list` meets its contract: the edit of sort 0 is a colour's. Assumes nothing.
+use Rattle.plain.specs.Edits.{editOf}
 use borrow.Author.Needs.{needs}
 use Rattle.colorgrad_c.proofs.edits.colorgrad_refresh_list.Statement.{statement}
 use Rattle.colorgrad_c.proofs.edits.colorgrad_refresh_list.Tie as tie
 
-kind-of-requires : tie.Need-kind-of-requires
-kind-of-requires c κs = search needs
-
-enum-known-known : tie.Need-enum-known-known
-enum-known-known c = search needs
-
-enum-told : tie.Need-enum-told
-enum-told c = search needs
-
-listed-shown-requires : tie.Need-listed-shown-requires
-listed-shown-requires c κs = search needs
-
-returns : tie.Need-returns
-returns c = of-no-kind (listed.Refused misshapen) (c .before .before .before .kind-of .ensures) (c .before .enum-told .given .1) (refl, (refl, refl)) (c .listed-shown .ensures)
-
-refresh-list-requires : tie.Need-refresh-list-requires
-refresh-list-requires c κs = search needs
-
-listed-shown-requires-2 : tie.Need-listed-shown-requires-2
-listed-shown-requires-2 c κs = search needs
+colorgrad-edit-list-requires : tie.Need-colorgrad-edit-list-requires
+colorgrad-edit-list-requires c κs = search needs
 
 same-length : tie.Need-same-length
 same-length c = search needs
@@ -43,27 +22,18 @@ same-length-4 c = search needs
 same-length-5 : tie.Need-same-length-5
 same-length-5 c = search needs
 
-returns-2 : tie.Need-returns-2
-returns-2 c =
-    let lists = c .before .before .before .before .before in
-    let called = lists .before .before .before .before .before .before in
-    let named = called .before .before .before .before .before .before .before in
-    of-a-kind _ (named .before .before .kind-of .ensures) (named .known .given .1) (called .refresh-list .ensures) (c .listed-shown2 .ensures)
+returns : tie.Need-returns
+unfolding editOf
+returns c = c .before .before .before .before .before .before .before .before .before .before .colorgrad-edit-list .ensures
 
 pub colorgrad-refresh-list-spec : {M : Type 1} → statement M
 colorgrad-refresh-list-spec =
     tie.close
     (tie.spec
-    kind-of-requires
-    enum-known-known
-    enum-told
-    listed-shown-requires
-    returns
-    refresh-list-requires
-    listed-shown-requires-2
+    colorgrad-edit-list-requires
     same-length
     same-length-2
     same-length-3
     same-length-4
     same-length-5
-    returns-2)
+    returns)

@@ -1,7 +1,7 @@
 -- `colorgrad_at` meets its contract: the call of `paint` for the kind of the code, its answer shown; a code that names none is refused. Assumes nothing.
 use mathlib.Core.Path.{refl}
 use Rattle.refusals.specs.Refusals.{misshapen}
-use Rattle.paint.specs.declared.Answer.the-variants as answer
+use Rattle.paint.specs.declared.ColourAnswer.the-variants as answer
 use Rattle.plain.proofs.Coding.{of-a-kind, of-no-kind}
 use borrow.Author.Needs.{needs}
 use Rattle.colorgrad_c.proofs.ramps.colorgrad_at.Statement.{statement}

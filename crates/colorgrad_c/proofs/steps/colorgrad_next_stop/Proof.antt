@@ -2,7 +2,7 @@
 use mathlib.Core.Path.{ap}
 use Rattle.refusals.specs.Refusals.{misshapen}
 use Rattle.next_stop.specs.Step.{refusedAt}
-use Rattle.next_stop.specs.declared.Place.{Place}
+use Rattle.next_stop.specs.declared.ListPlace.{ListPlace}
 use Rattle.plain.proofs.Coding.{of-a-kind, of-no-kind}
 use Rattle.colorgrad_c.proofs.Stepping.{from-place}
 use borrow.Author.Needs.{needs}
@@ -28,7 +28,7 @@ returns : tie.Need-returns
 returns c =
     let coded = c .before .before .before in
     let from = coded .before in
-    of-no-kind (refusedAt (from .place-from .result) misshapen) (coded .kind-of .ensures) (c .before .enum-told .given .1) (ap (λ (p : Place). refusedAt p misshapen) (from .place-from .ensures)) (c .handed-shown .ensures)
+    of-no-kind (refusedAt (from .place-from .result) misshapen) (coded .kind-of .ensures) (c .before .enum-told .given .1) (ap (λ (p : ListPlace). refusedAt p misshapen) (from .place-from .ensures)) (c .handed-shown .ensures)
 
 next-stop-requires : tie.Need-next-stop-requires
 next-stop-requires c κs = search needs

@@ -7,14 +7,14 @@ use lib.ListN.{drop}
 use Rattle.float.specs.F32.{f0}
 use Rattle.text.specs.Text.{lines}
 use Rattle.segment.specs.Store.{storeOf}
-use Rattle.ggr.specs.File.{segments}
+use Rattle.ggr.specs.File.{segmentLines}
 use Rattle.ggr.proofs.Filling.{Going, going-start, short, bad, going-on, closed}
 use Rattle.ggr.proofs.fill.fill.Statement.{statement}
 use Rattle.ggr.proofs.fill.fill.Tie as tie
 
 abbrev Inv-loop : tie.InvT-loop
 Inv-loop s from n fg bg p₀ c₀ k₀ at₀ end₀ i₀ p c k at end i =
-    Going (segments fg bg n 4 f0 (lines (drop from s))) s fg bg n (storeOf p₀ c₀ k₀) (storeOf p c k) at end i
+    Going (segmentLines fg bg n 4 f0 (lines (drop from s))) s fg bg n (storeOf p₀ c₀ k₀) (storeOf p c k) at end i
 
 abbrev μ-loop : tie.MeasureT-loop
 μ-loop s from n fg bg p₀ c₀ k₀ at₀ end₀ i₀ p c k at end i = n - i

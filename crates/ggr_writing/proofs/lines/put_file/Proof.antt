@@ -1,17 +1,9 @@
 -- `put_file` meets its contract: the heading, the count, the lines. Assumes nothing.
 use native.Mathlib.Omega.{arith}
-use Rattle.writing.proofs.Texts.{length-decimal}
 use Rattle.ggr_writing.proofs.Final.{file-put}
 use borrow.Author.Needs.{needs}
 use Rattle.ggr_writing.proofs.lines.put_file.Statement.{statement}
 use Rattle.ggr_writing.proofs.lines.put_file.Tie as tie
-use Rattle.ggr_writing.proofs.lines.put_file.Reads as reads
-use Rattle.ggr_writing.proofs.lines.put_file.Lts as lts
-use Rattle.ggr_writing.proofs.lines.put.Reads as put-reads
-use Rattle.ggr_writing.proofs.lines.put_all.Reads as put-all-reads
-use Rattle.ggr_writing.proofs.lines.put_decimal.Reads as put-decimal-reads
-use Rattle.ggr_writing.proofs.lines.put_rows.Reads as put-rows-reads
-use Rattle.stops.proofs.less.Reads as less-reads
 
 less-requires : tie.Need-less-requires
 less-requires c κs = search needs
@@ -26,16 +18,17 @@ put-decimal-requires : tie.Need-put-decimal-requires
 put-decimal-requires c κs = search needs
 
 put-requires : tie.Need-put-requires
-put-requires c κs = omega (arith, c .before .before .before .put-decimal .ensures .next, c .before .before .before .before .before .before .before .put-all .ensures .next, length-decimal 20 (c .before .before .before .before .before .before .before .before .before .before .less .result))
+put-requires c κs = search needs
 
 put-rows-requires : tie.Need-put-rows-requires
-put-rows-requires c κs = omega (arith, c .before .before .before .put .ensures .next, c .before .before .before .before .before .before .before .put-decimal .ensures .next, c .before .before .before .before .before .before .before .before .before .before .before .put-all .ensures .next, c .before .before .before .before .before .before .before .before .before .before .before .before .before .before .less .ensures, length-decimal 20 (c .before .before .before .before .before .before .before .before .before .before .before .before .before .before .less .result), c .before .before .before .before .before .before .before .before .before .before .before .before .before .before .before .before .before .before .pre)
+put-rows-requires c κs = search needs
 
 same-length : tie.Need-same-length
 same-length c = search needs
 
 returns : tie.Need-returns
-returns c = let a = c .before .before .before .before .before .before .before .before .before .before .before .before .before .before .before .before .before .before .before .before .before .args in file-put (a .positions .now) (a .channels .now) (c .before .before .before .before .before .before .before .before .before .before .before .before .before .before .before .before .before .less .ensures) (c .before .before .before .before .before .before .before .before .before .before .before .before .before .before .put-all .ensures) (c .before .before .before .before .before .before .before .before .before .before .put-decimal .ensures) (c .before .before .before .before .before .before .put .ensures) (c .before .before .put-rows .ensures)
+returns c = let rows = c .before .before in let line = rows .before .before .before .before in let count = line .before .before .before .before in let head = count .before .before .before .before in let less = head .before .before .before in let s = less .before .before .before .before in
+    file-put (s .args .positions .now) (s .args .channels .now) (less .less .ensures) (s .pre) (head .put-all .ensures) (count .put-decimal .ensures) (line .put .ensures) (rows .put-rows .ensures) (omega arith)
 
 pub put-file-spec : {M : Type 1} → statement M
 put-file-spec =

@@ -1,19 +1,14 @@
 -- `put_rows` meets its contract: the lines put and those left are all the lines. Assumes nothing.
 use borrow.Author.Needs.{needs}
-use borrow.Author.Needs.{needs}
 use native.Mathlib.Omega.{arith}
 use mathlib.Core.Path.{_≡_, refl, _∙_}
 use Prim.Native.Nat.{_-_}
 use denote.Ref.{now}
 use lib.ListN.{length}
-use Rattle.writing.proofs.Texts.{puts-size}
+use Rattle.writing.proofs.Texts.{from-size}
 use Rattle.ggr_writing.proofs.Texts.{Rowed, rowed-start, rowed-next, rowed-done}
 use Rattle.ggr_writing.proofs.lines.put_rows.Statement.{statement}
 use Rattle.ggr_writing.proofs.lines.put_rows.Tie as tie
-use Rattle.ggr_writing.proofs.lines.put_rows.Reads as reads
-use Rattle.ggr_writing.proofs.lines.put_rows.Lts as lts
-use Rattle.ggr_writing.proofs.lines.put_segment.Reads as put-segment-reads
-use Rattle.stops.proofs.stop.Reads as stop-reads
 
 abbrev Inv-loop : tie.InvT-loop
 Inv-loop out₀ at n positions channels next₀ i₀ out next i = (length out ≡ length out₀) × Rowed out₀ out at next n i positions channels
@@ -22,7 +17,7 @@ abbrev μ-loop : tie.MeasureT-loop
 μ-loop out₀ at n positions channels next₀ i₀ out next i = n - i
 
 loop-holds : tie.Need-loop-holds Inv-loop μ-loop
-loop-holds c = let a = c .before .before .before .args in (refl, rowed-start (now (a .out)) (a .at) (a .n) (a .positions .now) (a .channels .now))
+loop-holds c = let a = c .before .before .before .args in (refl, rowed-start (now (a .out)) (a .at) (a .n) (a .positions .now) (a .channels .now) (omega arith))
 
 stop-requires : tie.Need-stop-requires Inv-loop μ-loop
 stop-requires c κs = search needs
@@ -34,7 +29,7 @@ stop-requires-2 : tie.Need-stop-requires-2 Inv-loop μ-loop
 stop-requires-2 c κs = search needs
 
 put-segment-requires : tie.Need-put-segment-requires Inv-loop μ-loop
-put-segment-requires c κs = let l = c .before .before .before .before .loop .inv .1 in omega (arith, l .put .next, l .size)
+put-segment-requires c κs = search needs
 
 add-i : tie.Need-add-i Inv-loop μ-loop
 add-i c = search needs
@@ -43,7 +38,7 @@ loop-less : tie.Need-loop-less Inv-loop μ-loop
 loop-less c = search needs
 
 loop-again : tie.Need-loop-again Inv-loop μ-loop
-loop-again c = let l = c .before .before .before .before .before .before .before .loop .inv in (puts-size (c .before .before .put-segment .ensures) ∙ l .0, rowed-next (search needs) (c .before .before .before .before .before .stop .ensures) (c .before .before .before .before .stop2 .ensures) (l .1) (c .before .before .put-segment .ensures))
+loop-again c = let l = c .before .before .before .before .before .before .before .loop .inv in (from-size (c .before .before .put-segment .ensures) ∙ l .0, rowed-next (search needs) (c .before .before .before .before .before .stop .ensures) (c .before .before .before .before .stop2 .ensures) (l .1) (c .before .before .put-segment .ensures) (omega arith))
 
 same-length : tie.Need-same-length Inv-loop μ-loop
 same-length c = c .before .loop .inv .0
