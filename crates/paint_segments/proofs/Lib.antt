@@ -3,3 +3,4 @@ pub mod Guessing
 pub mod Hits
 pub mod Orders
 pub mod Fitting
+pub mod Ends

@@ -4,17 +4,19 @@ use blend::Rgba;
 use gradient::gimp;
 use gradient::gimp::Segment;
 ghost use mathlib.Core.Path.{_≡_};
-ghost use mathlib.Core.Bool.{true};
+ghost use mathlib.Core.Bool.{true, false};
+ghost use mathlib.Core.List.{_++_};
 ghost use Prim.Native.Nat.{_+_, _*_, _≤_, _<_};
 ghost use lib.ListN.{length};
 ghost use lib.Seq.{sets};
 ghost use Rattle.blend.specs.Channels.{channelsOf};
 ghost use Rattle.stops.specs.Stops.{colourAt};
 ghost use Rattle.stops.specs.Lent.{old, new};
-ghost use Rattle.gradient.specs.Gimp.{segments, gimpSegment, blended, gimpColour};
+ghost use Rattle.gradient.specs.Gimp.{segments, colouringAt, isHued, gimpSegment, blended, gimpColour};
 ghost use Rattle.paint_segments.specs.Over.{agree, paintedOver, segmentsOver};
 ghost use Rattle.paint_segments.specs.Within.{Cut, Fits, Orderly, strictlyInside, Peeked, Starts, Written};
 
+mod hued;
 mod search;
 
 // Stores a colour where there is room for it, without a test; `put_colour` of `paint` says why the two are not one.
@@ -83,12 +85,14 @@ fn is_strictly_inside(left: f32, right: f32, t: f32) -> bool
     false
 }
 
-// The colour at a place of a segment.
-fn shade(g: Segment, pivot: f32, place: f32) -> Rgba
+// The colour at a place of a segment that is not coloured by hue. A step takes one of the two ends by its number: no branch
+// has to be guessed.
+fn shade(g: Segment, ends: &[f32], pivot: f32, place: f32) -> Rgba
+    requires { ⌜ (isHued (g .colouring) ≡ false) × (now ends ≡ channelsOf (g .lcolor) ++ channelsOf (g .rcolor)) ⌝ }
     ensures { λ r. ⌜ r ≡ blended g pivot place ⌝ }
 {
-    if gimp::is_hued(g.colouring) {
-        return gimp::blend_hued(g, pivot, place);
+    if g.blending == gimp::STEP {
+        return colour(ends, (place >= pivot) as usize);
     }
     if g.blending == gimp::SINUSOIDAL {
         return gimp::blend_wave(g, pivot, place);
@@ -109,10 +113,13 @@ fn paint_held(
     end: usize,
 ) -> usize
     requires { ⌜ Fits (now positions) (now channels) (now codes) (now ts) (now out) ⌝ }
-    requires { ⌜ Starts (now positions) (now ts) s start end ⌝ }
+    requires { ⌜ Starts (now positions) (now ts) s start end × (isHued (colouringAt (now codes) s) ≡ false) ⌝ }
     ensures { λ r. ⌜ Written (gimpColour (old positions) (old channels) (old codes)) (old ts) start r (old out) (new out) ⌝ }
 {
     let g = hold(positions, channels, codes, s);
+    let p = g.lcolor;
+    let q = g.rcolor;
+    let ends = [p.r, p.g, p.b, p.a, q.r, q.g, q.b, q.a];
     let pivot = gimp::place_along(g.left, g.right, g.middle);
     let mut i = start;
     let mut place = gimp::place_along(g.left, g.right, ts[start]);
@@ -120,7 +127,7 @@ fn paint_held(
     while on {
         let t = point_or(ts, i + 1, end, g.left);
         let ahead = gimp::place_along(g.left, g.right, t);
-        let c = shade(g, pivot, place);
+        let c = shade(g, &ends, pivot, place);
         put_colour(out, 4 * i, c);
         i += 1;
         place = ahead;
@@ -158,6 +165,9 @@ fn paint_on(
     let mut end = i + 1;
     if orderly {
         end = ts.len();
+    }
+    if gimp::is_hued(codes[2 * s + 1]) {
+        return hued::paint_hued(positions, channels, codes, ts, out, s, i, end);
     }
     paint_held(positions, channels, codes, ts, out, s, i, end)
 }

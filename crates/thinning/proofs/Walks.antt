@@ -1,11 +1,12 @@
 -- A stop emitted and a point weighed, and what the whole list comes to after them. Assumes nothing.
 use mathlib.Core.Path.{_≡_, refl, sym, ap, _∙_}
-use mathlib.Core.Bool.{Bool, true, false, cond}
+use mathlib.Core.Bool.{Bool, true, false, cond, not, _&&_}
 use mathlib.Core.List.{List, [], _∷_, _++_}
 use Prim.Native.Nat.{ℕ, zero, suc, _+_, _*_, _≤_, _<_}
 use native.Mathlib.Nat.{add-zero}
 use native.Mathlib.Numerals.{add-one}
 use native.Mathlib.Omega.{arith}
+use mir.Val.{boolByte}
 use lib.ListN.{length, set}
 use lib.Seq.{sets}
 use lib.Ieee.{Float}
@@ -74,16 +75,16 @@ pub emitted-run : (room : ℕ) (r : Run) (p : Point) (ps cs : List Float) → st
 unfolding emitRun
 emitted-run room r p ps cs e f h = rw (e, f, h)
 
--- a point weighed, by the tests that led there
-module _ (far : Far) (last x y : Point) {d : Bool} (n : d ≡ nearOf (last .t) (x .t)) where
-  pub weigh-skips : d ≡ true → record { kept = false; tried = 0 } ≡ weighOf far last x y
-  unfolding weighOf
-  weigh-skips h = rw (← n, h)
-
-  pub weigh-tries : {b : Bool} {m : Rgba} → d ≡ false → m ≡ linear (last .colour) (y .colour) ((x .t ⊖ last .t) ⊘ (y .t ⊖ last .t)) → b ≡ far (x .colour) m
-      → record { kept = b; tried = 1 } ≡ weighOf far last x y
-  unfolding weighOf
-  weigh-tries h e f = rw (← n, h, f, e)
+-- a point weighed: skipped or not, and far from what was foretold or not
+pub weighed-is : (far : Far) (last x y : Point) {skipped apart : Bool} {m : Rgba} → skipped ≡ nearOf (last .t) (x .t)
+    → m ≡ linear (last .colour) (y .colour) ((x .t ⊖ last .t) ⊘ (y .t ⊖ last .t)) → apart ≡ far (x .colour) m
+    → record { kept = not skipped && apart; tried = boolByte (not skipped) } ≡ weighOf far last x y
+unfolding weighOf
+weighed-is far last x y {skipped = d} n e f = rw (f, e, ← n, counted d)
+  where
+    counted : (b : Bool) → boolByte (not b) ≡ cond b 0 1
+    counted true = refl
+    counted false = refl
 
 module _ (far : Far) (room : ℕ) (r : Run) (x y : Point) {w : Weighed} {n : ℕ} (h : w ≡ weighOf far (r .progress .last) x y) (e : n ≡ sumOf (r .progress .tried) (w .tried)) where
   abbrev pub weighing : Run

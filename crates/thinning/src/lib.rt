@@ -33,6 +33,8 @@ pub struct Weighed {
     pub tried: usize,
 }
 
+// 2^-23.
+const NEAR: f32 = 0.00000011920928955078125;
 // The largest count.
 const MOST: usize = 18446744073709551615;
 
@@ -57,11 +59,12 @@ pub fn room_of(positions: usize, channels: usize) -> usize
     k
 }
 
-// Nearer than 2^-23.
+// Nearer than 2^-23: as two comparisons, since the magnitude asks for the sign first.
 fn near(last: f32, x: f32) -> bool
     ensures { λ r. ⌜ r ≡ nearOf last x ⌝ }
 {
-    float::magnitude(last - x) < 0.00000011920928955078125
+    let d = last - x;
+    (d < NEAR) & (-NEAR < d)
 }
 
 // 7, 8, 9, or 0 where the stop may be written.
@@ -124,20 +127,17 @@ pub fn emit(
 }
 
 // Weighs x between the last point kept and the next: it is skipped, dropped or kept. A list made whole and one handed out a
-// stop at a time both weigh by this.
+// stop at a time both weigh by this. There is no branch, not even past a point that is skipped: the compiler then puts it into
+// both loops, where behind a call the three points would go through memory.
 pub fn weigh(cutoff: f32, last: Point, x: Point, next: Point) -> Weighed
     ensures { λ r. ⌜ r ≡ weighOf (exceeds cutoff) last x next ⌝ }
 {
-    if near(last.t, x.t) {
-        return Weighed {
-            kept: false,
-            tried: 0,
-        };
-    }
+    let skipped = near(last.t, x.t);
     let foretold = interpolate_linear(last.colour, next.colour, (x.t - last.t) / (next.t - last.t));
+    let far = stands_out(cutoff, x.colour, foretold);
     Weighed {
-        kept: stands_out(cutoff, x.colour, foretold),
-        tried: 1,
+        kept: !skipped & far,
+        tried: (!skipped) as usize,
     }
 }
 

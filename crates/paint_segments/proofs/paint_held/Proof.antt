@@ -12,12 +12,12 @@ use lib.Ieee.{Float, nan}
 use Rattle.gradient.specs.Gimp.{along, gimpColour}
 use Rattle.blend.specs.Channels.{channelsOf, coloursOf}
 use Rattle.paint_segments.proofs.Filling.{colours-next}
-use Rattle.paint_segments.proofs.Hits.{found-here, Lies, shaded, before-end, lies-on}
+use Rattle.paint_segments.proofs.Hits.{found-here, Lies, shaded, hued-so, before-end, lies-on}
 use Rattle.paint_segments.proofs.paint_held.Statement.{statement}
 use Rattle.paint_segments.proofs.paint_held.Tie as tie
 
 abbrev Inv-loop : tie.InvT-loop
-Inv-loop positions channels codes ts out₀ s start end g pivot i₀ place₀ on₀ out i place on =
+Inv-loop positions channels codes ts out₀ s start end g ends pivot i₀ place₀ on₀ out i place on =
     (i ≤ length ts)
     × (length out ≡ length out₀)
     × (on ≡ true → Lies positions ts s i)
@@ -27,10 +27,10 @@ Inv-loop positions channels codes ts out₀ s start end g pivot i₀ place₀ on
     × ((o : List Float) → 4 * length ts ≤ length o → out₀ ≡ coloursOf (gimpColour positions channels codes) (take start ts) ++ drop (4 * start) o → out ≡ coloursOf (gimpColour positions channels codes) (take i ts) ++ drop (4 * i) o)
 
 abbrev μ-loop : tie.MeasureT-loop
-μ-loop positions channels codes ts out₀ s start end g pivot i₀ place₀ on₀ out i place on = length ts - i
+μ-loop positions channels codes ts out₀ s start end g ends pivot i₀ place₀ on₀ out i place on = length ts - i
 
 hold-requires : tie.Need-hold-requires Inv-loop μ-loop
-hold-requires c κs = let s = c .before .before .before .before .before in (s .pre .0 .cut, found-here (now (s .args .positions)) _ (s .pre .0 .cut .least) (s .pre .1 .found))
+hold-requires c κs = let s = c .before .before .before .before .before in (s .pre .0 .cut, found-here (now (s .args .positions)) _ (s .pre .0 .cut .least) (s .pre .1 .0 .found))
 
 place-along-requires : tie.Need-place-along-requires Inv-loop μ-loop
 place-along-requires c κs = search needs
@@ -39,17 +39,17 @@ mul-place-along : tie.Need-mul-place-along Inv-loop μ-loop
 mul-place-along c = search needs
 
 shared-slice-read-place-along : tie.Need-shared-slice-read-place-along Inv-loop μ-loop
-shared-slice-read-place-along c = let s = c .before .before .before .before .before .before .before .before in omega (arith, s .pre .1 .inside, s .pre .1 .some)
+shared-slice-read-place-along c = let s = c .before .before .before .before .before .before .before .before .before .before in omega (arith, s .pre .1 .0 .inside, s .pre .1 .0 .some)
 
 place-along-requires-2 : tie.Need-place-along-requires-2 Inv-loop μ-loop
 place-along-requires-2 c κs = search needs
 
 loop-holds : tie.Need-loop-holds Inv-loop μ-loop
 loop-holds c =
-    let s = c .before .before .before .before .before .before .before .before .before in (
-      omega (arith, s .pre .1 .inside, s .pre .1 .some),
+    let s = c .before .before .before .before .before .before .before .before .before .before .before in (
+      omega (arith, s .pre .1 .0 .inside, s .pre .1 .0 .some),
       refl,
-      λ e. record { there = omega (arith, s .pre .1 .inside, s .pre .1 .some); found = s .pre .1 .found; on = s .pre .1 .on },
+      λ e. record { there = omega (arith, s .pre .1 .0 .inside, s .pre .1 .0 .some); found = s .pre .1 .0 .found; on = s .pre .1 .0 .on },
       λ e. omega arith,
       λ e. c .place-along2 .ensures,
       λ e. absurd (true≢false e),
@@ -61,35 +61,42 @@ add-point-or c = search needs
 
 point-or-requires : tie.Need-point-or-requires Inv-loop μ-loop
 point-or-requires c κs =
-    let held = c .before .before .before .before .before in
+    let held = c .before .before .before .before .before .before .before in
     let s = held .before .before .before .before .before .before in
-    s .pre .1 .inside
+    s .pre .1 .0 .inside
 
 place-along-requires-3 : tie.Need-place-along-requires-3 Inv-loop μ-loop
 place-along-requires-3 c κs = search needs
 
+slice-aggregate-shade : tie.Need-slice-aggregate-shade Inv-loop μ-loop
+slice-aggregate-shade c = search needs
+
 shade-requires : tie.Need-shade-requires Inv-loop μ-loop
-shade-requires c κs = search needs
+shade-requires c κs =
+    let l = c .before .before .before in
+    let held = l .before .before .before .before .before .before .before in
+    let s = held .before .before .before .before .before .before in
+    (hued-so (now (s .args .positions)) (now (s .args .channels)) (now (s .args .codes)) (s .args .s) (held .hold .ensures) (s .pre .1 .1), refl)
 
 mul-put-colour : tie.Need-mul-put-colour Inv-loop μ-loop
 mul-put-colour c =
-    let l = c .before .before .before .before in
-    let held = l .before .before .before .before .before in
+    let l = c .before .before .before .before .before in
+    let held = l .before .before .before .before .before .before .before in
     let s = held .before .before .before .before .before .before in
     omega (arith, s .good .1 .1 .1 .0 .1, l .before .loop .inv .0)
 
 put-colour-requires : tie.Need-put-colour-requires Inv-loop μ-loop
 put-colour-requires c κs =
-    let l = c .before .before .before .before in
-    let held = l .before .before .before .before .before in
+    let l = c .before .before .before .before .before in
+    let held = l .before .before .before .before .before .before .before in
     let s = held .before .before .before .before .before .before in
     let h = l .before .loop .inv .2 (l .loop-test .taken) .there in
     omega (arith, l .before .loop .inv .1, s .pre .0 .room)
 
 add-i : tie.Need-add-i Inv-loop μ-loop
 add-i c =
-    let l = c .before .before .before .before .before .before .before in
-    let held = l .before .before .before .before .before in
+    let l = c .before .before .before .before .before .before .before .before in
+    let held = l .before .before .before .before .before .before .before in
     let s = held .before .before .before .before .before .before in
     omega (arith, s .good .1 .1 .1 .0 .1, l .before .loop .inv .0)
 
@@ -97,16 +104,16 @@ is-strictly-inside-requires : tie.Need-is-strictly-inside-requires Inv-loop μ-l
 is-strictly-inside-requires c κs = search needs
 
 loop-less : tie.Need-loop-less Inv-loop μ-loop
-loop-less c = let l = c .before .before .before .before .before .before .before .before in let h = l .before .loop .inv .2 (l .loop-test .taken) .there in omega arith
+loop-less c = let l = c .before .before .before .before .before .before .before .before .before in let h = l .before .loop .inv .2 (l .loop-test .taken) .there in omega arith
 
 loop-again : tie.Need-loop-again Inv-loop μ-loop
 loop-again c =
     let p = c .before .before .before in
     let d = p .before .before in
-    let w = d .before .before in
+    let w = d .before .before .before in
     let l = w .before in
     let m = l .before .before .before .before in
-    let a = m .before in
+    let a = m .before .before .before in
     let s = a .before .before .before .before .before .before in
     let ps = now (s .args .positions) in
     let cs = now (s .args .channels) in
@@ -120,9 +127,9 @@ loop-again c =
     let inner = before-end ps cs ks (s .args .s) (a .hold .ensures) ts (i + 1) (s .args .end) (w .point-or .ensures) (c .is-strictly-inside .ensures) in (
       omega arith,
       ap length (p .put-colour .ensures) ∙ simp length-sets (inv .1),
-      λ e. lies-on ps cs ks (s .args .s) (a .hold .ensures) ts (i + 1) (s .args .end) (w .point-or .ensures) (c .is-strictly-inside .ensures) e (λ b. s .pre .1 .ordered (omega arith)) (found-here ps _ (s .pre .0 .cut .least) (s .pre .1 .found)) (s .pre .1 .inside),
+      λ e. lies-on ps cs ks (s .args .s) (a .hold .ensures) ts (i + 1) (s .args .end) (w .point-or .ensures) (c .is-strictly-inside .ensures) e (λ b. s .pre .1 .0 .ordered (omega arith)) (found-here ps _ (s .pre .0 .cut .least) (s .pre .1 .0 .found)) (s .pre .1 .0 .inside),
       λ e. omega arith,
-      λ e. d .before .place-along3 .ensures ∙ ap (λ (x : Float). along (a .hold .result .left) (a .hold .result .right) x) (w .point-or .ensures .here (inner e)),
+      λ e. d .before .before .place-along3 .ensures ∙ ap (λ (x : Float). along (a .hold .result .left) (a .hold .result .right) x) (w .point-or .ensures .here (inner e)),
       λ e. omega arith,
       λ o room e.
           p .put-colour .ensures
@@ -151,6 +158,7 @@ paint-held-spec =
     add-point-or
     point-or-requires
     place-along-requires-3
+    slice-aggregate-shade
     shade-requires
     mul-put-colour
     put-colour-requires

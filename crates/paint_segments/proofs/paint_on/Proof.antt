@@ -1,4 +1,4 @@
--- `paint_on` meets its contract: black off the domain, and else the segment that is found, held. Assumes nothing.
+-- `paint_on` meets its contract: black off the domain, and else the segment that is found, held, by hue or not. Assumes nothing.
 use mathlib.Core.Path.{refl, sym, _∙_, ap}
 use mathlib.Core.Logic.{⊎-elim}
 use mathlib.Core.List.{List}
@@ -8,12 +8,13 @@ use denote.Ref.{now}
 use lib.ListN.{length}
 use lib.Seq.{sets, length-sets}
 use lib.Ieee.{Float}
-use Rattle.gradient.specs.Gimp.{gimpColour}
+use Rattle.gradient.specs.Gimp.{segments, gimpColour}
 use Rattle.gradient.proofs.GimpLaws.{beyond}
 use Rattle.blend.specs.Blend.{black}
 use Rattle.blend.specs.Channels.{channelsOf}
-use Rattle.paint_segments.specs.Within.{Orderly}
+use Rattle.paint_segments.specs.Within.{Orderly, Starts}
 use Rattle.paint_segments.proofs.Filling.{colours-next}
+use Rattle.paint_segments.proofs.Hits.{found-here}
 use borrow.Author.Needs.{needs}
 use Rattle.paint_segments.proofs.paint_on.Statement.{statement}
 use Rattle.paint_segments.proofs.paint_on.Tie as tie
@@ -74,19 +75,65 @@ ends c =
     (λ w. (omega (arith, w .1, s .pre .1 .1), λ h. absurd (omega (arith, w .1, h)), omega (arith, w .1)))
     (c .if2 .came)
 
-paint-held-requires : tie.Need-paint-held-requires
-paint-held-requires c κs =
-    let f = c .before .before in
+-- where painting starts
+starts : (c : tie.Joined2) → let s = c .before .before .before .before .before .before .before .before .before .before in Starts (now (s .args .positions)) (now (s .args .ts)) (c .before .find-segment .result) (s .args .i) (c .if2 .end)
+starts c =
+    let f = c .before in
     let e = f .before in
-    let s = e .before .before .before .before .before .before .before .before in
-    let k = ends (c .before) in
-    (s .pre .0, record { some = k .2; inside = k .0; ordered = k .1; found = f .find-segment .ensures; on = sym (e .before .is-off-domain .ensures) ∙ e .if1 .left })
+    let k = ends c in
+    record { some = k .2; inside = k .0; ordered = k .1; found = f .find-segment .ensures; on = sym (e .before .is-off-domain .ensures) ∙ e .if1 .left }
+
+-- the segment found is one of those that there are
+there : (c : tie.Joined2) → let s = c .before .before .before .before .before .before .before .before .before .before in c .before .find-segment .result < segments (now (s .args .positions))
+there c =
+    let s = c .before .before .before .before .before .before .before .before .before .before in
+    found-here (now (s .args .positions)) _ (s .pre .0 .cut .least) (c .before .find-segment .ensures)
+
+mul-is-hued : tie.Need-mul-is-hued
+mul-is-hued c =
+    let s = c .before .before .before .before .before .before .before .before .before .before in
+    record { fits = omega (arith, there c, s .pre .0 .cut .codes, s .good .1 .1 .0 .1) }
+
+add-is-hued : tie.Need-add-is-hued
+add-is-hued c =
+    let s = c .before .before .before .before .before .before .before .before .before .before in
+    record { fits = omega (arith, there c, s .pre .0 .cut .codes, s .good .1 .1 .0 .1) }
+
+shared-slice-read-is-hued : tie.Need-shared-slice-read-is-hued
+shared-slice-read-is-hued c =
+    let s = c .before .before .before .before .before .before .before .before .before .before .before in
+    omega (arith, there (c .before), s .pre .0 .cut .codes)
+
+is-hued-requires : tie.Need-is-hued-requires
+is-hued-requires c κs = search needs
+
+paint-hued-requires : tie.Need-paint-hued-requires
+paint-hued-requires c κs =
+    let test = c .before in
+    let h = test .before in
+    let j = h .before .before in
+    let s = j .before .before .before .before .before .before .before .before .before .before in
+    (s .pre .0, (starts j, sym (h .is-hued .ensures) ∙ test .if3 .taken))
 
 same-length-2 : tie.Need-same-length-2
 same-length-2 c = search needs
 
 returns-2 : tie.Need-returns-2
 returns-2 c = search needs
+
+paint-held-requires : tie.Need-paint-held-requires
+paint-held-requires c κs =
+    let test = c .before in
+    let h = test .before in
+    let j = h .before .before in
+    let s = j .before .before .before .before .before .before .before .before .before .before in
+    (s .pre .0, (starts j, sym (h .is-hued .ensures) ∙ test .if3 .left))
+
+same-length-3 : tie.Need-same-length-3
+same-length-3 c = search needs
+
+returns-3 : tie.Need-returns-3
+returns-3 c = search needs
 
 pub paint-on-spec : {M : Type 1} → statement M
 paint-on-spec =
@@ -102,6 +149,13 @@ paint-on-spec =
     returns
     find-segment-requires
     add-end
-    paint-held-requires
+    mul-is-hued
+    add-is-hued
+    shared-slice-read-is-hued
+    is-hued-requires
+    paint-hued-requires
     same-length-2
-    returns-2)
+    returns-2
+    paint-held-requires
+    same-length-3
+    returns-3)

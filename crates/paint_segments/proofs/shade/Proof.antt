@@ -1,36 +1,39 @@
--- `shade` meets its contract: the one rule, by the colouring and the blending. Assumes nothing.
-use Rattle.gradient.proofs.GimpLaws.{by-hue, by-wave, by-rest}
+-- `shade` meets its contract: the one rule, by the blending. Assumes nothing.
+use mathlib.Core.Path.{refl}
+use lib.Ieee.{le}
+use Rattle.gradient.proofs.GimpLaws.{by-wave, by-rest}
+use Rattle.paint_segments.proofs.Ends.{end-there, by-step}
 use borrow.Author.Needs.{needs}
 use Rattle.paint_segments.proofs.shade.Statement.{statement}
 use Rattle.paint_segments.proofs.shade.Tie as tie
 
-is-hued-requires : tie.Need-is-hued-requires
-is-hued-requires c κs = search needs
+cast-colour : tie.Need-cast-colour
+cast-colour c = search needs
 
-blend-hued-requires : tie.Need-blend-hued-requires
-blend-hued-requires c κs = search needs
+colour-requires : tie.Need-colour-requires
+colour-requires c κs = let s = c .before .before .before in end-there (s .args .g) (s .pre .1) (le (s .args .pivot) (s .args .place))
 
 returns : tie.Need-returns
-returns c = let test = c .before in by-hue _ _ _ (test .before .is-hued .ensures) (test .if1 .taken) (c .blend-hued .ensures)
+returns c = let test = c .before in let s = test .before .before .before in by-step (s .args .g) (s .args .pivot) (s .args .place) (s .pre .0) (s .pre .1) (test .if1 .taken) (c .colour .ensures)
 
 blend-wave-requires : tie.Need-blend-wave-requires
 blend-wave-requires c κs = search needs
 
 returns-2 : tie.Need-returns-2
-returns-2 c = let test = c .before in let left = test .before .before in by-wave _ _ _ (left .before .is-hued .ensures) (left .if1 .left) (test .if2 .taken) (c .blend-wave .ensures)
+returns-2 c = let test = c .before in let s = test .before .before .before .before .before in by-wave _ _ _ refl (s .pre .0) (test .if2 .taken) (c .blend-wave .ensures)
 
 blend-requires : tie.Need-blend-requires
 blend-requires c κs = search needs
 
 returns-3 : tie.Need-returns-3
-returns-3 c = let test = c .before in let left = test .before .before in by-rest _ _ _ (left .before .is-hued .ensures) (left .if1 .left) (test .if2 .left) (c .blend .ensures)
+returns-3 c = let test = c .before in let s = test .before .before .before .before .before in by-rest _ _ _ refl (s .pre .0) (test .if2 .left) (c .blend .ensures)
 
 pub shade-spec : {M : Type 1} → statement M
 shade-spec =
     tie.close
     (tie.spec
-    is-hued-requires
-    blend-hued-requires
+    cast-colour
+    colour-requires
     returns
     blend-wave-requires
     returns-2
