@@ -25,7 +25,7 @@ pub fn run(options: &Options) -> Vec<Tally> {
     for case in cases {
         let mut random = Random::of_case(options.seed, case);
         let kind = KINDS[case as usize % 5];
-        let ramp = of_many(&mut random, kind, case / 5 % 2 == 0);
+        let ramp = of_many(&mut random, kind, STOPS, case / 5 % 2 == 0);
         let points = random_points(&mut random, &ramp, POINTS);
         let threshold = random_threshold(&mut random);
         let [colours, lists, refreshes] = &mut of_sort;
@@ -42,13 +42,11 @@ pub fn run(options: &Options) -> Vec<Tally> {
     tallies
 }
 
-fn of_many(random: &mut Random, kind: Kind, even: bool) -> Ramp {
-    let positions = if even {
-        (0..STOPS).map(|i| i as f32 / (STOPS - 1) as f32).collect()
-    } else {
-        random_positions(random, STOPS)
-    };
-    Ramp { kind, positions, channels: random_channels(random, 4 * STOPS), codes: Vec::new() }
+/// A ramp of n stops, evenly spaced or not.
+pub fn of_many(random: &mut Random, kind: Kind, n: usize, even: bool) -> Ramp {
+    let positions =
+        if even { (0..n).map(|i| i as f32 / (n - 1) as f32).collect() } else { random_positions(random, n) };
+    Ramp { kind, positions, channels: random_channels(random, 4 * n), codes: Vec::new() }
 }
 
 /// Every call with as many stops as may be, and with the next number of them.

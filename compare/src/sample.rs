@@ -4,6 +4,7 @@
 use crate::edits::{self, changed, ADD, COLOUR, SORTS};
 use crate::limits;
 use crate::lists::{early, emitted, random_record, random_threshold, MOST_POINTS};
+use crate::many::of_many;
 use crate::options::Options;
 use crate::oracle::{self, List, Record, CELLS, MARKS, ROW};
 use crate::ours::{Edit, Sorted};
@@ -47,7 +48,11 @@ const SPOILT: [fn(&mut Sorted, &Ramp); 5] = [
     |edit, ramp| edit.position = ramp.positions[0].next_down(),
 ];
 
-/// What is longer is left out, but for one ramp of each size that is the most.
+/// Catmull-Rom ramps of more stops than a window of segments has: a list and a refreshed one of each, with the greatest
+/// threshold and colours that lie close, so that the lists are not long.
+const MANY: [usize; 2] = [40, 300];
+
+/// What is longer is left out, but for these and for one ramp of each size that is the most.
 const LONG_RAMP: usize = 12;
 const LONG_LIST: usize = 32;
 const LONG_TEXT: usize = 380;
@@ -157,6 +162,17 @@ impl Words {
         record.marks.iter().for_each(|word| self.word(*word));
     }
 
+    /// A ramp, a record of it and an edit.
+    fn edited(&mut self, ramp: &Ramp, threshold: f32, room: Room, edit: &Sorted) {
+        self.ramp(ramp);
+        self.float(threshold);
+        self.word(room as u32);
+        self.word(edit.sort);
+        self.size(edit.stop);
+        self.float(edit.position);
+        self.floats(&edit.colour);
+    }
+
     /// One record more, of so many answers.
     fn record_done(&mut self, refusal: u32, answers: u64) {
         self.records += 1;
@@ -258,7 +274,7 @@ fn refusal_of(early: u32, list: &List, room: Room) -> u32 {
 }
 
 fn lists(options: &Options, words: &mut Words) {
-    words.size(KINDS.len() * LISTS as usize);
+    words.size(KINDS.len() * LISTS as usize + MANY.len());
     for kind in KINDS {
         for case in 0..LISTS {
             let mut random = Random::of_case(8 * options.seed + kind.code() as u64, case);
@@ -278,7 +294,22 @@ fn lists(options: &Options, words: &mut Words) {
             words.list(early, &list, room);
         }
     }
+    for stops in MANY {
+        let (ramp, threshold) = (close_colours(options, stops), 0.035);
+        words.ramp(&ramp);
+        words.float(threshold);
+        words.word(Room::Full as u32);
+        words.list(early(&ramp), &list_of(&ramp, threshold), Room::Full);
+    }
     words.printed("lists");
+}
+
+/// Evenly spaced stops, whose colours lie close to each other.
+fn close_colours(options: &Options, stops: usize) -> Ramp {
+    let mut random = Random::of_case(options.seed, stops as u64);
+    let mut ramp = of_many(&mut random, Kind::CatmullRom, stops, true);
+    ramp.channels.iter_mut().for_each(|c| *c = 0.3 * random.unit());
+    ramp
 }
 
 /// A record of few points: each row has one or two, some of them rubbish.
@@ -327,13 +358,20 @@ fn thinned(options: &Options, words: &mut Words) {
 }
 
 fn refreshed(options: &Options, words: &mut Words) {
-    words.word(EDITS.iter().sum::<u64>() as u32);
+    words.size(EDITS.iter().sum::<u64>() as usize + MANY.len());
     for (sort, name) in (0..).zip(SORTS) {
         let (before, count) = (words.answered, EDITS[sort as usize]);
         for case in 0..count {
             refreshed_case(words, sort, case, Random::of_case(8 * options.seed + sort as u64, case));
         }
         println!("refreshed, {name}: {count} records, {} of them not refused", words.answered - before);
+    }
+    for stops in MANY {
+        let edit = Sorted { sort: COLOUR, stop: stops / 2, position: 0.0, colour: [0.1, 0.0, 0.1, 0.0] };
+        let (ramp, threshold) = (close_colours(options, stops), 0.035);
+        let list = refreshed_list(&ramp, &edit, threshold);
+        words.edited(&ramp, threshold, Room::Full, &edit);
+        words.list(edits::refusal(&ramp, &edit), &list, Room::Full);
     }
     words.printed("refreshed");
 }
@@ -360,13 +398,7 @@ fn refreshed_case(words: &mut Words, sort: u32, case: u64, mut random: Random) {
             break (ramp, threshold, room, edit, refusal, list);
         }
     };
-    words.ramp(&ramp);
-    words.float(threshold);
-    words.word(room as u32);
-    words.word(edit.sort);
-    words.size(edit.stop);
-    words.float(edit.position);
-    words.floats(&edit.colour);
+    words.edited(&ramp, threshold, room, &edit);
     words.list(refusal, &list, Room::Full);
 }
 

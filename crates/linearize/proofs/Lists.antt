@@ -12,9 +12,8 @@ use Rattle.thinning.specs.Counts.{sumOf}
 use Rattle.thinning.specs.Kept.{thinned, weighed, keptOf, weighedOf, refusalOf, writtenOf, positionsWritten, channelsWritten, listEvaluations}
 use Rattle.thinning.specs.Walk.{Run, run, Outcome, comesTo, outcome, Ends}
 use Rattle.linearize.specs.Desk.{evaluationsOfListed, listedOf, listAnswer, withSampling, afterSpending}
-use Rattle.linearize.specs.Inner.{ListMade}
+use Rattle.linearize.specs.Inner.{starting, comesToAll, ListMade}
 use Rattle.sampling.specs.declared.Point.{Point}
-use Rattle.thinning.specs.declared.Progress.{Progress}
 use Rattle.linearize.specs.declared.Listed.{Listed}
 use Rattle.linearize.specs.declared.Listed.the-variants as listed
 use Rattle.slices.proofs.Stores.{sets-all}
@@ -59,40 +58,46 @@ module _ (k : ℕ) (out : List Float) where
 
 -- ---- the run over a list whose first point is p
 
-abbrev pub starting : Point → Progress
-starting p = record { last = p; stops = 0; tried = 0; refusal = 0 }
-
-module _ (g : Gradient) (far : Far) (room : ℕ) (ts ps cs : List Float) (p : Point) (e : ts ≡ p .t ∷ drop 1 ts) where
+module _ (g : Gradient) (far : Far) (room : ℕ) (ts ps cs : List Float) where
   abbrev whole : Outcome
-  whole = comesTo g room (run (starting p) ps cs) (keptOf g far ts) (weighedOf g far ts)
+  whole = comesToAll g far room ts ps cs
 
-  kept-is : keptOf g far ts ≡ p .t ∷ thinned g far (p .t) (drop 1 ts)
-  unfolding keptOf
-  kept-is = ap (keptOf g far) e
+  module _ (p : Point) (e : ts ≡ p .t ∷ drop 1 ts) where
+    kept-is : keptOf g far ts ≡ p .t ∷ thinned g far (p .t) (drop 1 ts)
+    unfolding keptOf
+    kept-is = ap (keptOf g far) e
 
-  weighed-is : weighedOf g far ts ≡ weighed g far (p .t) (drop 1 ts)
-  unfolding weighedOf
-  weighed-is = ap (weighedOf g far) e
+    weighed-is : weighedOf g far ts ≡ weighed g far (p .t) (drop 1 ts)
+    unfolding weighedOf
+    weighed-is = ap (weighedOf g far) e
 
-  -- the first stop is refused
-  pub first-refused : (r : Run) → Emitted g room (run (starting p) ps cs) p r → (r .progress .refusal ≡ 0 → ⊥) → Ends whole r
-  first-refused r w nz =
-      record { refused = w .refused nz (thinned g far (p .t) (drop 1 ts)) (weighedOf g far ts) ∙ rw kept-is; same = λ z. absurd (nz z) }
+    -- of the point in hand nothing but its number counts
+    whole-is : comesTo g room (run (starting p) ps cs) (keptOf g far ts) (weighedOf g far ts) ≡ whole
+    unfolding comesTo
+    whole-is = let f : getD ts 0 f0 ≡ p .t = ap (λ (l : List Float). getD l 0 f0) e in rw f
 
-  -- the first stop is written, and the rest thinned
-  pub then-thinned : (r1 r : Run) → Emitted g room (run (starting p) ps cs) p r1 → r1 .progress .refusal ≡ 0
-      → Ends (outcome g far room r1 (drop 1 ts)) r → Ends whole r
-  unfolding outcome
-  then-thinned r1 r w z h =
-      let o : outcome g far room r1 (drop 1 ts) ≡ whole =
-      ap (λ (q : Point). comesTo g room r1 (thinned g far (q .t) (drop 1 ts)) (weighed g far (q .t) (drop 1 ts))) (w .last z)
-      ∙ w .done z (thinned g far (p .t) (drop 1 ts)) (weighed g far (p .t) (drop 1 ts))
-      ∙ rw (kept-is, weighed-is) in
-      rw (← o) h
+    -- the first stop is refused
+    pub first-refused : (r : Run) → Emitted g room (run (starting p) ps cs) p r → (r .progress .refusal ≡ 0 → ⊥) → Ends whole r
+    first-refused r w nz =
+        record {
+          refused = w .refused nz (thinned g far (p .t) (drop 1 ts)) (weighedOf g far ts) ∙ rw (← kept-is) (ap (λ (o : Outcome). o .refusal) whole-is);
+          same = λ z. absurd (nz z);
+        }
+
+    -- the first stop is written, and the rest thinned
+    pub then-thinned : (r1 r : Run) → Emitted g room (run (starting p) ps cs) p r1 → r1 .progress .refusal ≡ 0
+        → Ends (outcome g far room r1 (drop 1 ts)) r → Ends whole r
+    unfolding outcome
+    then-thinned r1 r w z h =
+        let o : outcome g far room r1 (drop 1 ts) ≡ whole =
+        ap (λ (q : Point). comesTo g room r1 (thinned g far (q .t) (drop 1 ts)) (weighed g far (q .t) (drop 1 ts))) (w .last z)
+        ∙ w .done z (thinned g far (p .t) (drop 1 ts)) (weighed g far (p .t) (drop 1 ts))
+        ∙ rw (← kept-is, ← weighed-is) whole-is in
+        rw (← o) h
 
   refusal-is : whole .refusal ≡ refusalOf g far room ts
   unfolding comesTo refusalOf
-  refusal-is = let f : getD ts 0 f0 ≡ p .t = ap (λ (l : List Float). getD l 0 f0) e in rw f
+  refusal-is = refl
 
   -- a run that has ended as foretold is the list made
   pub list-made : (r : Run) → Ends whole r → length (r .places) ≡ length ps → length (r .colours) ≡ length cs

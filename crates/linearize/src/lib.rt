@@ -19,6 +19,7 @@ ghost use Rattle.sampling.specs.Lent.{lentHeld};
 ghost use Rattle.linearize.specs.Lent.{lentOutput};
 ghost use Rattle.linearize.specs.Promises.{Thins, Flattens};
 
+mod following;
 mod kept;
 mod listing;
 

@@ -1,5 +1,7 @@
 // Thinning: the points of a record one after the other, each kept or not, and the stops written out.
 use crate::Listed;
+use crate::following;
+use crate::following::follow;
 use places::RowPlace;
 use places::next_place;
 use places::point_at;
@@ -7,7 +9,7 @@ use sampling::Sampler;
 use sampling::cells::evaluate;
 use slices::zero_from;
 use stops::Kind;
-use stops::segments;
+use stops::Window;
 use thinning::Progress;
 use thinning::emit;
 use thinning::room_of;
@@ -20,13 +22,13 @@ ghost use Rattle.sampling.specs.Constants.{recordLength};
 ghost use Rattle.places.specs.Places.{Ready};
 ghost use Rattle.thinning.specs.Kept.{writtenOf};
 ghost use Rattle.linearize.specs.Desk.{listedOf};
-ghost use Rattle.sampling.specs.Inner.{Prepared};
 ghost use Rattle.stops.specs.declared.Checked.the-variants.{Fine};
-ghost use Rattle.linearize.specs.Inner.{Started, points, MakesList, ThinsRest};
+ghost use Rattle.linearize.specs.Inner.{Started, points, MakesList, ThinsAll, ThinsRest};
 ghost use Rattle.linearize.specs.Lent.{lentOutput};
 ghost use Rattle.stops.specs.Lent.{rampIn, lentRamp, old, new};
 
-// Thins the points after the first, from place to place; the last is always kept.
+// Thins the points after the first, from place to place; the last is always kept. The table follows the points: it has the
+// segments of the pairs from that of one of the last points on, so that each is worked out once or, at its start, twice.
 fn thin_points(
     kind: Kind,
     positions: &[f32],
@@ -40,13 +42,15 @@ fn thin_points(
     counts: &[u8],
     out_positions: &mut [f32],
     out_channels: &mut [f32],
-    table: &[[[f32; 4]; 4]],
+    table: &mut [[[f32; 4]; 4]],
 ) -> Progress
     requires { ⌜ Ready (now rows) (now counts) × Started (colourOf (rampIn kind positions channels codes)) room start ⌝ }
-    requires { ⌜ Prepared (rampIn kind positions channels codes) (now table) ⌝ }
+    requires { ⌜ checkOf (rampIn kind positions channels codes) ≡ Fine ⌝ }
     ensures { λ r. ⌜ ThinsRest (lentRamp kind positions channels codes) cutoff room (points rows counts max) start (lentOutput «out_positions» «out_channels») r ⌝ }
 {
+    let n = positions.len();
     let mut s = start;
+    let none = Window { base: 0, count: 0 };
     let mut place = next_place(counts, RowPlace { row: 0, index: 0 });
     let mut x = evaluate(
         kind,
@@ -55,8 +59,10 @@ fn thin_points(
         codes,
         point_at(rows, max, place),
         1,
-        table,
+        0,
+        &table[..0],
     );
+    let mut w = follow(channels, n, none, x.pair, table);
     while place.row < Sampler::CELLS {
         let after = next_place(counts, place);
         let next = evaluate(
@@ -66,8 +72,10 @@ fn thin_points(
             codes,
             point_at(rows, max, after),
             x.pair,
-            table,
+            w.base,
+            &table[..w.count],
         );
+        w = follow(channels, n, w, next.pair, table);
         s = step(cutoff, room, s, x, next, out_positions, out_channels);
         let refusal = s.refusal;
         if refusal != 0 {
@@ -77,6 +85,53 @@ fn thin_points(
         place = after;
     }
     emit(room, s, x, out_positions, out_channels)
+}
+
+// Thins a record's points: a stop for the first, and the others weighed.
+fn thin_all(
+    kind: Kind,
+    positions: &[f32],
+    channels: &[f32],
+    codes: &[u8],
+    cutoff: f32,
+    max: f32,
+    room: usize,
+    rows: &[f32],
+    counts: &[u8],
+    out_positions: &mut [f32],
+    out_channels: &mut [f32],
+    table: &mut [[[f32; 4]; 4]],
+) -> Progress
+    requires { ⌜ Ready (now rows) (now counts) × (checkOf (rampIn kind positions channels codes) ≡ Fine) ⌝ }
+    ensures { λ r. ⌜ ThinsAll (lentRamp kind positions channels codes) cutoff room (points rows counts max) (lentOutput «out_positions» «out_channels») r ⌝ }
+{
+    let first = evaluate(kind, positions, channels, codes, rows[0], 1, 0, &table[..0]);
+    let start = Progress {
+        last: first,
+        stops: 0,
+        tried: 0,
+        refusal: 0,
+    };
+    let s = emit(room, start, first, out_positions, out_channels);
+    let refusal = s.refusal;
+    if refusal != 0 {
+        return s;
+    }
+    thin_points(
+        kind,
+        positions,
+        channels,
+        codes,
+        cutoff,
+        max,
+        room,
+        s,
+        rows,
+        counts,
+        out_positions,
+        out_channels,
+        table,
+    )
 }
 
 // The answer; a refusal sets both outputs to zero.
@@ -98,7 +153,7 @@ fn finish(s: Progress, out_positions: &mut [f32], out_channels: &mut [f32]) -> L
     }
 }
 
-// Thins a record's points with a table of segments in hand: a stop for the first, and the others weighed.
+// Thins a record's points, and writes the stops, with room in hand for segments.
 fn thin_each(
     kind: Kind,
     positions: &[f32],
@@ -110,26 +165,13 @@ fn thin_each(
     counts: &[u8],
     out_positions: &mut [f32],
     out_channels: &mut [f32],
-    table: &[[[f32; 4]; 4]],
+    table: &mut [[[f32; 4]; 4]],
 ) -> Listed
-    requires { ⌜ Ready (now rows) (now counts) ⌝ }
-    requires { ⌜ Prepared (rampIn kind positions channels codes) (now table) ⌝ }
+    requires { ⌜ Ready (now rows) (now counts) × (checkOf (rampIn kind positions channels codes) ≡ Fine) ⌝ }
     ensures { λ r. ⌜ MakesList (lentRamp kind positions channels codes) cutoff (points rows counts max) (lentOutput «out_positions» «out_channels») r ⌝ }
 {
     let room = room_of(out_positions.len(), out_channels.len());
-    let first = evaluate(kind, positions, channels, codes, rows[0], 1, table);
-    let start = Progress {
-        last: first,
-        stops: 0,
-        tried: 0,
-        refusal: 0,
-    };
-    let s = emit(room, start, first, out_positions, out_channels);
-    let refusal = s.refusal;
-    if refusal != 0 {
-        return finish(s, out_positions, out_channels);
-    }
-    let e = thin_points(
+    let s = thin_all(
         kind,
         positions,
         channels,
@@ -137,17 +179,16 @@ fn thin_each(
         cutoff,
         max,
         room,
-        s,
         rows,
         counts,
         out_positions,
         out_channels,
         table,
     );
-    finish(e, out_positions, out_channels)
+    finish(s, out_positions, out_channels)
 }
 
-// Thins a record's points, and writes the stops. The segments of a Catmull-Rom ramp are worked out once, in a table.
+// Thins a record's points, and writes the stops. A Catmull-Rom ramp has a window of segments.
 pub(crate) fn thin_record(
     kind: Kind,
     positions: &[f32],
@@ -163,24 +204,8 @@ pub(crate) fn thin_record(
     requires { ⌜ Ready (now rows) (now counts) × (checkOf (rampIn kind positions channels codes) ≡ Fine) ⌝ }
     ensures { λ r. ⌜ MakesList (lentRamp kind positions channels codes) cutoff (points rows counts max) (lentOutput «out_positions» «out_channels») r ⌝ }
 {
-    if !segments::is_catmull_rom(kind) {
-        let none = [[[0.0f32; 4]; 4]; 1];
-        return thin_each(
-            kind,
-            positions,
-            channels,
-            codes,
-            cutoff,
-            max,
-            rows,
-            counts,
-            out_positions,
-            out_channels,
-            &none[..0],
-        );
-    }
-    let mut table = [[[0.0f32; 4]; 4]; segments::ROOM];
-    let m = segments::fill(channels, positions.len(), &mut table);
+    let mut table = [[[0.0f32; 4]; 4]; following::ROOM];
+    let room = following::room_for(kind);
     thin_each(
         kind,
         positions,
@@ -192,6 +217,6 @@ pub(crate) fn thin_record(
         counts,
         out_positions,
         out_channels,
-        &table[..m],
+        &mut table[..room],
     )
 }

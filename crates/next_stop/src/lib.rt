@@ -156,7 +156,7 @@ fn step_from(
         },
         ListPlace::Start => {
             let at = RowPlace { row: 0, index: 0 };
-            let p = lone_point(kind, positions, channels, codes, point_at(rows, max, at));
+            let p = lone_point(kind, positions, channels, codes, point_at(rows, max, at), 1);
             hand_out(p.t, p, 0, at)
         }
         ListPlace::After { row, index } => {

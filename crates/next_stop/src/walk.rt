@@ -12,30 +12,32 @@ ghost use mathlib.Core.Path.{_≡_};
 ghost use Prim.Native.Nat.{_<_};
 ghost use Rattle.gradient.specs.Ramp.{checkOf, colourOf};
 ghost use Rattle.sampling.specs.Constants.{cells};
-ghost use Rattle.sampling.specs.Inner.{Prepared, PointAt};
+ghost use Rattle.sampling.specs.Inner.{PointAt};
 ghost use Rattle.difference.specs.Difference.{exceeds};
 ghost use Rattle.stops.specs.Lent.{rampIn, lentRamp, old};
 ghost use Rattle.stops.specs.declared.Checked.the-variants.{Fine};
 ghost use Rattle.places.specs.Places.{Ready, InRecord};
 ghost use Rattle.next_stop.specs.Inner.{FindsNext};
 
-// The point at t. A step has no table of Catmull-Rom segments: it would be worked out for the whole ramp each time.
+// The point at t, tried in the pair `guess` first. A step has no table of Catmull-Rom segments: it would be worked out anew
+// each time.
 pub(crate) fn lone_point(
     kind: Kind,
     positions: &[f32],
     channels: &[f32],
     codes: &[u8],
     t: f32,
+    guess: usize,
 ) -> Point
     requires { ⌜ checkOf (rampIn kind positions channels codes) ≡ Fine ⌝ }
     ensures { λ r. ⌜ PointAt (colourOf (lentRamp kind positions channels codes)) t r ⌝ }
 {
     let none = [[[0.0f32; 4]; 4]; 1];
-    evaluate(kind, positions, channels, codes, t, 1, &none[..0])
+    evaluate(kind, positions, channels, codes, t, guess, 0, &none[..0])
 }
 
 // The first point kept after the one at a place. It starts from there, and looks at no point before it.
-fn find_by(
+pub(crate) fn find(
     kind: Kind,
     positions: &[f32],
     channels: &[f32],
@@ -45,43 +47,21 @@ fn find_by(
     rows: &[f32],
     counts: &[u8],
     from: RowPlace,
-    table: &[[[f32; 4]; 4]],
 ) -> Found
     requires { ⌜ Ready (now rows) (now counts) × (InRecord (now counts) from × (from .row < cells)) ⌝ }
-    requires { ⌜ Prepared (rampIn kind positions channels codes) (now table) ⌝ }
+    requires { ⌜ checkOf (rampIn kind positions channels codes) ≡ Fine ⌝ }
     ensures { λ r. ⌜ FindsNext (colourOf (lentRamp kind positions channels codes)) (exceeds cutoff) (old rows) (old counts) max from r ⌝ }
 {
-    let last = evaluate(
-        kind,
-        positions,
-        channels,
-        codes,
-        point_at(rows, max, from),
-        1,
-        table,
-    );
+    let t = point_at(rows, max, from);
+    let last = lone_point(kind, positions, channels, codes, t, 1);
     let mut place = next_place(counts, from);
-    let mut x = evaluate(
-        kind,
-        positions,
-        channels,
-        codes,
-        point_at(rows, max, place),
-        last.pair,
-        table,
-    );
+    let second = point_at(rows, max, place);
+    let mut x = lone_point(kind, positions, channels, codes, second, last.pair);
     let mut tried = 0;
     while place.row < Sampler::CELLS {
         let after = next_place(counts, place);
-        let next = evaluate(
-            kind,
-            positions,
-            channels,
-            codes,
-            point_at(rows, max, after),
-            x.pair,
-            table,
-        );
+        let later = point_at(rows, max, after);
+        let next = lone_point(kind, positions, channels, codes, later, x.pair);
         let w = weigh(cutoff, last, x, next);
         tried = tried + w.tried;
         if w.kept {
@@ -101,35 +81,4 @@ fn find_by(
         place,
         tried,
     }
-}
-
-// The same with no table of segments.
-pub(crate) fn find(
-    kind: Kind,
-    positions: &[f32],
-    channels: &[f32],
-    codes: &[u8],
-    cutoff: f32,
-    max: f32,
-    rows: &[f32],
-    counts: &[u8],
-    from: RowPlace,
-) -> Found
-    requires { ⌜ Ready (now rows) (now counts) × (InRecord (now counts) from × (from .row < cells)) ⌝ }
-    requires { ⌜ checkOf (rampIn kind positions channels codes) ≡ Fine ⌝ }
-    ensures { λ r. ⌜ FindsNext (colourOf (lentRamp kind positions channels codes)) (exceeds cutoff) (old rows) (old counts) max from r ⌝ }
-{
-    let none = [[[0.0f32; 4]; 4]; 1];
-    find_by(
-        kind,
-        positions,
-        channels,
-        codes,
-        cutoff,
-        max,
-        rows,
-        counts,
-        from,
-        &none[..0],
-    )
 }

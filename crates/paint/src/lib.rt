@@ -90,13 +90,13 @@ fn renewed(
     table: &[[[f32; 4]; 4]],
 ) -> [[f32; 4]; 4]
     requires { ⌜ s ≡ segmentFor (now channels) n k ⌝ }
-    requires { ⌜ Segments (now channels) n (now table) ⌝ }
+    requires { ⌜ Segments (now channels) n 0 (now table) ⌝ }
     ensures { λ r. ⌜ r ≡ segmentFor (old channels) n j ⌝ }
 {
     if j == k {
         return s;
     }
-    segments::segment(channels, n, table, j)
+    segments::segment(channels, n, 0, table, j)
 }
 
 // Catmull-Rom stops at ts, with a table of segments in hand. A segment is kept while the pair stays.
@@ -108,7 +108,7 @@ fn paint_catmull(
     table: &[[[f32; 4]; 4]],
 )
     requires { ⌜ Paintable (now positions) (now channels) (now ts) (now out) ⌝ }
-    requires { ⌜ Segments (now channels) (length (now positions)) (now table) ⌝ }
+    requires { ⌜ Segments (now channels) (length (now positions)) 0 (now table) ⌝ }
     ensures { λ _. ⌜ new out ≡ paintedOver (stopColour Kind.CatmullRom (old positions) (old channels)) (old ts) (old out) ⌝ }
 {
     let n = positions.len();
@@ -139,7 +139,7 @@ fn paint_tabled(
     requires { ⌜ Paintable (now positions) (now channels) (now ts) (now out) ⌝ }
     ensures { λ _. ⌜ new out ≡ paintedOver (stopColour Kind.CatmullRom (old positions) (old channels)) (old ts) (old out) ⌝ }
 {
-    let m = segments::fill(channels, positions.len(), room);
+    let m = segments::fill(channels, positions.len(), 0, room);
     let table = &room[..m];
     paint_catmull(positions, channels, ts, out, table)
 }

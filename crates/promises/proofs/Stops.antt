@@ -84,7 +84,7 @@ pub is-catmull-rom : (κs : Lfts 0) (a : _) → Coincide (of-is-catmull-rom.Lear
 is-catmull-rom κs a = coincide (λ r e w. w)
 
 -- how many, and the table
-pub fill : (κs : Lfts 2) (a : _) → Coincide (of-fill.Learnt κs a) (λ r e. r with now (e .1 .1 .0))
+pub fill : (κs : Lfts 2) (a : _) → Coincide (of-fill.Learnt κs a) (λ r e. r with now (e .1 .1 .1 .0))
 fill κs a = coincide (λ r e w. both (w .many) (w .written))
 
 pub segment : (κs : Lfts 2) (a : _) → Coincide (of-segment.Learnt κs a) answer

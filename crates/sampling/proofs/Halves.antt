@@ -22,11 +22,11 @@ use Rattle.sampling.specs.Midpoints.{Gradient, Far, midOf, keeps, halves
 use Rattle.slices.proofs.Stores.{sets-append}
 
 -- the test on the colours in hand is the definition's
-pub keeps-is : (ramp : Ramp) (table : Table) (far : Far) (p q m : Point) (foretold : Rgba) (b r : Bool)
-    → Between ramp table p q → PointAt (colourOf ramp) (midOf (p .t) (q .t)) m
+pub keeps-is : (ramp : Ramp) (base : ℕ) (table : Table) (far : Far) (p q m : Point) (foretold : Rgba) (b r : Bool)
+    → Between ramp base table p q → PointAt (colourOf ramp) (midOf (p .t) (q .t)) m
     → foretold ≡ linear (p .colour) (q .colour) half → r ≡ far (m .colour) foretold → r ≡ b → keeps (colourOf ramp) far (p .t) (q .t) ≡ b
 unfolding keeps
-keeps-is ramp table far p q m foretold b r w at e f h = rw (← w .left, ← w .right, ← at .0, ← at .1, ← e, ← f) h
+keeps-is ramp base table far p q m foretold b r w at e f h = rw (← w .left, ← w .right, ← at .0, ← at .1, ← e, ← f) h
 
 module _ (g : Gradient) (far : Far) (t0 t1 : Float) where
   -- the midpoint m is kept

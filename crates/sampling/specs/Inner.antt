@@ -36,10 +36,10 @@ abbrev pub taskEnd : Task → ℕ → Float
 taskEnd task = edgeOf (task .min) (task .max)
 
 -- ---- points
--- a ramp that passes the check, and a table with segments of its own, or with none
-pub record Prepared (ramp : Ramp) (table : Table) : Type 0 where
+-- a ramp that passes the check, and a table with segments of its own from the pair `base` on, or with none
+pub record Prepared (ramp : Ramp) (base : ℕ) (table : Table) : Type 0 where
   pub fine : checkOf ramp ≡ Fine
-  pub segments : Segments (ramp .channels) (length (ramp .positions)) table
+  pub segments : Segments (ramp .channels) (length (ramp .positions)) base table
 
 -- a point carries its own colour
 abbrev pub Coloured : Gradient → Point → Type 0
@@ -50,8 +50,8 @@ abbrev pub PointAt : Gradient → Float → Point → Type 0
 PointAt g t p = (p .t ≡ t) × Coloured g p
 
 -- the ends of a stretch of a checked ramp carry their colours
-pub record Between (ramp : Ramp) (table : Table) (p q : Point) : Type 0 where
-  pub ready : Prepared ramp table
+pub record Between (ramp : Ramp) (base : ℕ) (table : Table) (p q : Point) : Type 0 where
+  pub ready : Prepared ramp base table
   pub left : Coloured (colourOf ramp) p
   pub right : Coloured (colourOf ramp) q
 
@@ -72,8 +72,8 @@ pub record Carries (g : Gradient) (lo hi : Float) (i : ℕ) (c : Carried) : Type
   pub few : c .tries ≤ 127 * i
 
 -- a checked ramp, and what is carried to its cell i
-pub record Reaches (ramp : Ramp) (table : Table) (lo hi : Float) (i : ℕ) (c : Carried) : Type 0 where
-  pub ready : Prepared ramp table
+pub record Reaches (ramp : Ramp) (base : ℕ) (table : Table) (lo hi : Float) (i : ℕ) (c : Carried) : Type 0 where
+  pub ready : Prepared ramp base table
   pub carries : Carries (colourOf ramp) lo hi i c
 
 -- cell i keeps what it holds, or is sampled anew; r is carried on

@@ -54,14 +54,15 @@ fn within(
     kind: Kind,
     positions: &[f32],
     channels: &[f32],
+    base: usize,
     table: &[[[f32; 4]; 4]],
     k: usize,
     t: f32,
 ) -> Rgba
-    ensures { λ r. ⌜ r ≡ pairBy kind (old positions) (old channels) (old table) k t ⌝ }
+    ensures { λ r. ⌜ r ≡ pairBy kind (old positions) (old channels) base (old table) k t ⌝ }
 {
     if segments::is_catmull_rom(kind) {
-        return segments::pair_colour(positions, channels, table, k, t);
+        return segments::pair_colour(positions, channels, base, table, k, t);
     }
     pair_at(kind, positions, channels, k, t)
 }
@@ -71,11 +72,12 @@ fn placed(
     kind: Kind,
     positions: &[f32],
     channels: &[f32],
+    base: usize,
     table: &[[[f32; 4]; 4]],
     t: f32,
     place: Place,
 ) -> Point
-    ensures { λ r. ⌜ r ≡ placedPoint kind (old positions) (old channels) (old table) t place ⌝ }
+    ensures { λ r. ⌜ r ≡ placedPoint kind (old positions) (old channels) base (old table) t place ⌝ }
 {
     match place {
         Place::End(i) => Point {
@@ -94,15 +96,15 @@ fn placed(
             pair: 0,
         },
         Place::Between(k) => Point {
-            colour: within(kind, positions, channels, table, k, t),
+            colour: within(kind, positions, channels, base, table, k, t),
             t,
             pair: k,
         },
     }
 }
 
-// The point at t, tried in the pair `guess` before its place is searched for, with a table of Catmull-Rom segments in hand,
-// which is empty where the ramp has none: where the table has the segment of t's pair, that one is used.
+// The point at t, tried in the pair `guess` before its place is searched for, with a table of Catmull-Rom segments from the
+// pair `base` on in hand, which is empty where the ramp has none: where it has the segment of t's pair, that one is used.
 pub fn evaluate(
     kind: Kind,
     positions: &[f32],
@@ -110,16 +112,17 @@ pub fn evaluate(
     codes: &[u8],
     t: f32,
     guess: usize,
+    base: usize,
     table: &[[[f32; 4]; 4]],
 ) -> Point
-    ensures { λ r. ⌜ r ≡ pointNear (lentRamp kind positions channels codes) (old table) t guess ⌝ }
+    ensures { λ r. ⌜ r ≡ pointNear (lentRamp kind positions channels codes) base (old table) t guess ⌝ }
 {
     if gradient::is_gimp(kind) {
         let colour = gimp::colour_at(positions, channels, codes, t);
         return Point { colour, t, pair: 0 };
     }
     let place = near::find_place(positions, t, guess);
-    placed(kind, positions, channels, table, t, place)
+    placed(kind, positions, channels, base, table, t, place)
 }
 
 // The end between cell i - 1 and cell i; past the last cell it is max.
@@ -143,12 +146,12 @@ fn end_at(
     table: &[[[f32; 4]; 4]],
 ) -> Point
     requires { ⌜ i ≤ cells ⌝ }
-    requires { ⌜ Prepared (taskRamp task positions channels codes) (now table) ⌝ }
+    requires { ⌜ Prepared (taskRamp task positions channels codes) (task .base) (now table) ⌝ }
     ensures { λ r. ⌜ PointAt (taskColours task positions channels codes) (taskEnd task i) r ⌝ }
 {
     let kind = task.kind;
     let t = edge(task.min, task.max, i);
-    evaluate(kind, positions, channels, codes, t, guess, table)
+    evaluate(kind, positions, channels, codes, t, guess, task.base, table)
 }
 
 // The point where cell i starts: the one in hand, if it is known.
@@ -162,7 +165,7 @@ fn left_end(
     table: &[[[f32; 4]; 4]],
 ) -> Point
     requires { ⌜ i ≤ cells ⌝ }
-    requires { ⌜ Reaches (taskRamp task positions channels codes) (now table) (task .min) (task .max) i carried ⌝ }
+    requires { ⌜ Reaches (taskRamp task positions channels codes) (task .base) (now table) (task .min) (task .max) i carried ⌝ }
     ensures { λ r. ⌜ PointAt (taskColours task positions channels codes) (taskEnd task i) r ⌝ }
 {
     if carried.known {
@@ -185,7 +188,7 @@ pub(crate) fn resample_cell(
     table: &[[[f32; 4]; 4]],
 ) -> Carried
     requires { ⌜ (i < cells) × ((length (now rows) ≡ recordLength) × (length (now counts) ≡ cells)) ⌝ }
-    requires { ⌜ Reaches (taskRamp task positions channels codes) (now table) (task .min) (task .max) i carried ⌝ }
+    requires { ⌜ Reaches (taskRamp task positions channels codes) (task .base) (now table) (task .min) (task .max) i carried ⌝ }
     ensures { λ r. ⌜ CellCarried (taskColours task positions channels codes) (taskFar task) kept (task .min) (task .max) i (lentBody rows counts) carried r ⌝ }
 {
     if kept {

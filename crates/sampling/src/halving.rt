@@ -28,7 +28,7 @@ fn halve(
     table: &[[[f32; 4]; 4]],
 ) -> Halved
     requires { ⌜ at + 2 ^ left ≤ length (now row) + 1 ⌝ }
-    requires { ⌜ Between (taskRamp task positions channels codes) (now table) p q ⌝ }
+    requires { ⌜ Between (taskRamp task positions channels codes) (task .base) (now table) p q ⌝ }
     ensures { λ r. ⌜ HalvesTo (taskColours task positions channels codes) (taskFar task) left (p .t) (q .t) at (old row) (new row) r ⌝ }
 {
     if left == 0 {
@@ -36,7 +36,16 @@ fn halve(
     }
     let middle = (p.t + q.t) / 2.0;
     let kind = task.kind;
-    let m = evaluate(kind, positions, channels, codes, middle, p.pair, table);
+    let m = evaluate(
+        kind,
+        positions,
+        channels,
+        codes,
+        middle,
+        p.pair,
+        task.base,
+        table,
+    );
     let foretold = interpolate_linear(p.colour, q.colour, 0.5);
     if !stands_out(task.cutoff, m.colour, foretold) {
         return Halved { at, tries: 1 };
@@ -64,7 +73,7 @@ pub(crate) fn row_into(
     table: &[[[f32; 4]; 4]],
 ) -> Halved
     requires { ⌜ length (now row) ≡ rowLength ⌝ }
-    requires { ⌜ Between (taskRamp task positions channels codes) (now table) p q ⌝ }
+    requires { ⌜ Between (taskRamp task positions channels codes) (task .base) (now table) p q ⌝ }
     ensures { λ r. ⌜ RowIs (taskColours task positions channels codes) (taskFar task) (p .t) (q .t) (new row) r ⌝ }
 {
     row[0] = p.t;

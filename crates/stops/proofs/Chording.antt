@@ -18,11 +18,15 @@ use Rattle.stops.specs.Pair.{leftOf, rightOf}
 use Rattle.stops.specs.Segments.{chordsAfter, Chords}
 
 module _ (cs : List Float) where
-  pub chords-first : {c x : Rgba} → c ≡ colourAt cs 0 → x ≡ chordsOf c c → Chords cs 0 x x
-  chords-first c x = record { behind = λ h. absurd (omega arith); own = x ∙ ap₂ chordsOf c c }
+  -- the first pair of a table, whose pairs are counted from `base` on
+  pub chords-first : (base : ℕ) {j : ℕ} {x y : Rgba} → j ≡ base - 1 → x ≡ chordsOf (colourAt cs (j - 1)) (colourAt cs j) → y ≡ chordsOf (colourAt cs (base - 1)) (colourAt cs base) → Chords cs (base + 0) x y
+  chords-first base {j} e x y =
+      let none : base + 0 ≡ base = omega arith in
+      let two : j - 1 ≡ base - 2 = omega arith in
+      rw none (record { behind = λ h. x ∙ rw (two, e); own = y })
 
   -- the chords after a pair are the next one's own, where there is a next one
-  pub chords-next : (n k : ℕ) {last within after : Rgba} → Chords cs k last within → after ≡ chordsAfter cs n k → k + 1 < n → Chords cs (k + 1) within after
+  chords-next : (n k : ℕ) {last within after : Rgba} → Chords cs k last within → after ≡ chordsAfter cs n k → k + 1 < n → Chords cs (k + 1) within after
   unfolding chordsAfter rightOf
   chords-next n k {last} {within} {after} h a l =
       let same : k + 1 - 1 ≡ k = omega arith in
@@ -30,6 +34,12 @@ module _ (cs : List Float) where
         behind = λ b. let two : k + 1 - 2 ≡ k - 1 = omega arith in rw (two, same) (h .own);
         own = rw same (a ∙ simp (lt-ltb (k + 1) n l));
       }
+
+  -- the same of the pairs from `base` on
+  pub chords-further : (n base i : ℕ) {last within after : Rgba} → Chords cs (base + i) last within → after ≡ chordsAfter cs n (base + i) → i + 1 < n - base → Chords cs (base + (i + 1)) within after
+  chords-further n base i h a l =
+      let e : base + (i + 1) ≡ base + i + 1 = omega arith in
+      rw e (chords-next n (base + i) h a (omega (arith, l)))
 
   -- the chords before a pair
   pub chords-left : (k : ℕ) (q : Rgba) {i : ℕ} {p l b last within : Rgba} → i ≡ k - 1 → p ≡ colourAt cs i → l ≡ leftOf cs k p q → b ≡ cond (ltb 1 k) last (chordsOf l p) → Chords cs k last within → b ≡ chordsOf l p

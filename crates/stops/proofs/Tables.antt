@@ -1,15 +1,13 @@
 -- A table of Catmull-Rom segments: how it is filled, what it gives, and the colour by it. Assumes nothing.
 use mathlib.Core.Path.{_≡_, refl, sym, ap, _∙_}
-use mathlib.Core.Bool.{cond}
-use mathlib.Core.List.{List, [], _∷_}
+use mathlib.Core.List.{List, [], _∷_, _++_}
 use Prim.Native.Nat.{ℕ, _+_, _-_, _≤_, _<_, min}
 use native.Mathlib.Decide.{decLe}
 use native.Mathlib.Nat.{lt-of-not-le}
 use native.Mathlib.Omega.{arith}
 use borrow.Author.Tests.{lt-ltb, le-ltb}
-use lib.Dec.{ltb}
-use lib.ListN.{drop, length, getD, set, take, length-set}
-use lib.Seq.{take-at, sets, sets-eq, length-sets}
+use lib.ListN.{drop, length, getD, set, take, length-set, length-append}
+use lib.Seq.{take-at, take-append-le, sets, sets-eq, length-sets}
 use lib.Ieee.{Float}
 use Rattle.slices.specs.Joined.{joined}
 use Rattle.slices.proofs.Joined.{length-joined, joined-next, single-of}
@@ -20,7 +18,7 @@ use Rattle.blend.specs.declared.Rgba.{Rgba}
 use Rattle.blend.specs.declared.Stop.{Stop}
 use Rattle.stops.specs.Stops.{stopAt}
 use Rattle.stops.specs.Near.{segmentFor, segmentIn}
-use Rattle.stops.specs.Segments.{Table, firstSegments, FillsTable, Segments, segmentBy}
+use Rattle.stops.specs.Segments.{Table, segmentsFrom, FillsTable, Segments, InHand, segmentBy, cubicBy}
 use Rattle.stops.specs.declared.Place.the-variants.{Between}
 use Rattle.stops.proofs.Nearby.{by-between}
 
@@ -29,70 +27,88 @@ take-sets : {A : Type 0} (l vs : List A) (k : ℕ) → length vs ≡ k → k ≤
 take-sets l vs k e h = ap (take k) (sets-eq vs l 0 (omega arith)) ∙ take-at vs (drop (0 + length vs) l) k e
 
 -- ---- filling
-module _ (cs : List Float) (n : ℕ) where
+module _ (cs : List Float) (n base : ℕ) where
   -- the first i segments are there
   pub record Tabled (table₀ : Table) (i : ℕ) (table : Table) : Type 0 where
     pub within : i ≤ length table₀
-    pub pairs : i ≤ n
+    pub pairs : i ≤ n - base
     pub long : length table ≡ length table₀
-    pub written : table ≡ sets table₀ 0 (firstSegments cs n i)
+    pub written : table ≡ sets table₀ 0 (segmentsFrom cs n base i)
 
-  pub first-long : (i : ℕ) → length (firstSegments cs n i) ≡ i
-  first-long i = length-joined (λ k. segmentFor cs n k ∷ []) 1 i (λ k h. refl) i (omega arith) ∙ omega arith
+  pub first-long : (i : ℕ) → length (segmentsFrom cs n base i) ≡ i
+  first-long i = length-joined (λ k. segmentFor cs n (base + k) ∷ []) 1 i (λ k h. refl) i (omega arith) ∙ omega arith
 
   pub tabled-start : (table₀ : Table) → Tabled table₀ 0 table₀
   unfolding joined
   tabled-start table₀ = record { within = omega arith; pairs = omega arith; long = refl; written = refl }
 
-  pub tabled-next : (table₀ : Table) (i : ℕ) (table : Table) (s : List (List Float)) → i < length table₀ → i < n → s ≡ segmentFor cs n i → Tabled table₀ i table → Tabled table₀ (i + 1) (set table i s)
+  pub tabled-next : (table₀ : Table) (i : ℕ) (table : Table) (s : List (List Float)) → i < length table₀ → i < n - base → s ≡ segmentFor cs n (base + i) → Tabled table₀ i table → Tabled table₀ (i + 1) (set table i s)
   tabled-next table₀ i table s l k e f =
-      let w : set table i s ≡ sets (sets table₀ 0 (firstSegments cs n i)) (0 + length (firstSegments cs n i)) (segmentFor cs n i ∷ []) =
-      let at : 0 + length (firstSegments cs n i) ≡ i = omega (arith, first-long i) in rw (at, ← f .written, e) in
+      let w : set table i s ≡ sets (sets table₀ 0 (segmentsFrom cs n base i)) (0 + length (segmentsFrom cs n base i)) (segmentFor cs n (base + i) ∷ []) =
+      let at : 0 + length (segmentsFrom cs n base i) ≡ i = omega (arith, first-long i) in rw (at, ← f .written, e) in
       record {
         within = omega arith;
         pairs = omega arith;
         long = length-set table i s ∙ f .long;
         written =
-            w ∙ sym (sets-append table₀ 0 (firstSegments cs n i) (segmentFor cs n i ∷ []))
-            ∙ ap (sets table₀ 0) (joined-next (λ k. segmentFor cs n k ∷ []) i);
+            w ∙ sym (sets-append table₀ 0 (segmentsFrom cs n base i) (segmentFor cs n (base + i) ∷ []))
+            ∙ ap (sets table₀ 0) (joined-next (λ k. segmentFor cs n (base + k) ∷ []) i);
       }
 
-  pub tabled : (table₀ : Table) (i : ℕ) (table : Table) → Tabled table₀ i table → i ≡ min n (length table₀) → FillsTable cs n table₀ table i
+  pub tabled : (table₀ : Table) (i : ℕ) (table : Table) → Tabled table₀ i table → i ≡ min (n - base) (length table₀) → FillsTable cs n base table₀ table i
   tabled table₀ i table f e = record { many = e; written = f .written ∙ rw e }
 
   -- what is filled holds the segments
-  pub filled-most : (table₀ table : Table) (k : ℕ) → FillsTable cs n table₀ table k → k ≤ length table
-  filled-most table₀ table k f = omega (arith, f .many, ap length (f .written) ∙ length-sets table₀ 0 (firstSegments cs n (min n (length table₀))))
+  pub filled-most : (table₀ table : Table) (k : ℕ) → FillsTable cs n base table₀ table k → k ≤ length table
+  filled-most table₀ table k f = omega (arith, f .many, ap length (f .written) ∙ length-sets table₀ 0 (segmentsFrom cs n base (min (n - base) (length table₀))))
 
-  pub filled-segments : (table₀ table : Table) (k : ℕ) → FillsTable cs n table₀ table k → Segments cs n (take k table)
+  pub filled-segments : (table₀ table : Table) (k : ℕ) → FillsTable cs n base table₀ table k → Segments cs n base (take k table)
   filled-segments table₀ table k f =
-      let w : take k table ≡ firstSegments cs n k =
-      ap (take k) (f .written ∙ rw (← f .many)) ∙ take-sets table₀ (firstSegments cs n k) k (first-long k) (omega (arith, f .many)) in
-      record { each = λ i l. let h : i < k = omega (arith, l, ap length w, first-long k) in rw w (single-of (segmentFor cs n) [] k i h) }
+      let w : take k table ≡ segmentsFrom cs n base k =
+      ap (take k) (f .written ∙ rw (← f .many)) ∙ take-sets table₀ (segmentsFrom cs n base k) k (first-long k) (omega (arith, f .many)) in
+      record { each = λ i l. let h : i < k = omega (arith, l, ap length w, first-long k) in rw w (single-of (λ j. segmentFor cs n (base + j)) [] k i h) }
 
-  pub no-segments : (table : Table) → Segments cs n (take 0 table)
+  pub no-segments : (table : Table) → Segments cs n base (take 0 table)
   no-segments table = record { each = λ k l. absurd (omega arith) }
+
+  -- a window filled, in the whole table or in its first part; and an empty one
+  pub filled-window : (table₀ table : Table) (k : ℕ) → FillsTable cs n base table₀ table k → InHand cs n (record { base = base; count = k }) table
+  filled-window table₀ table k f = record { fits = filled-most table₀ table k f; segments = filled-segments table₀ table k f }
+
+  pub part-window : (table₀ table rest : Table) (k : ℕ) → FillsTable cs n base table₀ table k → InHand cs n (record { base = base; count = k }) (table ++ rest)
+  part-window table₀ table rest k f =
+      let h = filled-most table₀ table k f in
+      record { fits = omega (arith, length-append table rest); segments = rw (take-append-le k table rest h) (filled-segments table₀ table k f) }
+
+  pub empty-window : (table : Table) → InHand cs n (record { base = base; count = 0 }) table
+  empty-window table = record { fits = omega arith; segments = no-segments table }
 
   -- ---- a segment out of a table
   module _ (table : Table) (k : ℕ) where
-    pub segment-there : k < length table → getD table k [] ≡ segmentBy cs n table k
+    pub segment-before : k < base → segmentFor cs n k ≡ segmentBy cs n base table k
     unfolding segmentBy
-    segment-there h = rw (lt-ltb k (length table) h)
+    segment-before b = rw (lt-ltb k base b)
 
-    pub segment-made : length table ≤ k → segmentFor cs n k ≡ segmentBy cs n table k
+    pub segment-there : base ≤ k → k - base < length table → getD table (k - base) [] ≡ segmentBy cs n base table k
     unfolding segmentBy
-    segment-made h = rw (le-ltb k (length table) h)
+    segment-there b h = rw (le-ltb k base b, lt-ltb (k - base) (length table) h)
 
-    pub segment-same : Segments cs n table → segmentBy cs n table k ≡ segmentFor cs n k
+    pub segment-made : base ≤ k → length table ≤ k - base → segmentFor cs n k ≡ segmentBy cs n base table k
     unfolding segmentBy
-    segment-same w = go (decLe (length table) k)
+    segment-made b h = rw (le-ltb k base b, le-ltb (k - base) (length table) h)
+
+    pub segment-same : Segments cs n base table → segmentBy cs n base table k ≡ segmentFor cs n k
+    segment-same w = go (decLe base k) (decLe (length table) (k - base))
       where
-        go : Dec (length table ≤ k) → cond (ltb k (length table)) (getD table k []) (segmentFor cs n k) ≡ segmentFor cs n k
-        go (yes h) = rw (le-ltb k (length table) h)
-        go (no h) = rw (lt-ltb k (length table) (lt-of-not-le h)) (w .each k (lt-of-not-le h))
+        go : Dec (base ≤ k) → Dec (length table ≤ k - base) → segmentBy cs n base table k ≡ segmentFor cs n k
+        go (no b) _ = sym (segment-before (lt-of-not-le b))
+        go (yes b) (yes h) = sym (segment-made b h)
+        go (yes b) (no h) =
+            let e : base + (k - base) ≡ k = omega arith in
+            sym (segment-there b (lt-of-not-le h)) ∙ w .each (k - base) (lt-of-not-le h) ∙ ap (segmentFor cs n) e
 
 -- ---- the colour
-pub colour-by : (ps cs : List Float) (table : Table) (t : Float) (k : ℕ) {i : ℕ} {p q : Stop} {s : List (List Float)} {x : Float} {z : Rgba}
-    → i ≡ k - 1 → p ≡ stopAt ps cs i → q ≡ stopAt ps cs k → s ≡ segmentBy cs (length ps) table k → x ≡ shareOf p q t → z ≡ segmentAt s x
-    → z ≡ segmentIn ps cs (segmentBy cs (length ps) table k) t (Between k)
-colour-by ps cs table t k {i} {p} {q} {s} h a b c d e = by-between ps cs s t k refl h a b d e ∙ ap (λ (u : List (List Float)). segmentIn ps cs u t (Between k)) c
+pub colour-by : (ps cs : List Float) (base : ℕ) (table : Table) (t : Float) (k : ℕ) {i : ℕ} {p q : Stop} {s : List (List Float)} {x : Float} {z : Rgba}
+    → i ≡ k - 1 → p ≡ stopAt ps cs i → q ≡ stopAt ps cs k → s ≡ segmentBy cs (length ps) base table k → x ≡ shareOf p q t → z ≡ segmentAt s x
+    → z ≡ cubicBy ps cs base table k t
+colour-by ps cs base table t k {i} {p} {q} {s} h a b c d e = by-between ps cs s t k refl h a b d e ∙ ap (λ (u : List (List Float)). segmentIn ps cs u t (Between k)) c

@@ -1,10 +1,10 @@
--- Catmull-Rom segments in a table: those of the first pairs of a ramp, as many as there is room for.
+-- Catmull-Rom segments in a table: those of a ramp's pairs from one on, as many as there is room for.
 use mathlib.Core.Path.{_≡_}
 use mathlib.Core.Bool.{Bool, true, false, cond}
 use mathlib.Core.List.{List, [], _∷_}
-use Prim.Native.Nat.{ℕ, _-_, _<_, min}
+use Prim.Native.Nat.{ℕ, _+_, _-_, _≤_, _<_, min}
 use lib.Dec.{ltb}
-use lib.ListN.{length, getD}
+use lib.ListN.{length, getD, take}
 use lib.Seq.{sets}
 use lib.Ieee.{Float}
 use Rattle.slices.specs.Joined.{joined}
@@ -12,8 +12,10 @@ use Rattle.blend.specs.Chords.{chordsOf}
 use Rattle.blend.specs.declared.Rgba.{Rgba}
 use Rattle.stops.specs.Stops.{colourAt}
 use Rattle.stops.specs.Pair.{rightOf}
-use Rattle.stops.specs.Near.{segmentFor}
+use Rattle.stops.specs.Near.{segmentFor, segmentIn}
 use Rattle.stops.specs.declared.Kind.{Kind}
+use Rattle.stops.specs.declared.Window.{Window}
+use Rattle.stops.specs.declared.Place.the-variants.{Between}
 use Rattle.stops.specs.declared.Kind.the-variants.{Linear, Smoothstep, Sharp, Basis, CatmullRom, Gimp}
 
 abbrev pub isCatmullRom : Kind → Bool
@@ -27,14 +29,14 @@ isCatmullRom Gimp = false
 abbrev pub Table : Type 0
 Table = List (List (List Float))
 
--- the segments of the first k pairs of n stops
-abbrev pub firstSegments : List Float → ℕ → ℕ → Table
-firstSegments cs n k = joined (λ i. segmentFor cs n i ∷ []) k
+-- the segments of k pairs of n stops, from the pair `base` on
+abbrev pub segmentsFrom : List Float → ℕ → ℕ → ℕ → Table
+segmentsFrom cs n base k = joined (λ i. segmentFor cs n (base + i) ∷ []) k
 
--- the segments of the pairs of n stops are written, until the table is full; k is how many there are
-pub record FillsTable (cs : List Float) (n : ℕ) (table table′ : Table) (k : ℕ) : Type 0 where
-  pub many : k ≡ min n (length table)
-  pub written : table′ ≡ sets table 0 (firstSegments cs n (min n (length table)))
+-- the segments of the pairs of n stops from `base` on are written, until the table is full; k is how many there are
+pub record FillsTable (cs : List Float) (n base : ℕ) (table table′ : Table) (k : ℕ) : Type 0 where
+  pub many : k ≡ min (n - base) (length table)
+  pub written : table′ ≡ sets table 0 (segmentsFrom cs n base (min (n - base) (length table)))
 
 -- ---- what filling a table hands from pair to pair
 -- the chords from stop k to the one after it, or to the mirrored one
@@ -46,10 +48,22 @@ pub record Chords (cs : List Float) (k : ℕ) (last within : Rgba) : Type 0 wher
   pub behind : 1 < k → last ≡ chordsOf (colourAt cs (k - 2)) (colourAt cs (k - 1))
   pub own : within ≡ chordsOf (colourAt cs (k - 1)) (colourAt cs k)
 
--- at k stands the segment of the pair k - 1, k of n stops
-pub record Segments (cs : List Float) (n : ℕ) (table : Table) : Type 0 where
-  pub each : (k : ℕ) → k < length table → getD table k [] ≡ segmentFor cs n k
+-- at i stands the segment of the pair `base` + i of n stops
+pub record Segments (cs : List Float) (n base : ℕ) (table : Table) : Type 0 where
+  pub each : (i : ℕ) → i < length table → getD table i [] ≡ segmentFor cs n (base + i)
 
--- the segment of the pair k - 1, k: out of any table, or worked out where the table ends before it
-unfoldable pub segmentBy : List Float → ℕ → Table → ℕ → List (List Float)
-segmentBy cs n table k = cond (ltb k (length table)) (getD table k []) (segmentFor cs n k)
+-- a window's segments stand first in the table
+pub record InHand (cs : List Float) (n : ℕ) (w : Window) (table : Table) : Type 0 where
+  pub fits : w .count ≤ length table
+  pub segments : Segments cs n (w .base) (take (w .count) table)
+
+-- the segment of the pair k - 1, k: out of any table, whose first is that of the pair `base`, or worked out where the table has none
+unfoldable pub segmentBy : List Float → ℕ → ℕ → Table → ℕ → List (List Float)
+segmentBy cs n base table k =
+    cond (ltb k base)
+    (segmentFor cs n k)
+    (cond (ltb (k - base) (length table)) (getD table (k - base) []) (segmentFor cs n k))
+
+-- the colour between stop k - 1 and stop k by that segment
+abbrev pub cubicBy : List Float → List Float → ℕ → Table → ℕ → Float → Rgba
+cubicBy ps cs base table k t = segmentIn ps cs (segmentBy cs (length ps) base table k) t (Between k)

@@ -46,6 +46,12 @@ pub enum Place {
     Between(usize),
 }
 
+// The Catmull-Rom segments in hand: those of `count` pairs from `base` on stand first in a table.
+pub struct Window {
+    pub base: usize,
+    pub count: usize,
+}
+
 // One less, and 0 of 0.
 pub fn less(i: usize) -> usize
     ensures { λ r. ⌜ r ≡ i - 1 ⌝ }

@@ -1,4 +1,4 @@
-// Catmull-Rom segments worked out once for a call: those of the first pairs, as many as a table has room for.
+// Catmull-Rom segments worked out once for a call: those of the pairs from one on, as many as a table has room for.
 use crate::Kind;
 use crate::colour;
 use crate::left_of;
@@ -11,13 +11,13 @@ use blend::catmull_rom;
 use blend::utils;
 ghost use mathlib.Core.Path.{_≡_};
 ghost use mathlib.Core.Bool.{cond};
+ghost use Prim.Native.Nat.{_-_};
 ghost use lib.Dec.{ltb};
-ghost use lib.ListN.{length};
 ghost use Rattle.blend.specs.Chords.{chordsOf};
 ghost use Rattle.stops.specs.Lent.{old, new};
-ghost use Rattle.stops.specs.Near.{segmentFor, segmentIn};
-ghost use Rattle.stops.specs.Segments.{isCatmullRom, FillsTable, segmentBy, chordsAfter, Chords};
-ghost use Rattle.stops.specs.declared.Place.the-variants.{Between};
+ghost use Rattle.stops.specs.Near.{segmentFor};
+ghost use Rattle.stops.specs.Stops.{colourAt};
+ghost use Rattle.stops.specs.Segments.{isCatmullRom, FillsTable, segmentBy, cubicBy, chordsAfter, Chords};
 
 // The pairs of a table on the stack: 16 KiB, and 2 KiB for ramps of few stops, since setting the larger one up takes longer than
 // flattening a ramp of two.
@@ -36,6 +36,23 @@ pub fn is_catmull_rom(kind: Kind) -> bool
         Kind::CatmullRom => true,
         Kind::Gimp => false,
     }
+}
+
+// The pairs of n stops from `base` on.
+fn pairs_from(n: usize, base: usize) -> usize
+    ensures { λ r. ⌜ r ≡ n - base ⌝ }
+{
+    if n <= base {
+        return 0;
+    }
+    n - base
+}
+
+// The chords from stop k - 1 to stop k.
+fn chords_within(channels: &[f32], k: usize) -> Rgba
+    ensures { λ r. ⌜ r ≡ chordsOf (colourAt (old channels) (k - 1)) (colourAt (old channels) k) ⌝ }
+{
+    catmull_rom::chords(colour(channels, less(k)), colour(channels, k))
 }
 
 // The chords from stop k to the stop after it, or to the mirrored one.
@@ -84,21 +101,22 @@ fn segment_next(
     )
 }
 
-// Writes the segments of the pairs of n stops, until the table is full. Gives how many there are. Each pair hands its chords on
-// to the next.
-pub fn fill(channels: &[f32], n: usize, table: &mut [[[f32; 4]; 4]]) -> usize
-    ensures { λ r. ⌜ FillsTable (old channels) n (old table) (new table) r ⌝ }
+// Writes the segments of the pairs of n stops from `base` on, until the table is full. Gives how many there are. Each pair
+// hands its chords on to the next.
+pub fn fill(channels: &[f32], n: usize, base: usize, table: &mut [[[f32; 4]; 4]]) -> usize
+    ensures { λ r. ⌜ FillsTable (old channels) n base (old table) (new table) r ⌝ }
 {
-    let first = colour(channels, 0);
-    let mut last = catmull_rom::chords(first, first);
-    let mut within = last;
+    let pairs = pairs_from(n, base);
+    let mut last = chords_within(channels, less(base));
+    let mut within = chords_within(channels, base);
     let mut i = 0;
     while i < table.len() {
-        if n <= i {
+        if pairs <= i {
             return i;
         }
-        let after = chords_after(channels, n, i);
-        table[i] = segment_next(channels, n, i, last, within, after);
+        let k = base + i;
+        let after = chords_after(channels, n, k);
+        table[i] = segment_next(channels, n, k, last, within, after);
         last = within;
         within = after;
         i += 1;
@@ -106,12 +124,22 @@ pub fn fill(channels: &[f32], n: usize, table: &mut [[[f32; 4]; 4]]) -> usize
     i
 }
 
-// The segment of the pair k - 1, k: out of the table, or worked out where the table ends before it.
-pub fn segment(channels: &[f32], n: usize, table: &[[[f32; 4]; 4]], k: usize) -> [[f32; 4]; 4]
-    ensures { λ r. ⌜ r ≡ segmentBy (old channels) n (old table) k ⌝ }
+// The segment of the pair k - 1, k: out of a table of the pairs from `base` on, or worked out where the table has none.
+pub fn segment(
+    channels: &[f32],
+    n: usize,
+    base: usize,
+    table: &[[[f32; 4]; 4]],
+    k: usize,
+) -> [[f32; 4]; 4]
+    ensures { λ r. ⌜ r ≡ segmentBy (old channels) n base (old table) k ⌝ }
 {
-    if k < table.len() {
-        return table[k];
+    if k < base {
+        return near::segment_for(channels, n, k);
+    }
+    let i = k - base;
+    if i < table.len() {
+        return table[i];
     }
     near::segment_for(channels, n, k)
 }
@@ -120,14 +148,15 @@ pub fn segment(channels: &[f32], n: usize, table: &[[[f32; 4]; 4]], k: usize) ->
 pub fn pair_colour(
     positions: &[f32],
     channels: &[f32],
+    base: usize,
     table: &[[[f32; 4]; 4]],
     k: usize,
     t: f32,
 ) -> Rgba
-    ensures { λ r. ⌜ r ≡ segmentIn (old positions) (old channels) (segmentBy (old channels) (length (old positions)) (old table) k) t (Between k) ⌝ }
+    ensures { λ r. ⌜ r ≡ cubicBy (old positions) (old channels) base (old table) k t ⌝ }
 {
     let p = stop(positions, channels, less(k));
     let q = stop(positions, channels, k);
-    let s = segment(channels, positions.len(), table, k);
+    let s = segment(channels, positions.len(), base, table, k);
     catmull_rom::segment_at(s, utils::share(p, q, t))
 }

@@ -14,7 +14,7 @@ slice-aggregate-table c = search needs
 paint-catmull-requires : tie.Need-paint-catmull-requires
 paint-catmull-requires c κs =
     let at-start = c .before .before .before .before .before .before .before in
-    (at-start .pre, no-segments _ _ [])
+    (at-start .pre, no-segments _ _ _ [])
 
 same-length : tie.Need-same-length
 same-length c = search needs

@@ -15,13 +15,13 @@ slice-reshare-prefix-table c = search needs
 slice-aggregate-table : tie.Need-slice-aggregate-table
 slice-aggregate-table c =
     let filled = c .before .before in
-    sym (length-take-le _ (filled .fill .last .1 .1 .0) (filled-most _ _ _ _ _ (filled .fill .ensures)))
+    sym (length-take-le _ (filled .fill .last .1 .1 .1 .0) (filled-most _ _ _ _ _ _ (filled .fill .ensures)))
 
 paint-catmull-requires : tie.Need-paint-catmull-requires
 paint-catmull-requires c κs =
     let filled = c .before .before .before in
     let at-start = filled .before .before .before .before .before .before in
-    (at-start .pre, filled-segments _ _ _ _ _ (filled .fill .ensures))
+    (at-start .pre, filled-segments _ _ _ _ _ _ (filled .fill .ensures))
 
 same-length : tie.Need-same-length
 same-length c = search needs

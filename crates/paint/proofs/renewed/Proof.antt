@@ -15,7 +15,7 @@ segment-requires : tie.Need-segment-requires
 segment-requires c κs = search needs
 
 returns-2 : tie.Need-returns-2
-returns-2 c = c .segment .ensures ∙ segment-same _ _ _ _ (c .before .before .before .pre .1)
+returns-2 c = c .segment .ensures ∙ segment-same _ _ _ _ _ (c .before .before .before .pre .1)
 
 pub renewed-spec : {M : Type 1} → statement M
 renewed-spec = tie.close (tie.spec returns segment-requires returns-2)

@@ -18,7 +18,7 @@ evaluate-requires c κs = search needs
 returns : tie.Need-returns
 returns c =
     let at-start = c .before .before .before .before .before in
-    prepared-point _ [] (record { fine = at-start .pre; segments = no-segments _ _ [] }) _ _ _ (c .evaluate .ensures)
+    prepared-point _ 0 [] (record { fine = at-start .pre; segments = no-segments _ _ _ [] }) _ _ _ (c .evaluate .ensures)
 
 pub lone-point-spec : {M : Type 1} → statement M
 lone-point-spec =

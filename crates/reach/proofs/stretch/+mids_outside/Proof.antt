@@ -29,80 +29,44 @@ mids-outside-below t =
     (falls 0 mids-outside-kinds.ps _<_ μ-mids-outside t)
     mids-outside.Pre
 
-mids-outside-returns : (t : ℕ) → mids-outside-lts.Need-returns (
-  outside-reads.Asked,
-  outside-reads.Learnt,
-  mids-outside-below t,
-  mids-outside.Post,
-) (mids-outside-at t) mids-outside.Post
-mids-outside-returns t c = none-left _ _ _ _ (c .if1 .taken)
-
-mids-outside-sub-n : (t : ℕ) → mids-outside-lts.Need-sub-n (
-  outside-reads.Asked,
-  outside-reads.Learnt,
-  mids-outside-below t,
-  mids-outside.Post,
-) (mids-outside-at t) mids-outside.Post
-mids-outside-sub-n t c = omega arith
-
-mids-outside-outside-requires : (t : ℕ) → mids-outside-lts.Need-outside-requires (
-  outside-reads.Asked,
-  outside-reads.Learnt,
-  mids-outside-below t,
-  mids-outside.Post,
-) (mids-outside-at t) mids-outside.Post
-mids-outside-outside-requires t c κs = tt
-
-mids-outside-returns-2 : (t : ℕ) → mids-outside-lts.Need-returns-2 (
-  outside-reads.Asked,
-  outside-reads.Learnt,
-  mids-outside-below t,
-  mids-outside.Post,
-) (mids-outside-at t) mids-outside.Post
-unfolding midOf
-mids-outside-returns-2 t c = mid-inside _ _ _ _ refl _ (c .before .before .if1 .left) (failed (c .if2 .taken) (c .before .outside .ensures))
-
-mids-outside-mids-outside-requires : (t : ℕ) → mids-outside-lts.Need-mids-outside-requires (
-  outside-reads.Asked,
-  outside-reads.Learnt,
-  mids-outside-below t,
-  mids-outside.Post,
-) (mids-outside-at t) mids-outside.Post
-mids-outside-mids-outside-requires t c κs = (omega (arith, c .before .before .before .pre .0, c .before .before .if1 .left), tt)
-
-mids-outside-returns-3 : (t : ℕ) → mids-outside-lts.Need-returns-3 (
-  outside-reads.Asked,
-  outside-reads.Learnt,
-  mids-outside-below t,
-  mids-outside.Post,
-) (mids-outside-at t) mids-outside.Post
-unfolding midOf
-mids-outside-returns-3 t c = left-inside _ _ _ _ refl (passed (c .before .before .if2 .left) (c .before .before .before .outside .ensures)) _ (c .before .before .before .before .if1 .left) (failed (c .if3 .taken) (c .before .mids-outside .ensures))
-
-mids-outside-mids-outside-requires-2 : (t : ℕ) → mids-outside-lts.Need-mids-outside-requires-2 (
-  outside-reads.Asked,
-  outside-reads.Learnt,
-  mids-outside-below t,
-  mids-outside.Post,
-) (mids-outside-at t) mids-outside.Post
-mids-outside-mids-outside-requires-2 t c κs = (omega (arith, c .before .before .before .before .before .pre .0, c .before .before .before .before .if1 .left), tt)
-
-mids-outside-returns-4 : (t : ℕ) → mids-outside-lts.Need-returns-4 (
-  outside-reads.Asked,
-  outside-reads.Learnt,
-  mids-outside-below t,
-  mids-outside.Post,
-) (mids-outside-at t) mids-outside.Post
-unfolding midOf
-mids-outside-returns-4 t c = c .mids-outside2 .ensures ∙ left-outside _ _ _ _ refl (passed (c .before .before .before .if2 .left) (c .before .before .before .before .outside .ensures)) _ (c .before .before .before .before .before .if1 .left) (passed (c .before .if3 .left) (c .before .before .mids-outside .ensures))
-
-pub +mids-outside-spec : {M : Type 1} → statement M
-+mids-outside-spec = close μ-mids-outside λ t. mids-outside-lts.spec (
+-- what is known of the calls, where every call of itself has less left
+abbrev calls : ℕ → mids-outside-lts.Claims
+calls t = (
   outside-reads.Asked,
   outside-reads.Learnt,
   mids-outside-below t,
   mids-outside.Post,
 )
+
+mids-outside-returns : (t : ℕ) → mids-outside-lts.Need-returns (calls t) (mids-outside-at t) mids-outside.Post
+mids-outside-returns t c = none-left _ _ _ _ (c .if1 .taken)
+
+mids-outside-sub-n : (t : ℕ) → mids-outside-lts.Need-sub-n (calls t) (mids-outside-at t) mids-outside.Post
+mids-outside-sub-n t c = omega arith
+
+mids-outside-outside-requires : (t : ℕ) → mids-outside-lts.Need-outside-requires (calls t) (mids-outside-at t) mids-outside.Post
+mids-outside-outside-requires t c κs = tt
+
+mids-outside-returns-2 : (t : ℕ) → mids-outside-lts.Need-returns-2 (calls t) (mids-outside-at t) mids-outside.Post
+unfolding midOf
+mids-outside-returns-2 t c = mid-inside _ _ _ _ refl _ (c .before .before .if1 .left) (failed (c .if2 .taken) (c .before .outside .ensures))
+
+mids-outside-mids-outside-requires : (t : ℕ) → mids-outside-lts.Need-mids-outside-requires (calls t) (mids-outside-at t) mids-outside.Post
+mids-outside-mids-outside-requires t c κs = (omega (arith, c .before .before .before .pre .0, c .before .before .if1 .left), tt)
+
+mids-outside-returns-3 : (t : ℕ) → mids-outside-lts.Need-returns-3 (calls t) (mids-outside-at t) mids-outside.Post
+unfolding midOf
+mids-outside-returns-3 t c = left-inside _ _ _ _ refl (passed (c .before .before .if2 .left) (c .before .before .before .outside .ensures)) _ (c .before .before .before .before .if1 .left) (failed (c .if3 .taken) (c .before .mids-outside .ensures))
+
+mids-outside-mids-outside-requires-2 : (t : ℕ) → mids-outside-lts.Need-mids-outside-requires-2 (calls t) (mids-outside-at t) mids-outside.Post
+mids-outside-mids-outside-requires-2 t c κs = (omega (arith, c .before .before .before .before .before .pre .0, c .before .before .before .before .if1 .left), tt)
+
+mids-outside-returns-4 : (t : ℕ) → mids-outside-lts.Need-returns-4 (calls t) (mids-outside-at t) mids-outside.Post
+unfolding midOf
+mids-outside-returns-4 t c = c .mids-outside2 .ensures ∙ left-outside _ _ _ _ refl (passed (c .before .before .before .if2 .left) (c .before .before .before .before .outside .ensures)) _ (c .before .before .before .before .before .if1 .left) (passed (c .before .if3 .left) (c .before .before .mids-outside .ensures))
+
+pub +mids-outside-spec : {M : Type 1} → statement M
++mids-outside-spec = close μ-mids-outside λ t. mids-outside-lts.spec (calls t)
     (mids-outside-at t)
     mids-outside.Post
     (mids-outside-returns t)

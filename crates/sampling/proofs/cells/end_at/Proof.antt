@@ -18,7 +18,7 @@ returns c =
     let ended = c .before in
     let at-start = ended .before .before .before .before in
     let a = at-start .args in
-    let m = prepared-point _ _ (at-start .pre .1) _ _ _ (c .evaluate .ensures) in
+    let m = prepared-point _ _ _ (at-start .pre .1) _ _ _ (c .evaluate .ensures) in
     (m .0 ∙ ended .edge .ensures ∙ end-is (a .task .min) (a .task .max) (a .i) (at-start .pre .0), m .1)
 
 pub end-at-spec : {M : Type 1} → statement M

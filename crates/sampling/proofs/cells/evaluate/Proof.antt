@@ -15,7 +15,7 @@ returns : tie.Need-returns
 returns c =
     let asked = c .before .before in
     let a = asked .before .before .before .before .args in
-    by-gimp (a .kind) (now (a .positions)) (now (a .channels)) (now (a .codes)) (now (a .table)) (a .t) (a .guess) (asked .is-gimp .ensures) (c .before .if1 .taken) (c .colour-at .ensures)
+    by-gimp (a .kind) (now (a .positions)) (now (a .channels)) (now (a .codes)) (a .base) (now (a .table)) (a .t) (a .guess) (asked .is-gimp .ensures) (c .before .if1 .taken) (c .colour-at .ensures)
 
 find-place-requires : tie.Need-find-place-requires
 find-place-requires c κs = search needs
@@ -27,7 +27,7 @@ returns-2 : tie.Need-returns-2
 returns-2 c =
     let asked = c .before .before .before in
     let a = asked .before .before .before .before .args in
-    by-stops (a .kind) (now (a .positions)) (now (a .channels)) (now (a .codes)) (now (a .table)) (a .t) (a .guess) (asked .is-gimp .ensures) (c .before .before .if1 .left) (c .before .find-place .ensures) (c .placed .ensures)
+    by-stops (a .kind) (now (a .positions)) (now (a .channels)) (now (a .codes)) (a .base) (now (a .table)) (a .t) (a .guess) (asked .is-gimp .ensures) (c .before .before .if1 .left) (c .before .find-place .ensures) (c .placed .ensures)
 
 pub evaluate-spec : {M : Type 1} → statement M
 evaluate-spec =

@@ -25,17 +25,17 @@ within-requires c κs = search needs
 returns : tie.Need-returns
 returns c =
     let a = c .before .before .before .before .before .before .args in
-    by-end (a .kind) (now (a .positions)) (now (a .channels)) (now (a .table)) (a .t) _ (c .before .before .place .given .1) (c .colour .ensures)
+    by-end (a .kind) (now (a .positions)) (now (a .channels)) (a .base) (now (a .table)) (a .t) _ (c .before .before .place .given .1) (c .colour .ensures)
 
 returns-2 : tie.Need-returns-2
 returns-2 c =
     let a = c .before .before .before .before .args in
-    by-nowhere (a .kind) (now (a .positions)) (now (a .channels)) (now (a .table)) (a .t) (c .enum-told .given .1)
+    by-nowhere (a .kind) (now (a .positions)) (now (a .channels)) (a .base) (now (a .table)) (a .t) (c .enum-told .given .1)
 
 returns-3 : tie.Need-returns-3
 returns-3 c =
     let a = c .before .before .before .before .before .before .args in
-    by-between (a .kind) (now (a .positions)) (now (a .channels)) (now (a .table)) (a .t) _ (c .before .before .place2 .given .1) (c .within .ensures)
+    by-between (a .kind) (now (a .positions)) (now (a .channels)) (a .base) (now (a .table)) (a .t) _ (c .before .before .place2 .given .1) (c .within .ensures)
 
 pub placed-spec : {M : Type 1} → statement M
 placed-spec =

@@ -15,7 +15,7 @@ returns : tie.Need-returns
 returns c =
     let asked = c .before .before in
     let a = asked .before .before .before .args in
-    by-segment (a .kind) (now (a .positions)) (now (a .channels)) (now (a .table)) (a .k) (a .t) (asked .is-catmull-rom .ensures) (c .before .if1 .taken) (c .pair-colour .ensures)
+    by-segment (a .kind) (now (a .positions)) (now (a .channels)) (a .base) (now (a .table)) (a .k) (a .t) (asked .is-catmull-rom .ensures) (c .before .if1 .taken) (c .pair-colour .ensures)
 
 pair-at-requires : tie.Need-pair-at-requires
 pair-at-requires c κs = search needs
@@ -24,7 +24,7 @@ returns-2 : tie.Need-returns-2
 returns-2 c =
     let asked = c .before .before in
     let a = asked .before .before .before .args in
-    by-mixing (a .kind) (now (a .positions)) (now (a .channels)) (now (a .table)) (a .k) (a .t) (asked .is-catmull-rom .ensures) (c .before .if1 .left) (c .pair-at .ensures)
+    by-mixing (a .kind) (now (a .positions)) (now (a .channels)) (a .base) (now (a .table)) (a .k) (a .t) (asked .is-catmull-rom .ensures) (c .before .if1 .left) (c .pair-at .ensures)
 
 pub within-spec : {M : Type 1} → statement M
 within-spec =

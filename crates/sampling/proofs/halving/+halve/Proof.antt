@@ -28,240 +28,9 @@ halve-at t = and 5 halve-kinds.ps (is 5 halve-kinds.ps μ-halve t) halve.Pre
 abbrev halve-below : ℕ → In 5 halve-kinds.ps
 halve-below t = and 5 halve-kinds.ps (falls 5 halve-kinds.ps _<_ μ-halve t) halve.Pre
 
-halve-returns : (t : ℕ) → halve-lts.Need-returns (
-  evaluate-reads.Asked,
-  evaluate-reads.Learnt,
-  interpolate-linear-reads.Asked,
-  interpolate-linear-reads.Learnt,
-  stands-out-reads.Asked,
-  stands-out-reads.Learnt,
-  halve-below t,
-  halve.Post,
-) (halve-at t) halve.Post
-halve-returns t c = not-halved _ _ _ _ _ _ _ (c .if1 .taken)
-
-halve-evaluate-requires : (t : ℕ) → halve-lts.Need-evaluate-requires (
-  evaluate-reads.Asked,
-  evaluate-reads.Learnt,
-  interpolate-linear-reads.Asked,
-  interpolate-linear-reads.Learnt,
-  stands-out-reads.Asked,
-  stands-out-reads.Learnt,
-  halve-below t,
-  halve.Post,
-) (halve-at t) halve.Post
-halve-evaluate-requires t c κs = search needs
-
-halve-interpolate-linear-requires : (t : ℕ) → halve-lts.Need-interpolate-linear-requires (
-  evaluate-reads.Asked,
-  evaluate-reads.Learnt,
-  interpolate-linear-reads.Asked,
-  interpolate-linear-reads.Learnt,
-  stands-out-reads.Asked,
-  stands-out-reads.Learnt,
-  halve-below t,
-  halve.Post,
-) (halve-at t) halve.Post
-halve-interpolate-linear-requires t c κs = search needs
-
-halve-stands-out-requires : (t : ℕ) → halve-lts.Need-stands-out-requires (
-  evaluate-reads.Asked,
-  evaluate-reads.Learnt,
-  interpolate-linear-reads.Asked,
-  interpolate-linear-reads.Learnt,
-  stands-out-reads.Asked,
-  stands-out-reads.Learnt,
-  halve-below t,
-  halve.Post,
-) (halve-at t) halve.Post
-halve-stands-out-requires t c κs = search needs
-
-halve-returns-2 : (t : ℕ) → halve-lts.Need-returns-2 (
-  evaluate-reads.Asked,
-  evaluate-reads.Learnt,
-  interpolate-linear-reads.Asked,
-  interpolate-linear-reads.Learnt,
-  stands-out-reads.Asked,
-  stands-out-reads.Learnt,
-  halve-below t,
-  halve.Post,
-) (halve-at t) halve.Post
-unfolding midOf
-halve-returns-2 t c =
-    let evaluated = c .before .before .before in
-    let tested = evaluated .before .before .before in
-    let at-start = tested .before .before .before .before .before in
-    let m = prepared-point _ _ (at-start .pre .1 .1 .ready) _ _ _ (evaluated .evaluate .ensures) in
-    none-kept _ _ _ _ _ _ _ (tested .if1 .left) (keeps-is _ _ _ _ _ (evaluated .evaluate .result) _ _ _ (at-start .pre .1 .1) m (c .before .before .interpolate-linear .ensures) (c .before .stands-out .ensures) (not-true _ (c .if2 .taken)))
-
-halve-sub-n : (t : ℕ) → halve-lts.Need-sub-n (
-  evaluate-reads.Asked,
-  evaluate-reads.Learnt,
-  interpolate-linear-reads.Asked,
-  interpolate-linear-reads.Learnt,
-  stands-out-reads.Asked,
-  stands-out-reads.Learnt,
-  halve-below t,
-  halve.Post,
-) (halve-at t) halve.Post
-halve-sub-n t c = omega arith
-
-halve-halve-requires : (t : ℕ) → halve-lts.Need-halve-requires (
-  evaluate-reads.Asked,
-  evaluate-reads.Learnt,
-  interpolate-linear-reads.Asked,
-  interpolate-linear-reads.Learnt,
-  stands-out-reads.Asked,
-  stands-out-reads.Learnt,
-  halve-below t,
-  halve.Post,
-) (halve-at t) halve.Post
-halve-halve-requires t c κs =
-    let evaluated = c .before .before .before .before in
-    let tested = evaluated .before .before .before in
-    let at-start = tested .before .before .before .before .before in
-    let w = at-start .pre .1 .1 in
-    let m = prepared-point _ _ (at-start .pre .1 .1 .ready) _ _ _ (evaluated .evaluate .ensures) in
-    (omega (arith, at-start .pre .0, tested .if1 .left), (omega (arith, pow-left (at-start .args .left) (tested .if1 .left), at-start .pre .1 .0), record { ready = w .ready; left = w .left; right = m .1 }))
-
-halve-mul-row : (t : ℕ) → halve-lts.Need-mul-row (
-  evaluate-reads.Asked,
-  evaluate-reads.Learnt,
-  interpolate-linear-reads.Asked,
-  interpolate-linear-reads.Learnt,
-  stands-out-reads.Asked,
-  stands-out-reads.Learnt,
-  halve-below t,
-  halve.Post,
-) (halve-at t) halve.Post
-halve-mul-row t c =
-    let halved = c .before .before in
-    let tested = halved .before .before .before .before .before .before .before .before in
-    let at-start = tested .before .before .before .before .before in
-    scaled-fits _ (length (at-start .args .row .now)) 4 (middle-fits _ _ _ _ _ (at-start .args .q .t) _ (tested .if1 .left) (at-start .pre .1 .0) _ _ _ (halved .halve .ensures)) (at-start .good .1 .1 .1 .1 .0 .1)
-
-halve-slice-write-row : (t : ℕ) → halve-lts.Need-slice-write-row (
-  evaluate-reads.Asked,
-  evaluate-reads.Learnt,
-  interpolate-linear-reads.Asked,
-  interpolate-linear-reads.Learnt,
-  stands-out-reads.Asked,
-  stands-out-reads.Learnt,
-  halve-below t,
-  halve.Post,
-) (halve-at t) halve.Post
-halve-slice-write-row t c =
-    let halved = c .before .before in
-    let tested = halved .before .before .before .before .before .before .before .before in
-    let at-start = tested .before .before .before .before .before in
-    omega (arith, halved .halve .kept .1 .1 .1 .1 .0, middle-fits _ _ _ _ _ (at-start .args .q .t) _ (tested .if1 .left) (at-start .pre .1 .0) _ _ _ (halved .halve .ensures))
-
-halve-add-halve : (t : ℕ) → halve-lts.Need-add-halve (
-  evaluate-reads.Asked,
-  evaluate-reads.Learnt,
-  interpolate-linear-reads.Asked,
-  interpolate-linear-reads.Learnt,
-  stands-out-reads.Asked,
-  stands-out-reads.Learnt,
-  halve-below t,
-  halve.Post,
-) (halve-at t) halve.Post
-halve-add-halve t c =
-    let halved = c .before .before .before in
-    let tested = halved .before .before .before .before .before .before .before .before in
-    let at-start = tested .before .before .before .before .before in
-    omega (arith, middle-fits _ _ _ _ _ (at-start .args .q .t) _ (tested .if1 .left) (at-start .pre .1 .0) _ _ _ (halved .halve .ensures), at-start .good .1 .1 .1 .1 .0 .0)
-
-halve-halve-requires-2 : (t : ℕ) → halve-lts.Need-halve-requires-2 (
-  evaluate-reads.Asked,
-  evaluate-reads.Learnt,
-  interpolate-linear-reads.Asked,
-  interpolate-linear-reads.Learnt,
-  stands-out-reads.Asked,
-  stands-out-reads.Learnt,
-  halve-below t,
-  halve.Post,
-) (halve-at t) halve.Post
-halve-halve-requires-2 t c κs =
-    let halved = c .before .before .before in
-    let tested = halved .before .before .before .before .before .before .before .before in
-    let at-start = tested .before .before .before .before .before in
-    let evaluated = halved .before .before .before .before .before in
-    let w = at-start .pre .1 .1 in
-    let m = prepared-point _ _ (at-start .pre .1 .1 .ready) _ _ _ (evaluated .evaluate .ensures) in
-    (omega (arith, at-start .pre .0, tested .if1 .left), (simp length-set (omega (arith, halved .halve .kept .1 .1 .1 .1 .0, right-fits _ _ _ _ _ (at-start .args .q .t) _ (tested .if1 .left) (at-start .pre .1 .0) _ _ _ (halved .halve .ensures))), record { ready = w .ready; left = m .1; right = w .right }))
-
-halve-add-t24 : (t : ℕ) → halve-lts.Need-add-t24 (
-  evaluate-reads.Asked,
-  evaluate-reads.Learnt,
-  interpolate-linear-reads.Asked,
-  interpolate-linear-reads.Learnt,
-  stands-out-reads.Asked,
-  stands-out-reads.Learnt,
-  halve-below t,
-  halve.Post,
-) (halve-at t) halve.Post
-halve-add-t24 t c =
-    let again = c .before .before .before .before in
-    let halved = again .before .before .before .before in
-    let tested = halved .before .before .before .before .before .before .before .before in
-    let at-start = tested .before .before .before .before .before in
-    omega (arith, tries-fit _ _ _ _ _ _ _ (tested .if1 .left) (at-start .pre .1 .0) _ _ _ (halved .halve .ensures) _ _ (again .halve2 .ensures), at-start .good .1 .1 .1 .1 .0 .0)
-
-halve-add-t28 : (t : ℕ) → halve-lts.Need-add-t28 (
-  evaluate-reads.Asked,
-  evaluate-reads.Learnt,
-  interpolate-linear-reads.Asked,
-  interpolate-linear-reads.Learnt,
-  stands-out-reads.Asked,
-  stands-out-reads.Learnt,
-  halve-below t,
-  halve.Post,
-) (halve-at t) halve.Post
-halve-add-t28 t c =
-    let again = c .before .before .before .before in
-    let halved = again .before .before .before .before in
-    let tested = halved .before .before .before .before .before .before .before .before in
-    let at-start = tested .before .before .before .before .before in
-    omega (arith, tries-fit _ _ _ _ _ _ _ (tested .if1 .left) (at-start .pre .1 .0) _ _ _ (halved .halve .ensures) _ _ (again .halve2 .ensures), at-start .good .1 .1 .1 .1 .0 .0)
-
-halve-same-length : (t : ℕ) → halve-lts.Need-same-length (
-  evaluate-reads.Asked,
-  evaluate-reads.Learnt,
-  interpolate-linear-reads.Asked,
-  interpolate-linear-reads.Learnt,
-  stands-out-reads.Asked,
-  stands-out-reads.Learnt,
-  halve-below t,
-  halve.Post,
-) (halve-at t) halve.Post
-halve-same-length t c =
-    let again = c .before .before .before .before in
-    again .halve2 .kept .1 .1 .1 .1 .0 ∙ simp length-set (again .before .before .before .before .halve .kept .1 .1 .1 .1 .0)
-
-halve-returns-3 : (t : ℕ) → halve-lts.Need-returns-3 (
-  evaluate-reads.Asked,
-  evaluate-reads.Learnt,
-  interpolate-linear-reads.Asked,
-  interpolate-linear-reads.Learnt,
-  stands-out-reads.Asked,
-  stands-out-reads.Learnt,
-  halve-below t,
-  halve.Post,
-) (halve-at t) halve.Post
-unfolding midOf
-halve-returns-3 t c =
-    let again = c .before .before .before .before in
-    let halved = again .before .before .before .before in
-    let tested = halved .before .before .before .before .before .before .before .before in
-    let at-start = tested .before .before .before .before .before in
-    let evaluated = halved .before .before .before .before .before in
-    let m = prepared-point _ _ (at-start .pre .1 .1 .ready) _ _ _ (evaluated .evaluate .ensures) in
-    let yes = keeps-is _ _ _ _ _ (evaluated .evaluate .result) _ _ _ (at-start .pre .1 .1) m (halved .before .before .before .before .interpolate-linear .ensures) (halved .before .before .before .stands-out .ensures) (not-false _ (halved .before .before .if2 .left)) in
-    both-halves _ _ _ _ _ _ _ (tested .if1 .left) (at-start .pre .1 .0) _ _ _ (halved .halve .ensures) _ _ (again .halve2 .ensures) (m .0) yes
-
-pub +halve-spec : {M : Type 1} → statement M
-+halve-spec = close μ-halve λ t. halve-lts.spec (
+-- what is known of the calls, where every call of itself goes less deep
+abbrev calls : ℕ → halve-lts.Claims
+calls t = (
   evaluate-reads.Asked,
   evaluate-reads.Learnt,
   interpolate-linear-reads.Asked,
@@ -271,6 +40,106 @@ pub +halve-spec : {M : Type 1} → statement M
   halve-below t,
   halve.Post,
 )
+
+halve-returns : (t : ℕ) → halve-lts.Need-returns (calls t) (halve-at t) halve.Post
+halve-returns t c = not-halved _ _ _ _ _ _ _ (c .if1 .taken)
+
+halve-evaluate-requires : (t : ℕ) → halve-lts.Need-evaluate-requires (calls t) (halve-at t) halve.Post
+halve-evaluate-requires t c κs = search needs
+
+halve-interpolate-linear-requires : (t : ℕ) → halve-lts.Need-interpolate-linear-requires (calls t) (halve-at t) halve.Post
+halve-interpolate-linear-requires t c κs = search needs
+
+halve-stands-out-requires : (t : ℕ) → halve-lts.Need-stands-out-requires (calls t) (halve-at t) halve.Post
+halve-stands-out-requires t c κs = search needs
+
+halve-returns-2 : (t : ℕ) → halve-lts.Need-returns-2 (calls t) (halve-at t) halve.Post
+unfolding midOf
+halve-returns-2 t c =
+    let evaluated = c .before .before .before in
+    let tested = evaluated .before .before .before in
+    let at-start = tested .before .before .before .before .before in
+    let m = prepared-point _ _ _ (at-start .pre .1 .1 .ready) _ _ _ (evaluated .evaluate .ensures) in
+    none-kept _ _ _ _ _ _ _ (tested .if1 .left) (keeps-is _ _ _ _ _ _ (evaluated .evaluate .result) _ _ _ (at-start .pre .1 .1) m (c .before .before .interpolate-linear .ensures) (c .before .stands-out .ensures) (not-true _ (c .if2 .taken)))
+
+halve-sub-n : (t : ℕ) → halve-lts.Need-sub-n (calls t) (halve-at t) halve.Post
+halve-sub-n t c = omega arith
+
+halve-halve-requires : (t : ℕ) → halve-lts.Need-halve-requires (calls t) (halve-at t) halve.Post
+halve-halve-requires t c κs =
+    let evaluated = c .before .before .before .before in
+    let tested = evaluated .before .before .before in
+    let at-start = tested .before .before .before .before .before in
+    let w = at-start .pre .1 .1 in
+    let m = prepared-point _ _ _ (at-start .pre .1 .1 .ready) _ _ _ (evaluated .evaluate .ensures) in
+    (omega (arith, at-start .pre .0, tested .if1 .left), (omega (arith, pow-left (at-start .args .left) (tested .if1 .left), at-start .pre .1 .0), record { ready = w .ready; left = w .left; right = m .1 }))
+
+halve-mul-row : (t : ℕ) → halve-lts.Need-mul-row (calls t) (halve-at t) halve.Post
+halve-mul-row t c =
+    let halved = c .before .before in
+    let tested = halved .before .before .before .before .before .before .before .before in
+    let at-start = tested .before .before .before .before .before in
+    scaled-fits _ (length (at-start .args .row .now)) 4 (middle-fits _ _ _ _ _ (at-start .args .q .t) _ (tested .if1 .left) (at-start .pre .1 .0) _ _ _ (halved .halve .ensures)) (at-start .good .1 .1 .1 .1 .0 .1)
+
+halve-slice-write-row : (t : ℕ) → halve-lts.Need-slice-write-row (calls t) (halve-at t) halve.Post
+halve-slice-write-row t c =
+    let halved = c .before .before in
+    let tested = halved .before .before .before .before .before .before .before .before in
+    let at-start = tested .before .before .before .before .before in
+    omega (arith, halved .halve .kept .1 .1 .1 .1 .0, middle-fits _ _ _ _ _ (at-start .args .q .t) _ (tested .if1 .left) (at-start .pre .1 .0) _ _ _ (halved .halve .ensures))
+
+halve-add-halve : (t : ℕ) → halve-lts.Need-add-halve (calls t) (halve-at t) halve.Post
+halve-add-halve t c =
+    let halved = c .before .before .before in
+    let tested = halved .before .before .before .before .before .before .before .before in
+    let at-start = tested .before .before .before .before .before in
+    omega (arith, middle-fits _ _ _ _ _ (at-start .args .q .t) _ (tested .if1 .left) (at-start .pre .1 .0) _ _ _ (halved .halve .ensures), at-start .good .1 .1 .1 .1 .0 .0)
+
+halve-halve-requires-2 : (t : ℕ) → halve-lts.Need-halve-requires-2 (calls t) (halve-at t) halve.Post
+halve-halve-requires-2 t c κs =
+    let halved = c .before .before .before in
+    let tested = halved .before .before .before .before .before .before .before .before in
+    let at-start = tested .before .before .before .before .before in
+    let evaluated = halved .before .before .before .before .before in
+    let w = at-start .pre .1 .1 in
+    let m = prepared-point _ _ _ (at-start .pre .1 .1 .ready) _ _ _ (evaluated .evaluate .ensures) in
+    (omega (arith, at-start .pre .0, tested .if1 .left), (simp length-set (omega (arith, halved .halve .kept .1 .1 .1 .1 .0, right-fits _ _ _ _ _ (at-start .args .q .t) _ (tested .if1 .left) (at-start .pre .1 .0) _ _ _ (halved .halve .ensures))), record { ready = w .ready; left = m .1; right = w .right }))
+
+halve-add-t24 : (t : ℕ) → halve-lts.Need-add-t24 (calls t) (halve-at t) halve.Post
+halve-add-t24 t c =
+    let again = c .before .before .before .before in
+    let halved = again .before .before .before .before in
+    let tested = halved .before .before .before .before .before .before .before .before in
+    let at-start = tested .before .before .before .before .before in
+    omega (arith, tries-fit _ _ _ _ _ _ _ (tested .if1 .left) (at-start .pre .1 .0) _ _ _ (halved .halve .ensures) _ _ (again .halve2 .ensures), at-start .good .1 .1 .1 .1 .0 .0)
+
+halve-add-t28 : (t : ℕ) → halve-lts.Need-add-t28 (calls t) (halve-at t) halve.Post
+halve-add-t28 t c =
+    let again = c .before .before .before .before in
+    let halved = again .before .before .before .before in
+    let tested = halved .before .before .before .before .before .before .before .before in
+    let at-start = tested .before .before .before .before .before in
+    omega (arith, tries-fit _ _ _ _ _ _ _ (tested .if1 .left) (at-start .pre .1 .0) _ _ _ (halved .halve .ensures) _ _ (again .halve2 .ensures), at-start .good .1 .1 .1 .1 .0 .0)
+
+halve-same-length : (t : ℕ) → halve-lts.Need-same-length (calls t) (halve-at t) halve.Post
+halve-same-length t c =
+    let again = c .before .before .before .before in
+    again .halve2 .kept .1 .1 .1 .1 .0 ∙ simp length-set (again .before .before .before .before .halve .kept .1 .1 .1 .1 .0)
+
+halve-returns-3 : (t : ℕ) → halve-lts.Need-returns-3 (calls t) (halve-at t) halve.Post
+unfolding midOf
+halve-returns-3 t c =
+    let again = c .before .before .before .before in
+    let halved = again .before .before .before .before in
+    let tested = halved .before .before .before .before .before .before .before .before in
+    let at-start = tested .before .before .before .before .before in
+    let evaluated = halved .before .before .before .before .before in
+    let m = prepared-point _ _ _ (at-start .pre .1 .1 .ready) _ _ _ (evaluated .evaluate .ensures) in
+    let yes = keeps-is _ _ _ _ _ _ (evaluated .evaluate .result) _ _ _ (at-start .pre .1 .1) m (halved .before .before .before .before .interpolate-linear .ensures) (halved .before .before .before .stands-out .ensures) (not-false _ (halved .before .before .if2 .left)) in
+    both-halves _ _ _ _ _ _ _ (tested .if1 .left) (at-start .pre .1 .0) _ _ _ (halved .halve .ensures) _ _ (again .halve2 .ensures) (m .0) yes
+
+pub +halve-spec : {M : Type 1} → statement M
++halve-spec = close μ-halve λ t. halve-lts.spec (calls t)
     (halve-at t)
     halve.Post
     (halve-returns t)

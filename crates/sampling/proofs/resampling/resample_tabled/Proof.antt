@@ -1,7 +1,5 @@
 -- `resample_tabled` meets its contract: the cells are sampled anew with a table of segments. Assumes nothing.
-use mathlib.Core.Path.{sym}
-use lib.Seq.{length-take-le}
-use Rattle.stops.proofs.Tables.{filled-most, filled-segments}
+use Rattle.stops.proofs.Tables.{filled-window}
 use borrow.Author.Needs.{needs}
 use Rattle.sampling.proofs.resampling.resample_tabled.Statement.{statement}
 use Rattle.sampling.proofs.resampling.resample_tabled.Tie as tie
@@ -9,19 +7,11 @@ use Rattle.sampling.proofs.resampling.resample_tabled.Tie as tie
 fill-requires : tie.Need-fill-requires
 fill-requires c κs = search needs
 
-slice-reshare-prefix-table : tie.Need-slice-reshare-prefix-table
-slice-reshare-prefix-table c = search needs
-
-slice-aggregate-table : tie.Need-slice-aggregate-table
-slice-aggregate-table c =
-    let filled = c .before .before in
-    sym (length-take-le _ (filled .fill .last .1 .1 .0) (filled-most _ _ _ _ _ (filled .fill .ensures)))
-
 resample-each-requires : tie.Need-resample-each-requires
 resample-each-requires c κs =
     let filled = c .before .before .before .before in
     let at-start = filled .before .before .before .before .before .before .before in
-    (at-start .pre .0, record { fine = at-start .pre .1; segments = filled-segments _ _ _ _ _ (filled .fill .ensures) })
+    (at-start .pre .0, (at-start .pre .1, filled-window _ _ _ _ _ _ (filled .fill .ensures)))
 
 same-length : tie.Need-same-length
 same-length c = search needs
@@ -38,12 +28,4 @@ returns c = search needs
 pub resample-tabled-spec : {M : Type 1} → statement M
 resample-tabled-spec =
     tie.close
-    (tie.spec
-    fill-requires
-    slice-reshare-prefix-table
-    slice-aggregate-table
-    resample-each-requires
-    same-length
-    same-length-2
-    same-length-3
-    returns)
+    (tie.spec fill-requires resample-each-requires same-length same-length-2 same-length-3 returns)

@@ -28,7 +28,7 @@ returns c =
     let shared = c .before in
     let first = shared .before .before .before in
     let a = first .before .before .before .before .args in
-    colour-by (now (a .positions)) (now (a .channels)) (now (a .table)) (a .t) (a .k) (first .before .less .ensures) (first .stop .ensures) (shared .before .before .stop2 .ensures) (shared .before .segment .ensures) (shared .share .ensures) (c .segment-at .ensures)
+    colour-by (now (a .positions)) (now (a .channels)) (a .base) (now (a .table)) (a .t) (a .k) (first .before .less .ensures) (first .stop .ensures) (shared .before .before .stop2 .ensures) (shared .before .segment .ensures) (shared .share .ensures) (c .segment-at .ensures)
 
 pub pair-colour-spec : {M : Type 1} → statement M
 pair-colour-spec =
