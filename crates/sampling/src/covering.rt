@@ -22,7 +22,7 @@ pub(crate) fn is_tabled(keep: [bool; 36], n: usize) -> bool {
     n <= segments::ROOM
 }
 
-// The pairs from one to another, as many as there is room for.
+// The pairs from one to another, and none where there is no room for all.
 fn pairs_to(first: usize, last: usize, room: usize) -> usize
     ensures { λ r. ⌜ r ≤ room ⌝ }
 {
@@ -33,7 +33,7 @@ fn pairs_to(first: usize, last: usize, room: usize) -> usize
     if more < room {
         return more + 1;
     }
-    room
+    0
 }
 
 // A window has the segment of pair k.
@@ -45,8 +45,8 @@ fn has(w: Window, k: usize) -> bool {
 }
 
 // The window of cell i: the segments of the pairs that it reaches, each worked out once, and of no others, so that a refresh
-// works out those of the cells that it samples. A cell that is kept, and one past the last, needs none. There is room for as many as a row can have
-// points: where a cell has more pairs, most of them have no point, and the rest is worked out point by point.
+// works out those of the cells that it samples. A cell that is kept, and one past the last, needs none. There is room for as
+// many as a row can have points: a cell with more pairs has no window, since most of them have no point (drawn).
 pub(crate) fn cover(
     task: Task,
     positions: &[f32],
