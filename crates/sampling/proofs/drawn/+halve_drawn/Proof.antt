@@ -100,21 +100,24 @@ halve-drawn-requires t c κs =
 mul-row : (t : ℕ) → lts.Need-mul-row (calls t) (now-at t) halve-drawn.Post
 mul-row t c =
     let halved = c .before .before in
-    let tested = halved .before .before .before .before .before .before .before .before .before .before .before in
+    let coloured = halved .before .before .before .before .before in
+    let tested = coloured .before .before .before .before .before .before in
     let at-start = tested .before .before .before .before .before in
     scaled-fits _ (length (at-start .args .row .now)) 4 (middle-fits _ _ _ _ _ (at-start .args .q .t) _ (tested .if1 .left) (at-start .pre .1 .0) _ _ _ (halved .halve-drawn .ensures)) (at-start .good .1 .1 .1 .1 .0 .1)
 
 slice-write-row : (t : ℕ) → lts.Need-slice-write-row (calls t) (now-at t) halve-drawn.Post
 slice-write-row t c =
     let halved = c .before .before in
-    let tested = halved .before .before .before .before .before .before .before .before .before .before .before in
+    let coloured = halved .before .before .before .before .before in
+    let tested = coloured .before .before .before .before .before .before in
     let at-start = tested .before .before .before .before .before in
     omega (arith, halved .halve-drawn .kept .1 .1 .1 .1 .0, middle-fits _ _ _ _ _ (at-start .args .q .t) _ (tested .if1 .left) (at-start .pre .1 .0) _ _ _ (halved .halve-drawn .ensures))
 
 add-halve-drawn : (t : ℕ) → lts.Need-add-halve-drawn (calls t) (now-at t) halve-drawn.Post
 add-halve-drawn t c =
     let halved = c .before .before .before in
-    let tested = halved .before .before .before .before .before .before .before .before .before .before .before in
+    let coloured = halved .before .before .before .before .before in
+    let tested = coloured .before .before .before .before .before .before in
     let at-start = tested .before .before .before .before .before in
     omega (arith, middle-fits _ _ _ _ _ (at-start .args .q .t) _ (tested .if1 .left) (at-start .pre .1 .0) _ _ _ (halved .halve-drawn .ensures), at-start .good .1 .1 .1 .1 .0 .0)
 
@@ -133,7 +136,8 @@ add-t29 : (t : ℕ) → lts.Need-add-t29 (calls t) (now-at t) halve-drawn.Post
 add-t29 t c =
     let again = c .before .before .before .before in
     let halved = again .before .before .before .before in
-    let tested = halved .before .before .before .before .before .before .before .before .before .before .before in
+    let coloured = halved .before .before .before .before .before in
+    let tested = coloured .before .before .before .before .before .before in
     let at-start = tested .before .before .before .before .before in
     omega (arith, tries-fit _ _ _ _ _ _ _ (tested .if1 .left) (at-start .pre .1 .0) _ _ _ (halved .halve-drawn .ensures) _ _ (again .halve-drawn2 .ensures), at-start .good .1 .1 .1 .1 .0 .0)
 
@@ -141,7 +145,8 @@ add-t33 : (t : ℕ) → lts.Need-add-t33 (calls t) (now-at t) halve-drawn.Post
 add-t33 t c =
     let again = c .before .before .before .before in
     let halved = again .before .before .before .before in
-    let tested = halved .before .before .before .before .before .before .before .before .before .before .before in
+    let coloured = halved .before .before .before .before .before in
+    let tested = coloured .before .before .before .before .before .before in
     let at-start = tested .before .before .before .before .before in
     omega (arith, tries-fit _ _ _ _ _ _ _ (tested .if1 .left) (at-start .pre .1 .0) _ _ _ (halved .halve-drawn .ensures) _ _ (again .halve-drawn2 .ensures), at-start .good .1 .1 .1 .1 .0 .0)
 
