@@ -36,14 +36,6 @@ fn pairs_to(first: usize, last: usize, room: usize) -> usize
     0
 }
 
-// A window has the segment of pair k.
-fn has(w: Window, k: usize) -> bool {
-    if k < w.base {
-        return false;
-    }
-    k - w.base < w.count
-}
-
 // The window of cell i: the segments of the pairs that it reaches, each worked out once, and of no others, so that a refresh
 // works out those of the cells that it samples. A cell that is kept, and one past the last, needs none. There is room for as
 // many as a row can have points: a cell with more pairs has no window, since most of them have no point (drawn).
@@ -70,8 +62,8 @@ pub(crate) fn cover(
     let first = near::pair_or(start, 0);
     let end = near::find_place(positions, edge(task.min, task.max, i + 1), first);
     let last = near::pair_or(end, stops::less(positions.len()));
-    if has(w, first) {
-        if has(w, last) {
+    if segments::has(w, first) {
+        if segments::has(w, last) {
             return w;
         }
     }

@@ -1,5 +1,6 @@
 // Catmull-Rom segments worked out once for a call: those of the pairs from one on, as many as a table has room for.
 use crate::Kind;
+use crate::Window;
 use crate::colour;
 use crate::left_of;
 use crate::less;
@@ -17,13 +18,16 @@ ghost use Rattle.blend.specs.Chords.{chordsOf};
 ghost use Rattle.stops.specs.Lent.{old, new};
 ghost use Rattle.stops.specs.Near.{segmentFor};
 ghost use Rattle.stops.specs.Stops.{colourAt};
-ghost use Rattle.stops.specs.Segments.{isCatmullRom, FillsTable, segmentBy, cubicBy, chordsAfter, Chords};
+ghost use Rattle.stops.specs.Segments.{isCatmullRom, FillsTable, hasPair, staysFor, pairsAhead, Follows, segmentBy, cubicBy, chordsAfter, Chords};
 
 // The pairs of a table on the stack: 16 KiB, and 2 KiB for ramps of few stops, since setting the larger one up takes longer than
 // flattening a ramp of two.
 pub const ROOM: usize = 256;
 
 pub const FEW: usize = 32;
+
+// The pairs of a window that goes with points from left to right: enough that a pair costs little more than its own four roots.
+pub const AHEAD: usize = 16;
 
 pub fn is_catmull_rom(kind: Kind) -> bool
     ensures { λ r. ⌜ r ≡ isCatmullRom kind ⌝ }
@@ -122,6 +126,62 @@ pub fn fill(channels: &[f32], n: usize, base: usize, table: &mut [[[f32; 4]; 4]]
         i += 1;
     }
     i
+}
+
+// A window has the segment of pair k.
+pub fn has(w: Window, k: usize) -> bool
+    ensures { λ r. ⌜ r ≡ hasPair w k ⌝ }
+{
+    if k < w.base {
+        return false;
+    }
+    k - w.base < w.count
+}
+
+// A window stays for pair k: it has that segment, or k is no pair, or there is no room.
+fn stays_for(w: Window, k: usize, room: usize) -> bool
+    ensures { λ r. ⌜ r ≡ staysFor w k room ⌝ }
+{
+    if room == 0 {
+        return true;
+    }
+    if k == 0 {
+        return true;
+    }
+    has(w, k)
+}
+
+// How many pairs to work out from pair k on: as many as there is room for where k comes right after the window, as pairs do
+// that are met one after the other, and one where the points leap over pairs, of which most have no point.
+fn pairs_ahead(w: Window, k: usize, room: usize) -> usize
+    ensures { λ r. ⌜ r ≡ pairsAhead w k room ⌝ }
+{
+    if k < w.base {
+        return 1;
+    }
+    if w.count < k - w.base {
+        return 1;
+    }
+    room
+}
+
+// The window for a point in pair k: the one in hand where it has that pair, else one filled from k on.
+pub fn follow(
+    channels: &[f32],
+    n: usize,
+    w: Window,
+    k: usize,
+    table: &mut [[[f32; 4]; 4]],
+) -> Window
+    ensures { λ r. ⌜ Follows (old channels) n w k (old table) (new table) r ⌝ }
+{
+    if stays_for(w, k, table.len()) {
+        return w;
+    }
+    let ahead = pairs_ahead(w, k, table.len());
+    let part = &mut table[..ahead];
+    let count = fill(channels, n, k, part);
+    Window { base: k, count }
 }
 
 // The segment of the pair k - 1, k: out of a table of the pairs from `base` on, or worked out where the table has none.
