@@ -27,7 +27,7 @@ ghost use Rattle.linearize.specs.Inner.{windowRoom, Started, points, Mak
 ghost use Rattle.linearize.specs.Lent.{lentOutput};
 ghost use Rattle.stops.specs.Lent.{rampIn, lentRamp, old, new};
 
-// Thins the points after the first, from place to place; the last is always kept. The table follows the points: it has the
+// Thins the points after the first, from place to place; the last is always kept. The table goes with the points: it has the
 // segments of the pairs from that of one of the last points on, so that each is worked out once or, at its start, twice.
 fn thin_points(
     kind: Kind,
@@ -62,7 +62,7 @@ fn thin_points(
         0,
         &table[..0],
     );
-    let mut w = follow(channels, n, none, x.pair, table);
+    let mut w = follow(channels, n, none, 0, x.pair, table);
     while place.row < Sampler::CELLS {
         let after = next_place(counts, place);
         let next = evaluate(
@@ -75,7 +75,7 @@ fn thin_points(
             w.base,
             &table[..w.count],
         );
-        w = follow(channels, n, w, next.pair, table);
+        w = follow(channels, n, w, x.pair, next.pair, table);
         s = step(cutoff, room, s, x, next, out_positions, out_channels);
         let refusal = s.refusal;
         if refusal != 0 {

@@ -4,7 +4,6 @@ use blend::Rgba;
 use refusals::NO_ROOM;
 use stops::Checked;
 use stops::Kind;
-use stops::Window;
 use stops::near;
 use stops::segments;
 ghost use mathlib.Core.Path.{_≡_};
@@ -14,13 +13,14 @@ ghost use lib.Seq.{sets};
 ghost use Rattle.blend.specs.Channels.{channelsOf};
 ghost use Rattle.stops.specs.Lent.{old, new, rampIn, lentRamp};
 ghost use Rattle.stops.specs.Near.{segmentFor};
-ghost use Rattle.stops.specs.Segments.{Segments, InHand};
+ghost use Rattle.stops.specs.Segments.{Segments};
 ghost use Rattle.stops.specs.declared.Checked.the-variants.{Fine};
 ghost use Rattle.gradient.specs.Ramp.{checkOf, colourOf};
 ghost use Rattle.paint_segments.specs.Over.{paintedOver};
 ghost use Rattle.paint.specs.Promises.{AtIs, PaintIs};
 ghost use Rattle.paint.specs.Within.{stopColour, Paintable};
 
+mod following;
 mod pairs;
 
 // The colour at t, or the number of the refusal.
@@ -81,29 +81,7 @@ fn paint_stops(kind: Kind, positions: &[f32], channels: &[f32], ts: &[f32], out:
     }
 }
 
-// The window after a point in pair j, where the last was in pair k: it goes with the points where the table ends.
-fn beyond(
-    channels: &[f32],
-    n: usize,
-    w: Window,
-    k: usize,
-    j: usize,
-    tabled: usize,
-    room: &mut [[[f32; 4]; 4]],
-) -> Window
-    requires { ⌜ InHand (now channels) n w (now room) ⌝ }
-    ensures { λ r. ⌜ InHand (old channels) n r (new room) ⌝ }
-{
-    if k == j {
-        return w;
-    }
-    if j < tabled {
-        return w;
-    }
-    segments::follow(channels, n, w, j, room)
-}
-
-// The segment of pair j, where s is that of pair k: out of the table, or out of a window from the pair `base` on, if it is there.
+// The segment of pair j, where s is that of pair k: out of the table, if it is there.
 fn renewed(
     channels: &[f32],
     n: usize,
@@ -111,49 +89,38 @@ fn renewed(
     k: usize,
     j: usize,
     table: &[[[f32; 4]; 4]],
-    base: usize,
-    window: &[[[f32; 4]; 4]],
 ) -> [[f32; 4]; 4]
     requires { ⌜ s ≡ segmentFor (now channels) n k ⌝ }
-    requires { ⌜ Segments (now channels) n 0 (now table) × Segments (now channels) n base (now window) ⌝ }
+    requires { ⌜ Segments (now channels) n 0 (now table) ⌝ }
     ensures { λ r. ⌜ r ≡ segmentFor (old channels) n j ⌝ }
 {
     if j == k {
         return s;
     }
-    if j < table.len() {
-        return segments::segment(channels, n, 0, table, j);
-    }
-    segments::segment(channels, n, base, window, j)
+    segments::segment(channels, n, 0, table, j)
 }
 
-// Catmull-Rom stops at ts, with a table of the first segments in hand, and room for a window. A segment is kept while the pair
-// stays.
+// Catmull-Rom stops at ts, with a table of segments in hand. A segment is kept while the pair stays.
 fn paint_catmull(
     positions: &[f32],
     channels: &[f32],
     ts: &[f32],
     out: &mut [f32],
     table: &[[[f32; 4]; 4]],
-    room: &mut [[[f32; 4]; 4]],
 )
     requires { ⌜ Paintable (now positions) (now channels) (now ts) (now out) ⌝ }
     requires { ⌜ Segments (now channels) (length (now positions)) 0 (now table) ⌝ }
     ensures { λ _. ⌜ new out ≡ paintedOver (stopColour Kind.CatmullRom (old positions) (old channels)) (old ts) (old out) ⌝ }
 {
     let n = positions.len();
-    let tabled = table.len();
     let mut k = 1;
     let mut s = near::segment_for(channels, n, 1);
-    let mut w = Window { base: 0, count: 0 };
     let mut i = 0;
     while i < ts.len() {
         let t = ts[i];
         let place = near::find_place(positions, t, k);
         let j = near::pair_or(place, k);
-        w = beyond(channels, n, w, k, j, tabled, room);
-        let count = w.count;
-        let fresh = renewed(channels, n, s, k, j, table, w.base, &room[..count]);
+        let fresh = renewed(channels, n, s, k, j, table);
         s = fresh;
         k = j;
         let c = near::segment_colour(positions, channels, s, t, place);
@@ -162,21 +129,20 @@ fn paint_catmull(
     }
 }
 
-// The same, the first segments worked out once, as many as there is room for.
+// The same, the segments worked out once, as many as there is room for.
 fn paint_tabled(
     positions: &[f32],
     channels: &[f32],
     ts: &[f32],
     out: &mut [f32],
-    first: &mut [[[f32; 4]; 4]],
     room: &mut [[[f32; 4]; 4]],
 )
     requires { ⌜ Paintable (now positions) (now channels) (now ts) (now out) ⌝ }
     ensures { λ _. ⌜ new out ≡ paintedOver (stopColour Kind.CatmullRom (old positions) (old channels)) (old ts) (old out) ⌝ }
 {
-    let m = segments::fill(channels, positions.len(), 0, first);
-    let table = &first[..m];
-    paint_catmull(positions, channels, ts, out, table, room)
+    let m = segments::fill(channels, positions.len(), 0, room);
+    let table = &room[..m];
+    paint_catmull(positions, channels, ts, out, table)
 }
 
 // Catmull-Rom stops at ts. A segment costs twelve roots, so a table pays where there are at least as many points as stops.
@@ -184,20 +150,23 @@ fn paint_cubics(positions: &[f32], channels: &[f32], ts: &[f32], out: &mut [f32]
     requires { ⌜ Paintable (now positions) (now channels) (now ts) (now out) ⌝ }
     ensures { λ _. ⌜ new out ≡ paintedOver (stopColour Kind.CatmullRom (old positions) (old channels)) (old ts) (old out) ⌝ }
 {
-    let mut window = [[[0.0f32; 4]; 4]; segments::AHEAD];
     if ts.len() < positions.len() {
         let none = [[[0.0f32; 4]; 4]; 1];
         let table = &none[..0];
-        paint_catmull(positions, channels, ts, out, table, &mut window);
+        paint_catmull(positions, channels, ts, out, table);
         return;
     }
     if positions.len() <= segments::FEW {
         let mut few = [[[0.0f32; 4]; 4]; segments::FEW];
-        paint_tabled(positions, channels, ts, out, &mut few, &mut window);
+        paint_tabled(positions, channels, ts, out, &mut few);
         return;
     }
     let mut most = [[[0.0f32; 4]; 4]; segments::ROOM];
-    paint_tabled(positions, channels, ts, out, &mut most, &mut window)
+    if positions.len() <= segments::ROOM {
+        paint_tabled(positions, channels, ts, out, &mut most);
+        return;
+    }
+    following::paint_many(positions, channels, ts, out, &mut most)
 }
 
 fn paint_all(

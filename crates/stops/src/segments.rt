@@ -18,7 +18,7 @@ ghost use Rattle.blend.specs.Chords.{chordsOf};
 ghost use Rattle.stops.specs.Lent.{old, new};
 ghost use Rattle.stops.specs.Near.{segmentFor};
 ghost use Rattle.stops.specs.Stops.{colourAt};
-ghost use Rattle.stops.specs.Segments.{isCatmullRom, FillsTable, hasPair, staysFor, pairsAhead, Follows, segmentBy, cubicBy, chordsAfter, Chords};
+ghost use Rattle.stops.specs.Segments.{isCatmullRom, FillsTable, hasPair, leapsOver, staysFor, Follows, segmentBy, cubicBy, chordsAfter, Chords};
 
 // The pairs of a table on the stack: 16 KiB, and 2 KiB for ramps of few stops, since setting the larger one up takes longer than
 // flattening a ramp of two.
@@ -138,9 +138,21 @@ pub fn has(w: Window, k: usize) -> bool
     k - w.base < w.count
 }
 
-// A window stays for pair k: it has that segment, or k is no pair, or there is no room.
-fn stays_for(w: Window, k: usize, room: usize) -> bool
-    ensures { λ r. ⌜ r ≡ staysFor w k room ⌝ }
+// The points leap over pairs from `last` to k, or go back. Pairs that are passed over have no point, and with more than two of
+// them it costs less to work one segment out alone than to fill a table with those that follow.
+fn leaps(last: usize, k: usize) -> bool
+    ensures { λ r. ⌜ r ≡ leapsOver last k ⌝ }
+{
+    if k < last {
+        return true;
+    }
+    3 < k - last
+}
+
+// A window stays where the points come from the pair `last` to k: it has that segment, or they leap, or there is no such pair
+// or no room.
+fn stays_for(w: Window, last: usize, k: usize, room: usize) -> bool
+    ensures { λ r. ⌜ r ≡ staysFor w last k room ⌝ }
 {
     if room == 0 {
         return true;
@@ -148,39 +160,27 @@ fn stays_for(w: Window, k: usize, room: usize) -> bool
     if k == 0 {
         return true;
     }
-    has(w, k)
+    if has(w, k) {
+        return true;
+    }
+    leaps(last, k)
 }
 
-// How many pairs to work out from pair k on: as many as there is room for where k comes right after the window, as pairs do
-// that are met one after the other, and one where the points leap over pairs, of which most have no point.
-fn pairs_ahead(w: Window, k: usize, room: usize) -> usize
-    ensures { λ r. ⌜ r ≡ pairsAhead w k room ⌝ }
-{
-    if k < w.base {
-        return 1;
-    }
-    if w.count < k - w.base {
-        return 1;
-    }
-    room
-}
-
-// The window for a point in pair k: the one in hand where it has that pair, else one filled from k on.
+// The window for a point in pair k, where the point before it was in the pair `last`: the one in hand, or one filled from k on.
 pub fn follow(
     channels: &[f32],
     n: usize,
     w: Window,
+    last: usize,
     k: usize,
     table: &mut [[[f32; 4]; 4]],
 ) -> Window
-    ensures { λ r. ⌜ Follows (old channels) n w k (old table) (new table) r ⌝ }
+    ensures { λ r. ⌜ Follows (old channels) n w last k (old table) (new table) r ⌝ }
 {
-    if stays_for(w, k, table.len()) {
+    if stays_for(w, last, k, table.len()) {
         return w;
     }
-    let ahead = pairs_ahead(w, k, table.len());
-    let part = &mut table[..ahead];
-    let count = fill(channels, n, k, part);
+    let count = fill(channels, n, k, table);
     Window { base: k, count }
 }
 

@@ -11,12 +11,9 @@ array-share-prefix-none c = search needs
 slice-aggregate-table : tie.Need-slice-aggregate-table
 slice-aggregate-table c = search needs
 
-slice-aggregate-paint-catmull : tie.Need-slice-aggregate-paint-catmull
-slice-aggregate-paint-catmull c = search needs
-
 paint-catmull-requires : tie.Need-paint-catmull-requires
 paint-catmull-requires c κs =
-    let at-start = c .before .before .before .before .before .before .before .before in
+    let at-start = c .before .before .before .before .before .before .before in
     (at-start .pre, no-segments _ _ _ [])
 
 same-length : tie.Need-same-length
@@ -28,9 +25,6 @@ returns c = search needs
 slice-aggregate-paint-tabled : tie.Need-slice-aggregate-paint-tabled
 slice-aggregate-paint-tabled c = search needs
 
-slice-aggregate-paint-tabled-2 : tie.Need-slice-aggregate-paint-tabled-2
-slice-aggregate-paint-tabled-2 c = search needs
-
 paint-tabled-requires : tie.Need-paint-tabled-requires
 paint-tabled-requires c κs = search needs
 
@@ -40,11 +34,8 @@ same-length-2 c = search needs
 returns-2 : tie.Need-returns-2
 returns-2 c = search needs
 
-slice-aggregate-paint-tabled-3 : tie.Need-slice-aggregate-paint-tabled-3
-slice-aggregate-paint-tabled-3 c = search needs
-
-slice-aggregate-paint-tabled-4 : tie.Need-slice-aggregate-paint-tabled-4
-slice-aggregate-paint-tabled-4 c = search needs
+slice-aggregate-paint-tabled-2 : tie.Need-slice-aggregate-paint-tabled-2
+slice-aggregate-paint-tabled-2 c = search needs
 
 paint-tabled-requires-2 : tie.Need-paint-tabled-requires-2
 paint-tabled-requires-2 c κs = search needs
@@ -55,23 +46,36 @@ same-length-3 c = search needs
 returns-3 : tie.Need-returns-3
 returns-3 c = search needs
 
+slice-aggregate-paint-many : tie.Need-slice-aggregate-paint-many
+slice-aggregate-paint-many c = search needs
+
+paint-many-requires : tie.Need-paint-many-requires
+paint-many-requires c κs = search needs
+
+same-length-4 : tie.Need-same-length-4
+same-length-4 c = search needs
+
+returns-4 : tie.Need-returns-4
+returns-4 c = search needs
+
 pub paint-cubics-spec : {M : Type 1} → statement M
 paint-cubics-spec =
     tie.close
     (tie.spec
     array-share-prefix-none
     slice-aggregate-table
-    slice-aggregate-paint-catmull
     paint-catmull-requires
     same-length
     returns
     slice-aggregate-paint-tabled
-    slice-aggregate-paint-tabled-2
     paint-tabled-requires
     same-length-2
     returns-2
-    slice-aggregate-paint-tabled-3
-    slice-aggregate-paint-tabled-4
+    slice-aggregate-paint-tabled-2
     paint-tabled-requires-2
     same-length-3
-    returns-3)
+    returns-3
+    slice-aggregate-paint-many
+    paint-many-requires
+    same-length-4
+    returns-4)

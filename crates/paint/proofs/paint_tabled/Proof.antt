@@ -19,7 +19,7 @@ slice-aggregate-table c =
 
 paint-catmull-requires : tie.Need-paint-catmull-requires
 paint-catmull-requires c κs =
-    let filled = c .before .before .before .before in
+    let filled = c .before .before .before in
     let at-start = filled .before .before .before .before .before .before in
     (at-start .pre, filled-segments _ _ _ _ _ _ (filled .fill .ensures))
 
@@ -28,9 +28,6 @@ same-length c = search needs
 
 same-length-2 : tie.Need-same-length-2
 same-length-2 c = search needs
-
-same-length-3 : tie.Need-same-length-3
-same-length-3 c = search needs
 
 returns : tie.Need-returns
 returns c = search needs
@@ -45,5 +42,4 @@ paint-tabled-spec =
     paint-catmull-requires
     same-length
     same-length-2
-    same-length-3
     returns)

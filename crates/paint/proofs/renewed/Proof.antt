@@ -1,4 +1,4 @@
--- `renewed` meets its contract: the same pair has the same segment, and another one's is in the table, in the window or worked out. Assumes nothing.
+-- `renewed` meets its contract: the same pair has the same segment, and another one's is in the table or worked out. Assumes nothing.
 use mathlib.Core.Path.{sym, _∙_, ap}
 use Prim.Native.Nat.{ℕ}
 use denote.Ref.{now}
@@ -15,13 +15,7 @@ segment-requires : tie.Need-segment-requires
 segment-requires c κs = search needs
 
 returns-2 : tie.Need-returns-2
-returns-2 c = c .segment .ensures ∙ segment-same _ _ _ _ _ (c .before .before .before .before .pre .1 .0)
-
-segment-requires-2 : tie.Need-segment-requires-2
-segment-requires-2 c κs = search needs
-
-returns-3 : tie.Need-returns-3
-returns-3 c = c .segment2 .ensures ∙ segment-same _ _ _ _ _ (c .before .before .before .before .pre .1 .1)
+returns-2 c = c .segment .ensures ∙ segment-same _ _ _ _ _ (c .before .before .before .pre .1)
 
 pub renewed-spec : {M : Type 1} → statement M
-renewed-spec = tie.close (tie.spec returns segment-requires returns-2 segment-requires-2 returns-3)
+renewed-spec = tie.close (tie.spec returns segment-requires returns-2)

@@ -1,0 +1,49 @@
+-- `paint_many` meets its contract: the points are painted with the segments of the first pairs in hand. Assumes nothing.
+use mathlib.Core.Path.{sym}
+use lib.Seq.{length-take-le}
+use Rattle.stops.proofs.Tables.{filled-window, filled-segments}
+use borrow.Author.Needs.{needs}
+use Rattle.paint.proofs.following.paint_many.Statement.{statement}
+use Rattle.paint.proofs.following.paint_many.Tie as tie
+
+fill-requires : tie.Need-fill-requires
+fill-requires c κs = search needs
+
+slice-reshare-prefix-table : tie.Need-slice-reshare-prefix-table
+slice-reshare-prefix-table c = search needs
+
+slice-aggregate-table : tie.Need-slice-aggregate-table
+slice-aggregate-table c =
+    let filled = c .before .before in
+    sym (length-take-le _ (filled .fill .last .1 .1 .1 .0) (filled-window _ _ _ _ _ _ (filled .fill .ensures) .fits))
+
+paint-following-requires : tie.Need-paint-following-requires
+paint-following-requires c κs =
+    let filled = c .before .before .before .before in
+    let at-start = filled .before .before .before .before .before .before in
+    (at-start .pre, filled-segments _ _ _ _ _ _ (filled .fill .ensures))
+
+slice-aggregate-paint-following : tie.Need-slice-aggregate-paint-following
+slice-aggregate-paint-following c = search needs
+
+same-length : tie.Need-same-length
+same-length c = search needs
+
+same-length-2 : tie.Need-same-length-2
+same-length-2 c = search needs
+
+returns : tie.Need-returns
+returns c = search needs
+
+pub paint-many-spec : {M : Type 1} → statement M
+paint-many-spec =
+    tie.close
+    (tie.spec
+    fill-requires
+    slice-reshare-prefix-table
+    slice-aggregate-table
+    slice-aggregate-paint-following
+    paint-following-requires
+    same-length
+    same-length-2
+    returns)

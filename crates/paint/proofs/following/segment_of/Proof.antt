@@ -1,0 +1,27 @@
+-- `segment_of` meets its contract: the same pair has the same segment, and another one's is in the table, in the window or worked out. Assumes nothing.
+use mathlib.Core.Path.{sym, _∙_, ap}
+use Prim.Native.Nat.{ℕ}
+use denote.Ref.{now}
+use Rattle.stops.specs.Near.{segmentFor}
+use Rattle.stops.proofs.Tables.{segment-same}
+use borrow.Author.Needs.{needs}
+use Rattle.paint.proofs.following.segment_of.Statement.{statement}
+use Rattle.paint.proofs.following.segment_of.Tie as tie
+
+returns : tie.Need-returns
+returns c = let s = c .before .before in s .pre .0 ∙ ap (λ (i : ℕ). segmentFor (now (s .args .channels)) (s .args .n) i) (sym (c .if1 .taken))
+
+segment-requires : tie.Need-segment-requires
+segment-requires c κs = search needs
+
+returns-2 : tie.Need-returns-2
+returns-2 c = c .segment .ensures ∙ segment-same _ _ _ _ _ (c .before .before .before .before .pre .1 .0)
+
+segment-requires-2 : tie.Need-segment-requires-2
+segment-requires-2 c κs = search needs
+
+returns-3 : tie.Need-returns-3
+returns-3 c = c .segment2 .ensures ∙ segment-same _ _ _ _ _ (c .before .before .before .before .pre .1 .1)
+
+pub segment-of-spec : {M : Type 1} → statement M
+segment-of-spec = tie.close (tie.spec returns segment-requires returns-2 segment-requires-2 returns-3)
