@@ -20,7 +20,6 @@ ghost use Rattle.paint_segments.specs.Over.{paintedOver};
 ghost use Rattle.paint.specs.Promises.{AtIs, PaintIs};
 ghost use Rattle.paint.specs.Within.{stopColour, Paintable};
 
-mod following;
 mod pairs;
 
 // The colour at t, or the number of the refusal.
@@ -161,12 +160,8 @@ fn paint_cubics(positions: &[f32], channels: &[f32], ts: &[f32], out: &mut [f32]
         paint_tabled(positions, channels, ts, out, &mut few);
         return;
     }
-    let mut most = [[[0.0f32; 4]; 4]; segments::ROOM];
-    if positions.len() <= segments::ROOM {
-        paint_tabled(positions, channels, ts, out, &mut most);
-        return;
-    }
-    following::paint_many(positions, channels, ts, out, &mut most)
+    let mut room = [[[0.0f32; 4]; 4]; segments::ROOM];
+    paint_tabled(positions, channels, ts, out, &mut room)
 }
 
 fn paint_all(

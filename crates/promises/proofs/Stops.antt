@@ -92,7 +92,7 @@ fill κs a = coincide (λ r e w. both (w .many) (w .written))
 pub has : (κs : Lfts 0) (a : _) → Coincide (of-has.Learnt κs a) answer
 has κs a = coincide (λ r e w. w)
 
-pub follow : (κs : Lfts 2) (a : _) → Coincide (of-follow.Learnt κs a) (λ r e. r with now (e .1 .1 .1 .1 .0))
+pub follow : (κs : Lfts 2) (a : _) → Coincide (of-follow.Learnt κs a) (λ r e. r with now (e .1 .1 .1 .1 .1 .0))
 follow κs a = coincide (λ r e w. both (w .place) (w .written))
 
 pub segment : (κs : Lfts 2) (a : _) → Coincide (of-segment.Learnt κs a) answer

@@ -46,18 +46,6 @@ same-length-3 c = search needs
 returns-3 : tie.Need-returns-3
 returns-3 c = search needs
 
-slice-aggregate-paint-many : tie.Need-slice-aggregate-paint-many
-slice-aggregate-paint-many c = search needs
-
-paint-many-requires : tie.Need-paint-many-requires
-paint-many-requires c κs = search needs
-
-same-length-4 : tie.Need-same-length-4
-same-length-4 c = search needs
-
-returns-4 : tie.Need-returns-4
-returns-4 c = search needs
-
 pub paint-cubics-spec : {M : Type 1} → statement M
 paint-cubics-spec =
     tie.close
@@ -74,8 +62,4 @@ paint-cubics-spec =
     slice-aggregate-paint-tabled-2
     paint-tabled-requires-2
     same-length-3
-    returns-3
-    slice-aggregate-paint-many
-    paint-many-requires
-    same-length-4
-    returns-4)
+    returns-3)
