@@ -120,9 +120,9 @@ fn resample_tabled(
     )
 }
 
-// Samples every cell of a Catmull-Rom ramp that is not kept. Gives the tries. The segments are worked out once for all cells, or
-// cell by cell where there are too many, or where a refresh needs few of them.
-fn resample_cubics(
+// Samples every cell that is not kept. Gives the tries. The segments of a Catmull-Rom ramp are worked out once for all cells,
+// or cell by cell where there are too many, or where a refresh needs few of them.
+pub(crate) fn resample_cells(
     task: Task,
     positions: &[f32],
     channels: &[f32],
@@ -135,6 +135,23 @@ fn resample_cubics(
     requires { ⌜ checkOf (taskRamp task positions channels codes) ≡ Fine ⌝ }
     ensures { λ r. ⌜ RecordAnew (taskColours task positions channels codes) (taskFar task) (keptBy keep) (task .min) (task .max) (lentBody rows counts) r ⌝ }
 {
+    let kind = task.kind;
+    let none = Window { base: 0, count: 0 };
+    if !segments::is_catmull_rom(kind) {
+        let mut nothing = [[[0.0f32; 4]; 4]; 1];
+        return resample_each(
+            task,
+            positions,
+            channels,
+            codes,
+            keep,
+            rows,
+            counts,
+            false,
+            none,
+            &mut nothing,
+        );
+    }
     if positions.len() <= segments::FEW {
         let mut few = [[[0.0f32; 4]; 4]; segments::FEW];
         return resample_tabled(
@@ -161,7 +178,6 @@ fn resample_cubics(
             &mut all,
         );
     }
-    let none = Window { base: 0, count: 0 };
     let mut own = [[[0.0f32; 4]; 4]; Sampler::ROW];
     let first = cover(task, positions, channels, keep, 0, 1, none, &mut own);
     resample_each(
@@ -175,39 +191,5 @@ fn resample_cubics(
         true,
         first,
         &mut own,
-    )
-}
-
-// Samples every cell that is not kept. Gives the tries.
-pub(crate) fn resample_cells(
-    task: Task,
-    positions: &[f32],
-    channels: &[f32],
-    codes: &[u8],
-    keep: [bool; 36],
-    rows: &mut [f32],
-    counts: &mut [u8],
-) -> usize
-    requires { ⌜ (length (now rows) ≡ recordLength) × (length (now counts) ≡ cells) ⌝ }
-    requires { ⌜ checkOf (taskRamp task positions channels codes) ≡ Fine ⌝ }
-    ensures { λ r. ⌜ RecordAnew (taskColours task positions channels codes) (taskFar task) (keptBy keep) (task .min) (task .max) (lentBody rows counts) r ⌝ }
-{
-    let kind = task.kind;
-    if segments::is_catmull_rom(kind) {
-        return resample_cubics(task, positions, channels, codes, keep, rows, counts);
-    }
-    let none = Window { base: 0, count: 0 };
-    let mut nothing = [[[0.0f32; 4]; 4]; 1];
-    resample_each(
-        task,
-        positions,
-        channels,
-        codes,
-        keep,
-        rows,
-        counts,
-        false,
-        none,
-        &mut nothing,
     )
 }
