@@ -251,7 +251,10 @@ ColorgradListed colorgrad_thin(uint32_t kind, const float *positions, size_t pos
  * outputs are set to zero. An ordinary ramp, a linear one that passes its check, from exactly 0 to exactly 1 with channels
  * within 0 to 1, is never refused where the record has its lengths and the outputs room for COLORGRAD_MOST_POINTS; the
  * channels listed then lie within 0 to 1 too. Nor is any linear ramp on a domain within 1e38 with channels below 2^127 in
- * size, nor a smoothstep or sharp one with channels up to a sixth of FLT_MAX. */
+ * size, nor a smoothstep or sharp one with channels up to a sixth of FLT_MAX.
+ *
+ * A band of colour that is narrower than half a cell, a 72nd of the domain, can lie between the points that are looked at:
+ * the list does not show it, whatever the threshold (README, 'What a list can lose'). */
 ColorgradListed colorgrad_flatten(uint32_t kind, const float *positions, size_t positions_length,
                                   const float *channels, size_t channels_length, const uint8_t *codes,
                                   size_t codes_length, float threshold, float *rows, size_t rows_length,

@@ -54,8 +54,9 @@ pub fn instructions(output: &PathBuf, call: &mut impl FnMut()) -> f64 {
     total.and_then(|n| n.trim().parse().ok()).unwrap_or_else(|| panic!("{dump} has no total"))
 }
 
-/// A request to valgrind: four rotations that leave a register as it was, and an exchange with itself. Nothing happens
-/// where valgrind is not there.
+/// A request to valgrind: four rotations that leave a register as it was, and one instruction that does nothing. Nothing
+/// happens where valgrind is not there.
+#[cfg(target_arch = "x86_64")]
 fn ask(request: usize) {
     let arguments = [request, 0, 0, 0, 0, 0];
     unsafe {
@@ -67,6 +68,22 @@ fn ask(request: usize) {
             "xchg rbx, rbx",
             in("rax") &arguments,
             inout("rdx") 0usize => _,
+        );
+    }
+}
+
+#[cfg(target_arch = "aarch64")]
+fn ask(request: usize) {
+    let arguments = [request, 0, 0, 0, 0, 0];
+    unsafe {
+        asm!(
+            "ror x12, x12, 3",
+            "ror x12, x12, 13",
+            "ror x12, x12, 51",
+            "ror x12, x12, 61",
+            "orr x10, x10, x10",
+            in("x4") &arguments,
+            inout("x3") 0usize => _,
         );
     }
 }

@@ -1,10 +1,11 @@
-//! Ramps of very many stops: 1,700, evenly spaced and random, against the Rust in every call; and the limit itself, 2,048
-//! taken and the next number refused by every call.
+//! Ramps of very many stops: 1,700, evenly spaced, random and crowded, against the Rust in every call; and the limit itself,
+//! 2,048 taken and the next number refused by every call.
 
 use crate::colours;
 use crate::limits;
 use crate::lists::{flattened, random_record, random_threshold, thinned, MOST_POINTS};
 use crate::options::Options;
+use crate::oracle::CELLS;
 use crate::ours::{self, Edit};
 use crate::ramps::{random_channels, random_points, random_positions, Kind, Ramp, KINDS};
 use crate::random::Random;
@@ -16,6 +17,16 @@ const STOPS: usize = 1700;
 const POINTS: usize = 480;
 const ROOM: (usize, usize) = (MOST_POINTS, 4 * MOST_POINTS);
 
+/// How stops lie on the domain. Crowded ones lie in one cell, most of them, which then has more pairs than a row has points.
+#[derive(Clone, Copy)]
+pub enum Spacing {
+    Even,
+    Random,
+    Crowded,
+}
+
+const SPACINGS: [Spacing; 3] = [Spacing::Even, Spacing::Random, Spacing::Crowded];
+
 pub fn run(options: &Options) -> Vec<Tally> {
     let mut tallies = vec![at_the_limit(options)];
     let sorts = ["colours", "lists", "refreshes"].map(|sort| format!("1,700 stops: {sort}"));
@@ -25,7 +36,7 @@ pub fn run(options: &Options) -> Vec<Tally> {
     for case in cases {
         let mut random = Random::of_case(options.seed, case);
         let kind = KINDS[case as usize % 5];
-        let ramp = of_many(&mut random, kind, STOPS, case / 5 % 2 == 0);
+        let ramp = of_many(&mut random, kind, STOPS, SPACINGS[case as usize / 5 % 3]);
         let points = random_points(&mut random, &ramp, POINTS);
         let threshold = random_threshold(&mut random);
         let [colours, lists, refreshes] = &mut of_sort;
@@ -42,11 +53,26 @@ pub fn run(options: &Options) -> Vec<Tally> {
     tallies
 }
 
-/// A ramp of n stops, evenly spaced or not.
-pub fn of_many(random: &mut Random, kind: Kind, n: usize, even: bool) -> Ramp {
-    let positions =
-        if even { (0..n).map(|i| i as f32 / (n - 1) as f32).collect() } else { random_positions(random, n) };
+/// A ramp of n stops.
+pub fn of_many(random: &mut Random, kind: Kind, n: usize, spacing: Spacing) -> Ramp {
+    let positions = match spacing {
+        Spacing::Even => (0..n).map(|i| i as f32 / (n - 1) as f32).collect(),
+        Spacing::Random => random_positions(random, n),
+        Spacing::Crowded => crowded_positions(random, n),
+    };
     Ramp { kind, positions, channels: random_channels(random, 4 * n), codes: Vec::new() }
+}
+
+/// From 0 to 1: a few anywhere, so that some pairs are wider than a cell, and the crowd in a cell or in a small part of one.
+fn crowded_positions(random: &mut Random, n: usize) -> Vec<f32> {
+    let (left, width) = (random.below(CELLS) as f32, random.pick(&[1.0, 0.5, 0.01]));
+    let few = random.pick(&[4, n / 4]);
+    let mut list: Vec<f32> =
+        (0..n).map(|i| if i < few { random.unit() } else { (left + width * random.unit()) / CELLS as f32 }).collect();
+    list.sort_by(f32::total_cmp);
+    list[0] = 0.0;
+    list[n - 1] = 1.0;
+    list
 }
 
 /// Every call with as many stops as may be, and with the next number of them.
@@ -88,9 +114,6 @@ fn calls(ramp: &Ramp) -> Vec<(&'static str, u32)> {
             number(ours::thin(ramp, 0.007, &record, &mut places, &mut colours).err())
         }),
         ("refresh", number(ours::refresh(ramp, &edit, 0.007, &mut record).err())),
-        (
-            "refresh_list",
-            number(ours::refresh_list(ramp, &edit, 0.007, &mut record, &mut places, &mut colours).err()),
-        ),
+        ("refresh_list", number(ours::refresh_list(ramp, &edit, 0.007, &mut record, &mut places, &mut colours).err())),
     ]
 }

@@ -46,7 +46,10 @@ fn thresholds(random: &mut Random) -> (f32, f32) {
         3 => (random.pick(&HIGH), random.pick(&HIGH)),
         4 => (random.pick(&LOW), random.pick(&LOW)),
         5 => (random.pick(&NONE), random.pick(&NONE)),
-        6 => (random.pick(&[0.035, 0.001, 0.007]), random.pick(&[0.035f32.next_down(), 0.001f32.next_up(), 0.007f32.next_up()])),
+        6 => (
+            random.pick(&[0.035, 0.001, 0.007]),
+            random.pick(&[0.035f32.next_down(), 0.001f32.next_up(), 0.007f32.next_up()]),
+        ),
         _ => (random.pick(&NONE), random.pick(&HIGH)),
     }
 }
@@ -119,7 +122,11 @@ fn asked_again(tally: &mut Tally, case: u64, ramp: &Ramp, edit: &Edit, mine: f32
     let right = refreshed.err().unwrap_or(0) == number && is(list.err(), number);
     if !thin_right || !right || !kept || !unchanged || !fresh {
         let words = &record.marks;
-        tally.differs(case, || format!("{thinned:?}, {refreshed:?}, {list:?}, not {number}, words {words:x?}, threshold {mine:?}, {ramp:?}"));
+        tally.differs(case, || {
+            format!(
+                "{thinned:?}, {refreshed:?}, {list:?}, not {number}, words {words:x?}, threshold {mine:?}, {ramp:?}"
+            )
+        });
     }
 }
 

@@ -94,7 +94,11 @@ pub type Segments = Vec<door::Segment>;
 /// A colour as the Rust keeps it in a segment: of one coloured by hue, its hue, saturation and value.
 pub fn kept(colouring: u8, c: &[f32]) -> [f32; 4] {
     let colour = Color::new(c[0], c[1], c[2], c[3]);
-    if colouring == 0 { colour.to_array() } else { colour.to_hsva() }
+    if colouring == 0 {
+        colour.to_array()
+    } else {
+        colour.to_hsva()
+    }
 }
 
 /// A GIMP text: gradient, segments and name, or the message and its line.

@@ -194,8 +194,10 @@ pub fn stale(
     let room = (MOST_POINTS, 4 * MOST_POINTS);
     let mut out = (vec![RUBBISH; room.0], vec![RUBBISH; room.1]);
     let got = ours::thin(after, threshold, &record, &mut out.0, &mut out.1);
-    let two_steps =
-        sampled.is_ok() && is_record(&record, &fresh) && is_record(&record, &want) && agrees(got, &list, room, (&out.0, &out.1));
+    let two_steps = sampled.is_ok()
+        && is_record(&record, &fresh)
+        && is_record(&record, &want)
+        && agrees(got, &list, room, (&out.0, &out.1));
     let mut out = (vec![RUBBISH; room.0], vec![RUBBISH; room.1]);
     let both = refresh_list(&mut again, &mut out.0, &mut out.1);
     list.evaluations += done.unwrap_or_default();

@@ -4,7 +4,7 @@
 use crate::edits::{self, changed, ADD, COLOUR, SORTS};
 use crate::limits;
 use crate::lists::{early, emitted, random_record, random_threshold, MOST_POINTS};
-use crate::many::of_many;
+use crate::many::{of_many, Spacing};
 use crate::options::Options;
 use crate::oracle::{self, List, Record, CELLS, MARKS, ROW};
 use crate::ours::{Edit, Sorted};
@@ -48,9 +48,9 @@ const SPOILT: [fn(&mut Sorted, &Ramp); 5] = [
     |edit, ramp| edit.position = ramp.positions[0].next_down(),
 ];
 
-/// Catmull-Rom ramps of more stops than a window of segments has: a list and a refreshed one of each, with the greatest
-/// threshold and colours that lie close, so that the lists are not long.
-const MANY: [usize; 2] = [40, 300];
+/// Catmull-Rom ramps of more stops than a window of segments has, in all or in one cell: a list and a refreshed one of each,
+/// with the greatest threshold and colours that lie close, so that the lists are not long.
+const MANY: [(usize, Spacing); 3] = [(40, Spacing::Even), (300, Spacing::Even), (300, Spacing::Crowded)];
 
 /// What is longer is left out, but for these and for one ramp of each size that is the most.
 const LONG_RAMP: usize = 12;
@@ -294,8 +294,8 @@ fn lists(options: &Options, words: &mut Words) {
             words.list(early, &list, room);
         }
     }
-    for stops in MANY {
-        let (ramp, threshold) = (close_colours(options, stops), 0.035);
+    for (stops, spacing) in MANY {
+        let (ramp, threshold) = (close_colours(options, stops, spacing), 0.035);
         words.ramp(&ramp);
         words.float(threshold);
         words.word(Room::Full as u32);
@@ -304,10 +304,10 @@ fn lists(options: &Options, words: &mut Words) {
     words.printed("lists");
 }
 
-/// Evenly spaced stops, whose colours lie close to each other.
-fn close_colours(options: &Options, stops: usize) -> Ramp {
+/// Stops whose colours lie close to each other.
+fn close_colours(options: &Options, stops: usize, spacing: Spacing) -> Ramp {
     let mut random = Random::of_case(options.seed, stops as u64);
-    let mut ramp = of_many(&mut random, Kind::CatmullRom, stops, true);
+    let mut ramp = of_many(&mut random, Kind::CatmullRom, stops, spacing);
     ramp.channels.iter_mut().for_each(|c| *c = 0.3 * random.unit());
     ramp
 }
@@ -366,9 +366,9 @@ fn refreshed(options: &Options, words: &mut Words) {
         }
         println!("refreshed, {name}: {count} records, {} of them not refused", words.answered - before);
     }
-    for stops in MANY {
+    for (stops, spacing) in MANY {
         let edit = Sorted { sort: COLOUR, stop: stops / 2, position: 0.0, colour: [0.1, 0.0, 0.1, 0.0] };
-        let (ramp, threshold) = (close_colours(options, stops), 0.035);
+        let (ramp, threshold) = (close_colours(options, stops, spacing), 0.035);
         let list = refreshed_list(&ramp, &edit, threshold);
         words.edited(&ramp, threshold, Room::Full, &edit);
         words.list(edits::refusal(&ramp, &edit), &list, Room::Full);

@@ -80,7 +80,9 @@ fn holds(segments: &oracle::Segments, out: (&[f32], &[f32], &[u8])) -> bool {
     let n = segments.len();
     segments.iter().enumerate().all(|(i, (p, c, k))| {
         let ends = out.1[8 * i..8 * i + 8].chunks(4).flat_map(|end| oracle::kept(k[1], end));
-        all_same(&out.0[3 * i..3 * i + 3], p) && all_same(&ends.collect::<Vec<f32>>(), c) && out.2[2 * i..2 * i + 2] == *k
+        all_same(&out.0[3 * i..3 * i + 3], p)
+            && all_same(&ends.collect::<Vec<f32>>(), c)
+            && out.2[2 * i..2 * i + 2] == *k
     }) && out.0[3 * n..].iter().chain(&out.1[8 * n..]).all(|x| *x == RUBBISH)
         && out.2[2 * n..].iter().all(|k| *k == RUBBISH_CODE)
 }

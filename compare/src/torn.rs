@@ -74,11 +74,8 @@ pub fn run(options: &Options) -> Vec<Tally> {
 
 fn sound() -> Text {
     let place = |i: usize| i as f32 / (2 * SEGMENTS) as f32;
-    let line = |i: usize| Line {
-        positions: [place(2 * i), place(2 * i + 1), place(2 * i + 2)],
-        colour: "0",
-        codes: "0 0",
-    };
+    let line =
+        |i: usize| Line { positions: [place(2 * i), place(2 * i + 1), place(2 * i + 2)], colour: "0", codes: "0 0" };
     Text { header: "GIMP Gradient", count: SEGMENTS.to_string(), lines: (0..SEGMENTS).map(line).collect() }
 }
 

@@ -55,7 +55,9 @@ fn number(tally: &mut Tally, case: u64, x: f32) {
     }
     tally.answered(1);
     let rust = std::str::from_utf8(got).unwrap().parse::<f32>();
-    if !rust.map_or(false, |y| y.to_bits() == x.to_bits()) || !ours::token(got).map_or(false, |y| y.to_bits() == x.to_bits()) {
+    if !rust.map_or(false, |y| y.to_bits() == x.to_bits())
+        || !ours::token(got).map_or(false, |y| y.to_bits() == x.to_bits())
+    {
         tally.differs(case, || format!("{x:e} does not read back from {wanted:?}"));
     }
 }
@@ -108,7 +110,11 @@ fn file_of(positions: &[f32], channels: &[f32]) -> Result<String, u32> {
         }
         text += "0 0\n";
     }
-    if whole { Ok(text) } else { Err(19) }
+    if whole {
+        Ok(text)
+    } else {
+        Err(19)
+    }
 }
 
 /// Random lists, and lists of the library's own: the bytes, what is left in the output, and the text read again.
@@ -138,14 +144,19 @@ fn any_number(random: &mut Random) -> f32 {
         3 => random.pick(&[1e-6, 1e6, 1.001953125, 0.5, 1.0, f32::NAN, f32::INFINITY, 2.98e-8, 9.99e-7]),
         _ => {
             let x = f32::from_bits(LEAST + (random.bits() as u64 * ALL >> 32) as u32);
-            if random.one_in(2) { -x } else { x }
+            if random.one_in(2) {
+                -x
+            } else {
+                x
+            }
         }
     }
 }
 
 fn any_list(random: &mut Random) -> (Vec<f32>, Vec<f32>) {
     let n = if random.one_in(6) { random.from_to(250, 260) } else { random.below(12) };
-    let mut positions: Vec<f32> = (0..n).map(|_| random.from_to(0, 4096) as f32 / 4096.0 * random.pick(&[1.0, 1.0, 0.3, 1e-3])).collect();
+    let mut positions: Vec<f32> =
+        (0..n).map(|_| random.from_to(0, 4096) as f32 / 4096.0 * random.pick(&[1.0, 1.0, 0.3, 1e-3])).collect();
     positions.sort_by(f32::total_cmp);
     if n > 0 && !random.one_in(8) {
         positions[0] = random.pick(&[0.0, 0.0, -0.0]);
@@ -157,7 +168,8 @@ fn any_list(random: &mut Random) -> (Vec<f32>, Vec<f32>) {
     }
     let calm = random.one_in(2);
     let count = if random.one_in(20) { 4 * n + 1 } else { 4 * n };
-    let channels = (0..count).map(|_| if calm { random.from_to(1, 255) as f32 / 255.0 } else { any_number(random) }).collect();
+    let channels =
+        (0..count).map(|_| if calm { random.from_to(1, 255) as f32 / 255.0 } else { any_number(random) }).collect();
     (positions, channels)
 }
 
@@ -222,9 +234,10 @@ fn reads_back(text: &[u8], positions: &[f32], channels: &[f32]) -> bool {
     let Ok((_, segments, name)) = oracle::read(text, colours.0, colours.1) else { return false };
     let rust = name == "flattened"
         && segments.len() == n
-        && segments.iter().enumerate().all(|(i, (q, d, _))| {
-            (0..3).all(|j| bits(q[j], p[3 * i + j])) && (0..8).all(|j| bits(d[j], c[8 * i + j]))
-        });
+        && segments
+            .iter()
+            .enumerate()
+            .all(|(i, (q, d, _))| (0..3).all(|j| bits(q[j], p[3 * i + j])) && (0..8).all(|j| bits(d[j], c[8 * i + j])));
     ours && same_here && k.iter().all(|code| *code == 0) && rust
 }
 

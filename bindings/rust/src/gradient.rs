@@ -62,6 +62,9 @@ pub trait Gradient {
     /// domain within 1e38, for a linear ramp with channels below 2^127 in size, or a smoothstep or sharp one with channels up
     /// to a sixth of `f32::MAX`. [`Ordinary`](crate::Ordinary) has this call without a `Result`.
     ///
+    /// A band of colour that is narrower than half a cell, a 72nd of the domain, can lie between the points that are looked
+    /// at: the list does not show it, whatever the threshold.
+    ///
     /// ```
     /// use guineaplume::{Color, Gradient, LinearGradient, Refusal};
     ///

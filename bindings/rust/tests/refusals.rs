@@ -1,7 +1,9 @@
 //! Each refusal, what it leaves in lent memory, and that its number and message are the header's.
 
 use guineaplume::lent::{self, Kind, Record, RecordMut, SegmentsMut, StopsMut, CELLS, MARKS, MOST_POINTS, ROWS};
-use guineaplume::{Color, Edit, GimpGradient, Gradient, LinearGradient, ParseGgrError, Refresh, Refusal, SharpGradient};
+use guineaplume::{
+    Color, Edit, GimpGradient, Gradient, LinearGradient, ParseGgrError, Refresh, Refusal, SharpGradient,
+};
 
 const BLACK: Color = Color::new(0.0, 0.0, 0.0, 1.0);
 const WHITE: Color = Color::new(1.0, 1.0, 1.0, 1.0);

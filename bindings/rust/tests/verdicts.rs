@@ -1,7 +1,7 @@
 //! What is said of lists made elsewhere: each verdict, in its order, and that its message is the header's.
 
 use guineaplume::lent::{Kind, Ramp, CELLS, MOST_POINTS};
-use guineaplume::{Color, Gradient, Refusal, SmoothstepGradient, Verdict};
+use guineaplume::{Color, Gradient, LinearGradient, Refusal, SmoothstepGradient, Verdict};
 
 const GRAY: [f32; 8] = [0.0, 0.0, 0.0, 1.0, 1.0, 1.0, 1.0, 1.0];
 
@@ -93,6 +93,23 @@ fn our_own_lists_may_be_turned_down() {
     let smooth = SmoothstepGradient::new(&[0.0, 1.0], &[gray(0.0), gray(1.0)]).unwrap();
     let list = smooth.linearize(0.007).unwrap();
     assert!(matches!(smooth.judge(0.007, list.positions(), list.colors()), Ok(Verdict::TooFar { .. })));
+}
+
+/// The README's example, examples/lost-band.tsv: neither the list nor the judge sees the red band.
+#[test]
+fn a_band_narrower_than_half_a_cell_can_be_lost() {
+    let red = Color::new(1.0, 0.0, 0.0, 1.0);
+    let colors = [gray(0.0), gray(0.389), red, red, gray(0.4027), gray(1.0)];
+    let ramp = LinearGradient::new(&[0.0, 0.389, 0.3891, 0.4026, 0.4027, 1.0], &colors).unwrap();
+    for threshold in [0.001, 0.007, 0.035] {
+        let list = ramp.linearize(threshold).unwrap();
+        assert_eq!(list.positions(), [0.0, 1.0]);
+        assert_eq!(ramp.judge(threshold, list.positions(), list.colors()), Ok(Verdict::Yes));
+        // at the ramp's own stops it is seen
+        let shown = LinearGradient::new(list.positions(), list.colors()).unwrap();
+        assert_eq!(ramp.at(0.3891), red);
+        assert_eq!(shown.at(0.3891), gray(0.3891));
+    }
 }
 
 #[test]

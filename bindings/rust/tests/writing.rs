@@ -47,7 +47,11 @@ fn what_a_refusal_leaves() {
         (answer, text)
     };
     let (long, room) = (GRAY_TEXT.len(), written_bytes(2));
-    for (positions, channels) in [(&[0.0][..], &GRAY[..4]), (&[0.0, 1.0], &GRAY[..7]), (&[0.0; MOST_WRITTEN + 1], &[0.5; 4 * (MOST_WRITTEN + 1)])] {
+    for (positions, channels) in [
+        (&[0.0][..], &GRAY[..4]),
+        (&[0.0, 1.0], &GRAY[..7]),
+        (&[0.0; MOST_WRITTEN + 1], &[0.5; 4 * (MOST_WRITTEN + 1)]),
+    ] {
         assert_eq!(write(positions, channels, room), (Err(Refusal::Misshapen), vec![7; room]));
     }
     assert_eq!(write(&[1.0, 0.0], &GRAY, room), (Err(Refusal::Falling), vec![7; room]));
@@ -91,7 +95,10 @@ fn lists_read_back() {
         let out = lent::SegmentsMut { positions: &mut p, channels: &mut c, codes: &mut k };
         assert_eq!(lent::read(&text[..bytes], BLACK, WHITE, out), Ok(n - 1));
         for i in 0..n - 1 {
-            assert_eq!((p[3 * i].to_bits(), p[3 * i + 2].to_bits()), (positions[i].to_bits(), positions[i + 1].to_bits()));
+            assert_eq!(
+                (p[3 * i].to_bits(), p[3 * i + 2].to_bits()),
+                (positions[i].to_bits(), positions[i + 1].to_bits())
+            );
             assert_eq!(c[8 * i..8 * i + 8], channels[4 * i..4 * i + 8]);
             assert_eq!(k[2 * i..2 * i + 2], [0, 0]);
         }

@@ -1,18 +1,19 @@
 -- What was read, by the case of the answer, and what is printed of it. Assumes nothing.
 use Prim.Native.Nat.{ℕ, _*_, _≤_, _<_}
 use native.Mathlib.Omega.{arith}
-use mathlib.Core.Path.{_≡_, refl, sym, ap, ap₂, _∙_}
+use mathlib.Core.Path.{_≡_, sym, ap, ap₂, _∙_}
 use mathlib.Core.List.{List, []}
 use lib.ListN.{length, take}
 use lib.Seq.{sets, length-sets}
 use lib.Ieee.{Float}
 use borrow.Author.Tests.{le-leb, lt-leb}
+use Rattle.blend.specs.Channels.{positionsIn, channelsIn}
 use Rattle.blend.specs.declared.Stop.{Stop}
 use Rattle.stops.specs.Lent.{rampOf, Change}
 use Rattle.stops.specs.declared.Kind.{Kind}
 use Rattle.linearize.specs.Lent.{Output}
 use Rattle.writing.specs.declared.Reply.the-variants as reply
-use Rattle.entries.specs.Input.{Input, unread, input, mostKept, positionsIn, channelsIn, inputOf, stopsIn, askedOf, Reads}
+use Rattle.entries.specs.Input.{Input, unread, input, mostKept, inputOf, stopsIn, askedOf, Reads}
 use Rattle.entries.specs.declared.reading.Edited.{Edited}
 use Rattle.entries.specs.declared.reading.Asked.{Asked}
 use Rattle.entries.specs.declared.reading.Asked.the-variants as asked

@@ -20,7 +20,7 @@ use Rattle.stops.specs.declared.Checked.{Checked}
 use Rattle.stops.specs.declared.Checked.the-variants as checked
 use Rattle.gradient.specs.Ramp.{isGimp, checkOf, minOf, maxOf, colourOf}
 use Rattle.thinning.specs.Kept.{keptOf, refusalOf, listEvaluations}
-use Rattle.blend.specs.Channels.{coloursOf}
+use Rattle.blend.specs.Channels.{coloursOf, positionsIn, channelsIn}
 use Rattle.sampling.specs.Lent.{Held}
 use Rattle.sampling.specs.Sampling.{andThen, farOf, shapeCheck, sampleCheck, heldCheck, fresh, freshEvaluations, sampleAnswer, sampleHeld}
 use Rattle.linearize.specs.Desk.{pointsIn, flattenEvaluations}
@@ -35,7 +35,7 @@ use Rattle.editing.proofs.Recoloured.{colour-other, colour-new, changed-length}
 use Rattle.editing.proofs.EditRules.{colour-fine}
 use Rattle.editing.proofs.EditSound.{edit-sound}
 use Rattle.refresh.proofs.Theorem.{refresh-passes, fresh-renewed}
-use Rattle.entries.specs.Input.{input, mostKept, positionsIn, channelsIn, inputOf}
+use Rattle.entries.specs.Input.{input, mostKept, inputOf}
 use Rattle.writing.specs.Printed.{refusedText}
 use Rattle.desk.specs.Recoloured.{recoloured, SameStopLines}
 use Rattle.desk.specs.Tool.{listRoom, madeText, freshText, relistText, editText, blank, inputText, deskOf}

@@ -7,6 +7,7 @@ use mathlib.Core.List.{List, []}
 use lib.ListN.{length, drop, length-append}
 use lib.Dec.{leb}
 use lib.Ieee.{Float}
+use Rattle.blend.specs.Channels.{positionsIn, channelsIn}
 use Rattle.refusals.specs.Refusals.{misshapen}
 use Rattle.stops.specs.Lent.{Ramp, rampOf}
 use Rattle.stops.specs.Answers.{onFine}
@@ -28,7 +29,7 @@ use Rattle.refresh.specs.RefreshDesk.{refreshCheck}
 use Rattle.editing.specs.declared.Edit.{Edit}
 use Rattle.editing.specs.declared.Edit.the-variants.{Colour}
 use Rattle.refresh.proofs.RefreshAnswers.{relist-most}
-use Rattle.entries.specs.Input.{Input, unread, input, mostKept, positionsIn, channelsIn, inputOf}
+use Rattle.entries.specs.Input.{Input, unread, input, mostKept, inputOf}
 use Rattle.writing.specs.Printed.{refusedText, listText, Puts}
 use Rattle.desk.specs.Tool.{listRoom, listedText, madeText, onSampled, freshText, relistText, editText, blank, inputText, deskOf, mostPrinted, Prints}
 use Rattle.entries.specs.declared.reading.Edited.the-variants as edit

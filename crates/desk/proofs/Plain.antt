@@ -10,6 +10,7 @@ use lib.Ieee.{Float, nan}
 use lib.Ieee.Scale.{finite}
 use borrow.Author.Tests.{eqb-true}
 use Rattle.float.proofs.Flags.{both-l, both-r, parts4, failed}
+use Rattle.blend.specs.Channels.{channelsIn}
 use Rattle.blend.specs.Finite.{allFinite}
 use Rattle.blend.specs.declared.Stop.{Stop}
 use Rattle.stops.specs.Stops.{finiteRgba}
@@ -23,7 +24,7 @@ use Rattle.rows.proofs.Read.{Finite, numbers-finite}
 use Rattle.sampling.specs.Constants.{defaultThreshold}
 use Rattle.editing.specs.Rules.{refreshable}
 use Rattle.entries.specs.Entries.{exactly, toThreshold, thresholdEntry, toStop, stopEntry, stopIndexOf, toChange, changeEntry, editEntry, stopTag, thresholdTag, editTag, kindLinear, kindSmoothstep, entryOf}
-use Rattle.entries.specs.Input.{Input, unread, input, mostBytes, ifRamp, ifThreshold, ifStop, ifChange, fromEnd, fromEdit, stopsOf, afterStops, fromStops, fromThreshold, fromKind, inputOf, channelsIn}
+use Rattle.entries.specs.Input.{Input, unread, input, mostBytes, ifRamp, ifThreshold, ifStop, ifChange, fromEnd, fromEdit, stopsOf, afterStops, fromStops, fromThreshold, fromKind, inputOf}
 use Rattle.entries.specs.declared.fields.Recolour.{Recolour}
 use Rattle.entries.specs.declared.fields.Entry.{Entry}
 use Rattle.entries.specs.declared.fields.Entry.the-variants as entry

@@ -13,7 +13,7 @@ use Rattle.stops.specs.declared.Checked.{Checked}
 use Rattle.gradient.specs.Ramp.{colourOf}
 use Rattle.sampling.specs.Constants.{cells, recordLength, marksLength}
 use Rattle.thinning.specs.Kept.{keptOf, refusalOf, listEvaluations}
-use Rattle.blend.specs.Channels.{coloursOf}
+use Rattle.blend.specs.Channels.{coloursOf, positionsIn, channelsIn}
 use Rattle.sampling.specs.Lent.{Held, heldOf}
 use Rattle.sampling.specs.Sampling.{farOf, heldCheck, fresh, sampleAnswer, sampleHeld}
 use Rattle.linearize.specs.Desk.{answerBy, pointsIn, flattenEvaluations}
@@ -23,7 +23,7 @@ use Rattle.sampling.specs.declared.Sampled.{Sampled}
 use Rattle.sampling.specs.declared.Sampled.the-variants as sampled
 use Rattle.editing.specs.Edited.{edited}
 use Rattle.refresh.specs.RefreshDesk.{refreshCheck, renewed, newEvaluations}
-use Rattle.entries.specs.Input.{Input, unread, input, mostKept, positionsIn, channelsIn, inputOf}
+use Rattle.entries.specs.Input.{Input, unread, input, mostKept, inputOf}
 use Rattle.writing.specs.Printed.{unreadText, refusedText, listText}
 use Rattle.editing.specs.declared.Edit.{Edit}
 use Rattle.editing.specs.declared.Edit.the-variants.{Colour}

@@ -8,11 +8,10 @@ use borrow.Author.Tests.{lt-ltb, le-ltb, le-leb, lt-leb, eq-eqb, ne-eqb, leb-tru
 use lib.Dec.{leb, ltb, eqb}
 use lib.ListN.{length}
 use lib.Seq.{sets}
-use lib.Ieee.{Float, nan}
+use lib.Ieee.{Float}
 use Rattle.refusals.specs.Refusals.{misshapen}
 use Rattle.refusals.specs.Limits.{mostStops}
 use Rattle.float.proofs.Flags.{both-l, both-r}
-use Rattle.stops.specs.Stops.{posAt}
 use Rattle.stops.specs.declared.Kind.{Kind}
 use Rattle.stops.specs.Answers.{onFine}
 use Rattle.stops.specs.declared.Checked.{Checked}
@@ -28,7 +27,6 @@ use Rattle.editing.specs.Reached.{stretchOf, cellsKept}
 use Rattle.editing.specs.Copied.{copyFits, copyCheck, Copies}
 use Rattle.editing.specs.declared.Edit.{Edit}
 use Rattle.editing.specs.declared.Edit.the-variants.{Colour, Move, Add, Remove}
-use Rattle.editing.specs.declared.copy.Copied.{Copied}
 use Rattle.editing.specs.declared.copy.Copied.the-variants as copied
 use Rattle.editing.proofs.EditRules.{colour-passes, move-passes, add-passes, remove-passes}
 

@@ -14,14 +14,12 @@ use lib.Ieee.{Float, le, lt, isNan, inf}
 use lib.Ieee.Fits.{and-l}
 use lib.Ieee.Bits.{is-true}
 use Rattle.float.proofs.Order as order
-use Rattle.blend.specs.declared.Rgba.{Rgba}
 use Rattle.blend.specs.declared.Stop.{Stop}
 use Rattle.stops.specs.Stops.{posAt, colourAt, stopAt}
 use Rattle.stops.specs.Place.{Rising, firstAt, placeOf}
 use Rattle.stops.specs.Pair.{pairOf, between, colourIn}
 use Rattle.stops.specs.declared.Kind.{Kind}
 use Rattle.stops.specs.declared.Kind.the-variants.{Linear, Smoothstep, Sharp, Basis, CatmullRom, Gimp}
-use Rattle.stops.specs.declared.Place.the-variants.{End, Nowhere, Between}
 use Rattle.stops.proofs.Choice.{rising-numbers, first-reaches, before-first, place-first, place-last, place-nan, place-between}
 use Rattle.stops.proofs.Valid.{first-le, pair-inside}
 use Rattle.reach.specs.Stretch.{stretchBetween, beforeOf, afterOf, outsideOf}

@@ -9,7 +9,7 @@ use lib.Ieee.{Float}
 use types.Run.{OneOf}
 use denote.Enum.Declared.{tagOf}
 use Rattle.slices.proofs.Stores.{sets-append}
-use Rattle.blend.specs.Channels.{channelsOf}
+use Rattle.blend.specs.Channels.{channelsOf, positionsIn, channelsIn}
 use Rattle.blend.specs.declared.Stop.{Stop}
 use Rattle.stops.specs.Lent.{change}
 use Rattle.stops.specs.declared.Kind.{Kind}
@@ -19,14 +19,13 @@ use Rattle.text.proofs.Lines.{no-lines, some-lines, few-lines}
 use Rattle.sampling.specs.Constants.{defaultThreshold}
 use Rattle.linearize.specs.Lent.{outputOf}
 use Rattle.entries.specs.Entries.{entryOf}
-use Rattle.entries.specs.Input.{unread, ifThreshold, ifStop, ifChange, fromEnd, fromEdit, stopsOf, afterStops, fromStops, fromThreshold, positionsIn, channelsIn, afterThreshold}
+use Rattle.entries.specs.Input.{unread, ifThreshold, ifStop, ifChange, fromEnd, fromEdit, stopsOf, afterStops, fromStops, fromThreshold, afterThreshold}
 use Rattle.entries.specs.Steps.{StepAt, StartAt, BlockAt, endingOf, EndsAs}
 use Rattle.entries.specs.declared.fields.Recolour.{Recolour}
 use Rattle.entries.specs.declared.fields.Entry.{Entry}
 use Rattle.entries.specs.declared.fields.Entry.the-variants as entry
 use Rattle.entries.proofs.fields.Entry.{the-type}
 use Rattle.entries.specs.declared.reading.Edited.the-variants as edited
-use Rattle.entries.specs.declared.reading.Ending.{Ending}
 use Rattle.entries.specs.declared.reading.Ending.the-variants as ending
 use Rattle.entries.proofs.Others.{not-threshold, not-stop, not-change}
 

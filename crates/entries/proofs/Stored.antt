@@ -11,6 +11,7 @@ use lib.Ieee.{Float}
 use borrow.Author.Tests.{le-leb, lt-leb}
 use types.Run.{OneOf}
 use denote.Enum.Declared.{tagOf}
+use Rattle.blend.specs.Channels.{positionsIn, channelsIn}
 use Rattle.blend.specs.declared.Stop.{Stop}
 use Rattle.stops.specs.Lent.{Change, change}
 use Rattle.stops.specs.declared.Kind.{Kind}
@@ -20,13 +21,12 @@ use Rattle.sampling.specs.Constants.{defaultThreshold}
 use Rattle.linearize.specs.Lent.{Output}
 use Rattle.entries.specs.declared.fields.Recolour.{Recolour}
 use Rattle.entries.specs.Entries.{entryOf}
-use Rattle.entries.specs.Input.{Input, unread, input, mostBytes, ifRamp, ifThreshold, ifChange, fromEnd, fromEdit, stopsOf, afterStops, fromStops, fromThreshold, fromKind, inputOf, positionsIn, channelsIn, afterThreshold, stopsFrom, stopsIn, askedOf, Reads}
+use Rattle.entries.specs.Input.{Input, unread, input, mostBytes, ifRamp, ifThreshold, ifChange, fromEnd, fromEdit, stopsOf, afterStops, fromStops, fromThreshold, fromKind, inputOf, afterThreshold, stopsFrom, stopsIn, askedOf, Reads}
 use Rattle.entries.specs.Steps.{StepAt, StartAt, BlockAt, endingOf, EndsAs}
 use Rattle.entries.specs.declared.fields.Entry.{Entry}
 use Rattle.entries.specs.declared.fields.Entry.the-variants as entry
 use Rattle.entries.proofs.fields.Entry.{the-type}
 use Rattle.entries.specs.declared.reading.Edited.{Edited}
-use Rattle.entries.specs.declared.reading.Edited.the-variants as edited
 use Rattle.entries.specs.declared.reading.Ending.{Ending}
 use Rattle.entries.specs.declared.reading.Ending.the-variants as ending
 use Rattle.entries.specs.declared.reading.Asked.the-variants as asked

@@ -2,7 +2,7 @@
 use Prim.Native.Nat.{ℕ, _+_}
 use mathlib.Core.Path.{_≡_}
 use mathlib.Core.Bool.{cond}
-use mathlib.Core.List.{List, [], _∷_, _++_}
+use mathlib.Core.List.{List, [], _∷_}
 use lib.ListN.{length}
 use lib.Seq.{sets}
 use lib.Dec.{leb}
@@ -12,7 +12,7 @@ use Rattle.stops.specs.Lent.{Change}
 use Rattle.stops.specs.declared.Kind.{Kind}
 use Rattle.text.specs.Text.{lines}
 use Rattle.sampling.specs.Constants.{defaultThreshold}
-use Rattle.blend.specs.Channels.{channelsOf}
+use Rattle.blend.specs.Channels.{positionsIn, channelsIn}
 use Rattle.linearize.specs.Lent.{Output}
 use Rattle.entries.specs.declared.fields.Recolour.{Recolour}
 use Rattle.entries.specs.Entries.{entryOf}
@@ -102,16 +102,6 @@ fromKind (l ∷ ls) = ifRamp (entryOf l) (λ k. fromThreshold k ls) (unread 1)
 -- ---- the input: 0 for too many bytes
 unfoldable pub inputOf : List ℕ → Input
 inputOf s = cond (leb (length s) mostBytes) (fromKind (lines s)) (unread 0)
-
--- ---- the stops as they are lent
-
-unfoldable pub positionsIn : List Stop → List Float
-positionsIn [] = []
-positionsIn (s ∷ ss) = s .position ∷ positionsIn ss
-
-unfoldable pub channelsIn : List Stop → List Float
-channelsIn [] = []
-channelsIn (s ∷ ss) = channelsOf (s .colour) ++ channelsIn ss
 
 -- ---- the promise
 

@@ -5,13 +5,14 @@ use mathlib.Core.List.{List}
 use lib.ListN.{length, drop}
 use lib.Seq.{sets}
 use lib.Ieee.{Float}
+use Rattle.blend.specs.Channels.{positionsIn, channelsIn}
 use Rattle.blend.specs.declared.Stop.{Stop}
 use Rattle.stops.specs.Lent.{Change}
 use Rattle.stops.specs.declared.Kind.{Kind}
 use Rattle.linearize.specs.Lent.{Output}
 use Rattle.text.specs.Text.{lines, firstOf, restOf}
 use Rattle.entries.specs.Entries.{entryOf}
-use Rattle.entries.specs.Input.{Input, unread, input, fromThreshold, fromStops, fromEdit, stopsOf, afterStops, positionsIn, channelsIn, afterThreshold}
+use Rattle.entries.specs.Input.{Input, unread, input, fromThreshold, fromStops, fromEdit, stopsOf, afterStops, afterThreshold}
 use Rattle.entries.specs.declared.fields.Entry.{Entry}
 use Rattle.entries.specs.declared.reading.Ending.{Ending}
 use Rattle.entries.specs.declared.reading.Ending.the-variants as ending

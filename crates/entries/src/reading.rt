@@ -8,7 +8,6 @@ use slices::put;
 use stops::Kind;
 use stops::channels::put_colour;
 use text::line_at;
-ghost use mathlib.Core.Path.{_≡_};
 ghost use Prim.Native.Nat.{_*_, _≤_};
 ghost use lib.ListN.{length};
 ghost use Rattle.stops.specs.Lent.{old};

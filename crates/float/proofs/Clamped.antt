@@ -1,12 +1,11 @@
 -- What is clamped lies from 0 to 1, and in the order that it had. Assumes nothing.
-use mathlib.Core.Path.{_≡_, refl, sym, _∙_, subst}
-use mathlib.Core.Bool.{Bool, true, false, cond, true≢false}
+use mathlib.Core.Path.{_≡_, refl, subst}
+use mathlib.Core.Bool.{Bool, true, false, cond}
 use lib.Dec.{T}
 use lib.Ieee.{Float, isNan, ofBits, le, lt}
-use lib.Ieee.Bits.{is-true}
 use Rattle.float.specs.F32.{f0, f1}
 use Rattle.float.specs.Number.{clampOf}
-use Rattle.float.proofs.Order.{as-T, le-trans, le-lt-trans, lt-le-trans, lt→le, le→not-lt, not-lt→le, no-nan-l, no-nan-r}
+use Rattle.float.proofs.Order.{as-T, le-lt-trans, lt-le-trans, not-lt→le, no-nan-l, no-nan-r}
 
 zero-number : isNan f0 ≡ false
 unfolding isNan ofBits

@@ -14,7 +14,7 @@ use lib.Ieee.Bits.{is-true, ofBits-fits}
 use lib.Ieee.Positive.{den, den-pos}
 use lib.Ieee.Scale.{finite}
 use borrow.Author.Tests.{ne-eqb}
-use Rattle.float.specs.F32.{_⊕_, _⊖_, _⊗_, _⊘_, f0, f1}
+use Rattle.float.specs.F32.{_⊖_, _⊗_, _⊘_, f0, f1}
 use Rattle.float.proofs.Order as order
 use Rattle.float.proofs.Units.{parts, sized, shape, few-units}
 use Rattle.float.proofs.Rounding.{no-con, dens-pos, neg-finite, neg-view}

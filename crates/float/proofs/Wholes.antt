@@ -1,13 +1,13 @@
 -- Whole numbers as f32: up to 2 ^ 24 each is held as it is, so that sums and products of them are the f32's own; and a number lies from its whole part to one more. Assumes nothing.
 use mathlib.Core.Path.{_≡_, refl, sym, ap, _∙_, subst}
 use Prim.Native.Nat.{ℕ, suc, _+_, _-_, _*_, _/_, _^_, _≤_, _<_, min}
-use native.Mathlib.Nat.{mul-pos, mul-one, le-of-eq, le-of-lt, lt-of-not-le, mul-le-mul-right, mul-lt-mul-of-pos-right, le-div-iff-mul-le, div-lt-iff-lt-mul}
+use native.Mathlib.Nat.{mul-pos, mul-one, le-of-lt, lt-of-not-le, mul-le-mul-right, mul-lt-mul-of-pos-right, le-div-iff-mul-le, div-lt-iff-lt-mul}
 use native.Mathlib.Decide.{decLe}
 use native.Mathlib.Omega.{arith}
 use mathlib.Core.Bool.{true, false}
 use lib.Dec.{T, lit<}
-use lib.IntN.{ℤ, pos, negsuc, negℤ}
-use lib.Ieee.{Float, nan, inf, fin, binary32, up, down, ofInt, ofBits, le, toSigned}
+use lib.IntN.{pos, negℤ}
+use lib.Ieee.{Float, nan, inf, fin, binary32, up, down, ofInt, le, toSigned}
 use lib.Ieee.Back.{round-whole}
 use lib.Ieee.Exact.{HasValue}
 use lib.Ieee.Fits.{down-pos}

@@ -1,5 +1,5 @@
 -- What the source takes from the language: the sign cleared, the clamp, the whole part. `finite` is lib.Ieee.Scale's.
-use mathlib.Core.Bool.{true, false, cond}
+use mathlib.Core.Bool.{false, cond}
 use lib.IntN.{ℤ, pos}
 use lib.Dec.{T}
 use lib.Ieee.{Float, nan, inf, fin, binary32, lt, neg, fits, ofInt, ofBits, toSigned}

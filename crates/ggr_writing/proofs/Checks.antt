@@ -1,15 +1,15 @@
 -- Laws of the checks before a list is written. Assumes nothing.
 use mathlib.Core.Path.{_≡_, refl, sym, ap, _∙_}
-use mathlib.Core.Bool.{Bool, true, false, true≢false, not, cond, _&&_}
-use mathlib.Core.List.{List, [], _∷_}
-use Prim.Native.Nat.{ℕ, zero, suc, _+_, _-_, _*_, _≤_, _<_}
+use mathlib.Core.Bool.{Bool, true, false, true≢false, not, _&&_}
+use mathlib.Core.List.{List, _∷_}
+use Prim.Native.Nat.{ℕ, suc, _+_, _-_, _*_, _≤_, _<_}
 use native.Mathlib.Numerals.{add-one}
 use native.Mathlib.Omega.{arith}
-use lib.Dec.{leb, eqb}
+use lib.Dec.{eqb}
 use lib.ListN.{length, drop, getD}
 use lib.Seq.{drop-cons}
 use lib.ListN.{drop-of-length-le}
-use lib.Ieee.{Float, nan, inf, lt, eq, ne}
+use lib.Ieee.{Float, nan, lt, eq, ne}
 use borrow.Author.Tests.{le-leb, lt-leb}
 use Rattle.float.specs.F32.{f0, f1}
 use Rattle.float.proofs.Flags.{all-four}

@@ -2,7 +2,7 @@
 use mathlib.Core.Path.{_≡_, refl}
 use mathlib.Core.List.{List, [], _∷_, _++_}
 use Prim.Native.Nat.{ℕ}
-use lib.Ieee.{Float, binary32, ofBits, add, div, round}
+use lib.Ieee.{ofBits, add, div, round}
 use Rattle.float.specs.F32.{f0, f1}
 use Rattle.numerals.specs.Written.{digits, plainDecimal, places, nine, inRange, signed, textOf}
 use Rattle.writing.specs.Printed.{decimalOf}

@@ -1,19 +1,17 @@
 -- The positions of a list that is written: each f32 lies within 1e6 of zero, and the half-way point of two neighbours lies between them. Assumes nothing.
 use mathlib.Core.Path.{_≡_, refl, sym, ap, _∙_, subst}
-use mathlib.Core.Logic.{inl, inr}
-use mathlib.Core.Bool.{Bool, true, false, true≢false, cond, not, _&&_}
+use mathlib.Core.Bool.{Bool, true, false, true≢false, not, _&&_}
 use mathlib.Core.List.{List, [], _∷_}
 use Prim.Native.Nat.{ℕ, zero, suc, _+_, _-_, _*_, _^_, _≤_, _<_}
-use native.Mathlib.Nat.{lt-irrefl, mul-one, le-trans, le-of-eq, lt-of-le-of-lt, lt-of-lt-of-le, mul-lt-mul-of-pos-right, le-of-suc-le-suc, not-suc-le-zero, mul-pos, zero-mul, one-mul}
+use native.Mathlib.Nat.{lt-irrefl, mul-one, le-of-eq, lt-of-le-of-lt, lt-of-lt-of-le, mul-lt-mul-of-pos-right, le-of-suc-le-suc, not-suc-le-zero, mul-pos, zero-mul, one-mul}
 use native.Mathlib.Numerals.{add-one}
 use native.Mathlib.Omega.{arith}
-use lib.Dec.{T, leb, lt→ltb, lit<, lit≤}
+use lib.Dec.{T, leb, lt→ltb, lit<}
 use lib.ListN.{length, getD}
 use lib.IntN.{ℤ}
-use lib.Pow.{pow-pos}
-use lib.Ieee.{Float, nan, inf, fin, binary32, up, down, lt, le, eq, neg, isNan, fits, ofBits}
+use lib.Ieee.{Float, nan, inf, fin, binary32, up, down, lt, le, neg, isNan, fits, ofBits}
 use lib.Ieee.Fits.{down-pos}
-use borrow.Author.Tests.{leb-true, lt-ltb}
+use borrow.Author.Tests.{leb-true}
 use Rattle.float.specs.F32.{_⊕_, _⊘_, f2}
 use Rattle.float.specs.Number.{top, Within}
 use Rattle.float.proofs.Flags.{both-l, both-r}

@@ -1,19 +1,17 @@
 -- What the lines and words of a text are, of which its parts are known: texts of numbers with a space after each, lines that end with LF. Assumes nothing.
-use mathlib.Core.Path.{_≡_, refl, sym, ap, _∙_, subst}
-use mathlib.Core.Bool.{Bool, true, false, cond, not, _&&_, _||_, and-false}
-use mathlib.Core.List.{List, [], _∷_, _++_, append-assoc}
+use mathlib.Core.Path.{_≡_, refl, ap, _∙_}
+use mathlib.Core.Bool.{Bool, true, false, cond, not, _&&_, and-false}
+use mathlib.Core.List.{List, [], _∷_, _++_}
 use Prim.Native.Nat.{ℕ, zero, suc, _+_, _-_, _*_, _/_, _%_, _^_, _≤_, _<_}
-use native.Mathlib.Nat.{lt-irrefl, div-lt-iff-lt-mul, pow-suc, lt-of-lt-of-le, le-of-eq, div-add-mod'}
+use native.Mathlib.Nat.{lt-irrefl, div-lt-iff-lt-mul, pow-suc, lt-of-lt-of-le, le-of-eq}
 use native.Mathlib.Omega.{arith}
-use lib.Dec.{leb, ltb, eqb, lit<, lit≤}
+use lib.Dec.{ltb, eqb, lit<, lit≤}
 use Rattle.float.proofs.Flags.{both-l}
 use lib.ListN.{length, length-append}
-use borrow.Author.Tests.{le-leb, lt-leb, ne-eqb, lt-ltb, ltb-true, ltb-false}
-use lib.Ieee.{Float}
+use borrow.Author.Tests.{le-leb, lt-leb, ne-eqb, lt-ltb, ltb-true}
 use Rattle.decimal.specs.Decimal.{isDigit, valueAfter}
 use Rattle.decimal.proofs.Parts.{value-split, digit, no-digit}
-use Rattle.rows.specs.declared.digits.Digits.{Digits}
-use Rattle.rows.specs.declared.digits.Digits.the-variants.{Bad, Is}
+use Rattle.rows.specs.declared.digits.Digits.the-variants.{Is}
 use Rattle.rows.specs.Digits.{digitsOf, digitsWith}
 use Rattle.text.specs.Text.{every, ascii, lines, atLf, onFirst, white, inWord, words}
 use Rattle.text.proofs.Bytes.{every-both}

@@ -1,18 +1,16 @@
 -- What was written is read, and gives the segments written, bit for bit. Assumes nothing.
-use mathlib.Core.Path.{_≡_, refl, sym, ap, _∙_, subst}
-use mathlib.Core.Bool.{Bool, true, false, true≢false, cond, not, _&&_}
-use mathlib.Core.List.{List, [], _∷_, _++_, append-assoc}
+use mathlib.Core.Path.{_≡_, refl, ap, _∙_}
+use mathlib.Core.Bool.{Bool, true, false, cond, _&&_}
+use mathlib.Core.List.{List, [], _∷_, _++_}
 use Prim.Native.Nat.{ℕ, zero, suc, _+_, _-_, _*_, _≤_, _<_}
 use native.Mathlib.Nat.{zero-add}
-use native.Mathlib.Numerals.{add-one}
 use native.Mathlib.Omega.{arith}
-use lib.Dec.{T, leb, eqb}
-use lib.ListN.{length, take, drop, getD}
-use lib.Seq.{take-at}
-use lib.Ieee.{Float, nan, inf, binary32, fits, le, lt, eq, isNan}
+use lib.Dec.{T, leb}
+use lib.ListN.{length, getD}
+use lib.Ieee.{Float, nan, inf, binary32, fits, le, eq}
 use lib.Ieee.Fits.{div-fits}
 use borrow.Author.Needs.{needs}
-use borrow.Author.Tests.{le-leb, leb-true}
+use borrow.Author.Tests.{le-leb}
 use Rattle.refusals.specs.Refusals.{torn, tooManySegments, notAText, notFinite}
 use Rattle.refusals.specs.Limits.{mostSegments, mostText}
 use Rattle.float.specs.F32.{_⊕_, _⊘_, f0, f1, f2}
@@ -20,25 +18,22 @@ use Rattle.float.proofs.Flags.{both-l, both-r}
 use Rattle.float.proofs.Order as order
 use Rattle.blend.specs.declared.Rgba.{Rgba}
 use Rattle.stops.specs.Stops.{posAt, colourAt, stopAt, finiteRgba}
-use Rattle.stops.specs.Lent.{Change, change}
 use Rattle.gradient.specs.declared.gimp.Segment.{Segment}
 use Rattle.text.specs.Text.{every, ascii, unmark, lines, same, starts}
 use Rattle.text.proofs.Bytes.{every-both}
 use Rattle.rows.specs.declared.digits.Digits.{Digits}
-use Rattle.rows.specs.declared.digits.Digits.the-variants.{Is}
 use Rattle.segment.specs.declared.SegmentRead.{SegmentRead}
 use Rattle.segment.specs.declared.SegmentRead.the-variants.{Valid, Fault}
 use Rattle.segment.specs.Line.{segmentOnLine}
-use Rattle.segment.specs.Store.{Store}
-use Rattle.header.specs.Head.{Head, counts, fails, orEmpty, textLines, fromCount, counted, fromThird, fromSecond, fromLines, headOf, title, nameTag}
-use Rattle.ggr.specs.File.{FileRead, found, refused, joins, joinedTo, before, addSegment, segmentLines, fromHead, fitText, fileOf}
+use Rattle.header.specs.Head.{counts, fails, orEmpty, textLines, fromCount, counted, fromThird, fromSecond, fromLines, headOf, title, nameTag}
+use Rattle.ggr.specs.File.{found, refused, joins, joinedTo, before, addSegment, segmentLines, fromHead, fitText, fileOf}
 use Rattle.numerals.specs.Written.{writable}
 use Rattle.writing.specs.Printed.{countText}
-use Rattle.ggr_writing.specs.File.{segmentBetween, segmentsFrom, segmentsOf, segmentText, segmentsText, fileText, heading, listName, rises, writableColour, writableSegment, writableFrom, canWrite}
-use Rattle.ggr_writing.proofs.Parts.{Shown, shown-both, shown-ascii, lines-line, count-read, count-shown}
-use Rattle.ggr_writing.proofs.Row.{Single, lineOf, line-is, line-shown, line-read, linear, sound-colours}
+use Rattle.ggr_writing.specs.File.{segmentBetween, segmentsFrom, segmentsOf, segmentsText, fileText, heading, listName, rises, writableColour, writableSegment, writableFrom, canWrite}
+use Rattle.ggr_writing.proofs.Parts.{Shown, shown-ascii, lines-line, count-read, count-shown}
+use Rattle.ggr_writing.proofs.Row.{Single, lineOf, line-is, line-shown, line-read, sound-colours}
 use Rattle.ggr_writing.proofs.Orders.{writable-number, writable-within, rises-at, mid-high, mid-low}
-use Rattle.ggr_writing.proofs.Final.{length-segments, length-file, shaped-few}
+use Rattle.ggr_writing.proofs.Final.{length-segments, length-file}
 
 -- ---- one segment line, and those after it
 step : (fg bg : Rgba) (n line : ℕ) (end : Float) (l : List ℕ) (ls : List (List ℕ)) (g : Segment) (gs : List Segment) → segmentOnLine fg bg l ≡ Valid g → joins end g ≡ true

@@ -1,13 +1,11 @@
 -- What a segment's line is read as: the segment. Assumes nothing.
-use mathlib.Core.Path.{_≡_, refl, sym, ap, _∙_, subst}
-use mathlib.Core.Bool.{Bool, true, false, cond, not, _&&_}
+use mathlib.Core.Path.{_≡_, refl, sym, ap, _∙_}
+use mathlib.Core.Bool.{true, _&&_}
 use mathlib.Core.List.{List, [], _∷_, _++_, append-assoc}
-use Prim.Native.Nat.{ℕ, zero, suc, _+_, _≤_, _<_}
+use Prim.Native.Nat.{ℕ, _+_}
 use native.Mathlib.Omega.{arith}
-use lib.Dec.{T, eqb, leb}
-use lib.ListN.{length, getD}
-use lib.IntN.{ℤ, pos}
-use lib.Ieee.{Float, nan, fin, binary32, fits, ofBits, toSigned}
+use lib.Dec.{T}
+use lib.Ieee.{Float, binary32, fits, ofBits, toSigned}
 use lib.Ieee.Bits.{ofBits-fits}
 use Rattle.float.specs.F32.{f0}
 use Rattle.float.proofs.Flags.{both-l, both-r, parts4}
@@ -15,16 +13,15 @@ use Rattle.blend.specs.declared.Rgba.{Rgba}
 use Rattle.decimal.specs.declared.Token.{Token}
 use Rattle.decimal.specs.declared.Token.the-variants.{Number}
 use Rattle.decimal.specs.Decimal.{readOf}
-use Rattle.rows.specs.Rows.{Numbers, all, none, addNumber, numbers}
+use Rattle.rows.specs.Rows.{all, addNumber, numbers}
 use Rattle.text.specs.Text.{words, white, inWord, onFirst}
 use Rattle.gradient.specs.declared.gimp.Segment.{Segment}
-use Rattle.gradient.specs.Gimp.{carried, carriedOf}
-use Rattle.segment.specs.declared.SegmentRead.{SegmentRead}
-use Rattle.segment.specs.declared.SegmentRead.the-variants.{Valid, Fault}
+use Rattle.gradient.specs.Gimp.{carried}
+use Rattle.segment.specs.declared.SegmentRead.the-variants.{Valid}
 use Rattle.segment.specs.Line.{cut, codeOf, validCodes, endColour, judge, build, fromNumbers, segmentOnLine}
 use Rattle.numerals.specs.Written.{writable, signed, textOf}
 use Rattle.numerals.proofs.Trip.{trip}
-use Rattle.numerals.proofs.Marks.{Marks, text-marks, text-some}
+use Rattle.numerals.proofs.Marks.{text-marks, text-some}
 use Rattle.ggr_writing.specs.File.{spacedNumber, spacedColour, segmentText, writableColour, writableSegment}
 use Rattle.ggr_writing.proofs.Parts.{Shown, shown-both, shown-marks, words-word}
 

@@ -1,15 +1,15 @@
 -- What is known of a written file beyond what `write` ensures: the laws to cite. Each is of any results that the contracts allow. Assumes nothing.
-use mathlib.Core.Path.{_≡_, refl, sym, ap, _∙_, subst}
+use mathlib.Core.Path.{_≡_, refl, sym, ap, _∙_}
 use mathlib.Core.Bool.{Bool, true, false, cond, _&&_}
-use mathlib.Core.List.{List, _++_}
-use Prim.Native.Nat.{ℕ, _+_, _-_, _*_, _≤_, _<_}
+use mathlib.Core.List.{List}
+use Prim.Native.Nat.{ℕ, _-_, _*_, _≤_}
 use native.Mathlib.Omega.{arith}
 use lib.Dec.{leb, eqb}
 use lib.ListN.{length, take, drop}
 use lib.Seq.{take-at}
 use lib.Ieee.{Float, inf}
 use borrow.Author.Tests.{leb-true, le-leb}
-use Rattle.float.proofs.Flags.{both-l, both-r}
+use Rattle.float.proofs.Flags.{both-l}
 use Rattle.refusals.specs.Refusals.{misshapen, falling, noRoom, unwritable}
 use Rattle.blend.specs.declared.Rgba.{Rgba}
 use Rattle.stops.specs.Stops.{finiteRgba}
@@ -20,7 +20,7 @@ use Rattle.ggr.specs.declared.Answer as ggr-answer
 use Rattle.ggr.specs.declared.Answer.the-variants.{Read}
 use Rattle.ggr_writing.specs.declared.WriteAnswer.{WriteAnswer}
 use Rattle.ggr_writing.specs.declared.WriteAnswer.the-variants.{Written, Refused}
-use Rattle.ggr_writing.specs.File.{segmentsOf, fileText, shapedList, rises, canWrite, FileWritten, text, refused, cleared, withRoom, fileWrittenOf, writeAnswerOf, numberOfWriteAnswer, leftIn, enoughBytes, Writes}
+use Rattle.ggr_writing.specs.File.{segmentsOf, fileText, shapedList, rises, canWrite, FileWritten, text, refused, cleared, withRoom, fileWrittenOf, writeAnswerOf, leftIn, enoughBytes, Writes}
 use Rattle.ggr_writing.proofs.Final.{length-segments, length-file, shaped-few}
 use Rattle.ggr_writing.proofs.ReadBack.{Singles, file-read}
 

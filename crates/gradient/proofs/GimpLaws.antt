@@ -19,7 +19,7 @@ use Rattle.blend.specs.Finite.{allFinite}
 use Rattle.blend.specs.declared.Rgba.{Rgba}
 use Rattle.stops.specs.Stops.{colourAt}
 use Rattle.stops.specs.declared.Checked.the-variants.{Fine, Refused}
-use Rattle.gradient.specs.Gimp.{segments, leftAt, middleAt, rightAt, blendingAt, colouringAt, stepCode, sinusoidalCode, increasingCode, decreasingCode, risingCode, fallingCode, inOrder, carried, carriedAt, allCarried, gimpShaped, gimpCheck, segmentFound, along, linearFactor, increasing, decreasing, bent, unwaved, waved, isHued, factorOf, turned, hued, blended, gimpSegment, segmentColour, offDomain, gimpColour}
+use Rattle.gradient.specs.Gimp.{segments, leftAt, middleAt, rightAt, blendingAt, colouringAt, stepCode, sinusoidalCode, increasingCode, decreasingCode, fallingCode, carriedAt, allCarried, gimpShaped, gimpCheck, segmentFound, along, linearFactor, increasing, decreasing, bent, unwaved, waved, isHued, factorOf, turned, hued, blended, gimpSegment, segmentColour, offDomain, gimpColour}
 use Rattle.gradient.specs.declared.gimp.Segment.{Segment}
 
 -- ---- a code past the end

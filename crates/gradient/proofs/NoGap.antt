@@ -10,7 +10,7 @@ use lib.Dec.{T, ltb}
 use lib.Ieee.{Float, le, lt, eq}
 use lib.Ieee.Bits.{is-true}
 use borrow.Author.Tests.{ltb-true, ltb-false}
-use Rattle.float.proofs.Order.{le-trans, le-lt-trans, lt-le-trans, lt→le, le→not-lt, as-T, eq→le, eq→ge}
+use Rattle.float.proofs.Order.{le-trans, lt→le, le→not-lt, as-T, eq→le, eq→ge}
 use Rattle.float.specs.F32.{f0, f1}
 use Rattle.gradient.specs.Gimp.{segments, leftAt, rightAt, search, segmentFound}
 use Rattle.gradient.specs.Joined.{Joined, Inside}

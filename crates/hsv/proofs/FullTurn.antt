@@ -1,17 +1,17 @@
 -- Equal hues go the full turn, both ways. Assumes nothing.
-use mathlib.Core.Path.{_≡_, refl, sym, _∙_, ap}
-use mathlib.Core.Bool.{Bool, true, false, not, cond, _&&_}
+use mathlib.Core.Path.{_≡_, refl}
+use mathlib.Core.Bool.{Bool, true, false, not, cond}
 use Prim.Native.Nat.{ℕ, _-_, _*_}
 use native.Mathlib.Omega.{arith}
-use lib.Dec.{T, ltb}
+use lib.Dec.{T}
 use lib.IntN.{ℤ}
 use lib.Ieee.{Float, nan, inf, fin, binary32, up, down, round, sum, add, sub, neg, lt, ofBits}
 use lib.Ieee.Scale.{finite}
 use borrow.Author.Tests.{le-ltb}
-use Rattle.float.specs.F32.{_⊕_, _⊖_, _⊗_, f0}
+use Rattle.float.specs.F32.{_⊕_, _⊖_, _⊗_}
 use Rattle.float.proofs.Order.{lt-irrefl}
 use Rattle.float.proofs.Finite.{round-zero}
-use Rattle.hsv.specs.Circle.{turn, way, upHue, downHue}
+use Rattle.hsv.specs.Circle.{turn, way}
 use Rattle.hsv.proofs.SignedSums.{o, dens}
 
 -- a number less itself

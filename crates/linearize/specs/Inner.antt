@@ -1,13 +1,13 @@
 -- What the functions within promise each other.
 use mathlib.Core.Path.{_≡_}
 use mathlib.Core.List.{List}
-use Prim.Native.Nat.{ℕ, _≤_, _<_}
-use lib.ListN.{length, getD, drop}
+use Prim.Native.Nat.{ℕ, _≤_}
+use lib.ListN.{getD, drop}
 use lib.Ieee.{Float}
 use Rattle.stops.specs.Lent.{Ramp, Change, Lent, old}
 use Rattle.gradient.specs.Ramp.{colourOf}
 use Rattle.difference.specs.Difference.{exceeds}
-use Rattle.sampling.specs.Constants.{cells, rowLength, recordLength}
+use Rattle.sampling.specs.Constants.{recordLength}
 use Rattle.sampling.specs.Midpoints.{Gradient, Far}
 use Rattle.float.specs.F32.{f0}
 use Rattle.sampling.specs.Inner.{Coloured}

@@ -19,7 +19,6 @@ ghost use Rattle.sampling.specs.Lent.{lentHeld};
 ghost use Rattle.linearize.specs.Lent.{lentOutput};
 ghost use Rattle.linearize.specs.Promises.{Thins, Flattens};
 
-mod following;
 mod kept;
 mod listing;
 

@@ -1,7 +1,5 @@
 // Thinning: the points of a record one after the other, each kept or not, and the stops written out.
 use crate::Listed;
-use crate::following;
-use crate::following::follow;
 use places::RowPlace;
 use places::next_place;
 use places::point_at;
@@ -10,6 +8,8 @@ use sampling::cells::evaluate;
 use slices::zero_from;
 use stops::Kind;
 use stops::Window;
+use stops::segments;
+use stops::segments::follow;
 use thinning::Progress;
 use thinning::emit;
 use thinning::room_of;
@@ -23,11 +23,11 @@ ghost use Rattle.places.specs.Places.{Ready};
 ghost use Rattle.thinning.specs.Kept.{writtenOf};
 ghost use Rattle.linearize.specs.Desk.{listedOf};
 ghost use Rattle.stops.specs.declared.Checked.the-variants.{Fine};
-ghost use Rattle.linearize.specs.Inner.{Started, points, MakesList, ThinsAll, ThinsRest};
+ghost use Rattle.linearize.specs.Inner.{windowRoom, Started, points, MakesList, ThinsAll, ThinsRest};
 ghost use Rattle.linearize.specs.Lent.{lentOutput};
 ghost use Rattle.stops.specs.Lent.{rampIn, lentRamp, old, new};
 
-// Thins the points after the first, from place to place; the last is always kept. The table follows the points: it has the
+// Thins the points after the first, from place to place; the last is always kept. The table goes with the points: it has the
 // segments of the pairs from that of one of the last points on, so that each is worked out once or, at its start, twice.
 fn thin_points(
     kind: Kind,
@@ -62,7 +62,7 @@ fn thin_points(
         0,
         &table[..0],
     );
-    let mut w = follow(channels, n, none, x.pair, table);
+    let mut w = follow(channels, n, none, 0, x.pair, table);
     while place.row < Sampler::CELLS {
         let after = next_place(counts, place);
         let next = evaluate(
@@ -75,7 +75,7 @@ fn thin_points(
             w.base,
             &table[..w.count],
         );
-        w = follow(channels, n, w, next.pair, table);
+        w = follow(channels, n, w, x.pair, next.pair, table);
         s = step(cutoff, room, s, x, next, out_positions, out_channels);
         let refusal = s.refusal;
         if refusal != 0 {
@@ -188,6 +188,16 @@ fn thin_each(
     finish(s, out_positions, out_channels)
 }
 
+// The room for segments that a ramp of a kind needs: only Catmull-Rom ramps have any.
+fn room_for(kind: Kind) -> usize
+    ensures { λ r. ⌜ r ≤ windowRoom ⌝ }
+{
+    if segments::is_catmull_rom(kind) {
+        return segments::AHEAD;
+    }
+    0
+}
+
 // Thins a record's points, and writes the stops. A Catmull-Rom ramp has a window of segments.
 pub(crate) fn thin_record(
     kind: Kind,
@@ -204,8 +214,8 @@ pub(crate) fn thin_record(
     requires { ⌜ Ready (now rows) (now counts) × (checkOf (rampIn kind positions channels codes) ≡ Fine) ⌝ }
     ensures { λ r. ⌜ MakesList (lentRamp kind positions channels codes) cutoff (points rows counts max) (lentOutput «out_positions» «out_channels») r ⌝ }
 {
-    let mut table = [[[0.0f32; 4]; 4]; following::ROOM];
-    let room = following::room_for(kind);
+    let mut table = [[[0.0f32; 4]; 4]; segments::AHEAD];
+    let room = room_for(kind);
     thin_each(
         kind,
         positions,

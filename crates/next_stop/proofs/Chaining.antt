@@ -1,7 +1,7 @@
 -- Steps one after the other: they tell the points kept, up to the first that is refused. Assumes nothing.
 use mathlib.Core.Path.{_≡_, refl, sym, ap, ap₂, _∙_, subst}
-use mathlib.Core.Bool.{Bool, true, false, cond, _&&_}
-use mathlib.Core.List.{List, [], _∷_, map}
+use mathlib.Core.Bool.{Bool, true, false}
+use mathlib.Core.List.{List, [], _∷_}
 use Prim.Native.Nat.{ℕ, zero, suc, _+_, _-_, _*_, _≤_, _<_}
 use native.Mathlib.Omega.{arith}
 use borrow.Author.Tests.{lt-ltb, ltb-true, ltb-false}
@@ -17,14 +17,14 @@ use Rattle.sampling.specs.Lent.{Held}
 use Rattle.sampling.specs.Midpoints.{Gradient, Far}
 use Rattle.sampling.specs.Sampling.{farOf}
 use Rattle.records.specs.Fitness.{thinCheck}
-use Rattle.thinning.specs.Kept.{stays, weighs, thinned, weighed, stopRefusal, firstRefusal}
+use Rattle.thinning.specs.Kept.{stays, thinned, weighed, stopRefusal, firstRefusal}
 use Rattle.thinning.proofs.Walks.{passed, passed-weighed, kept, kept-weighed}
 use Rattle.places.specs.Places.{listOf, nextPlace, pointAt, pointsBefore, InRecord, Ready}
 use Rattle.places.specs.declared.RowPlace.{RowPlace}
 use Rattle.places.proofs.Following.{point-is, before-next, next-within, more-follow, before-end}
 use Rattle.linearize.proofs.Checks.{ready}
-use Rattle.next_stop.specs.First.{First, later, firstKept, placesOn, pointsAfter}
-use Rattle.next_stop.specs.Step.{isWithin, placedCheck, stopWith, listPlaceOf, handedBy, ended, Next, laterNext, firstAfter, handedAt, handedFrom, faultOf, handedOf, HandsOut}
+use Rattle.next_stop.specs.First.{First, firstKept, placesOn, pointsAfter}
+use Rattle.next_stop.specs.Step.{isWithin, placedCheck, stopWith, listPlaceOf, handedBy, ended, Next, laterNext, firstAfter, handedAt, handedFrom, handedOf, HandsOut}
 use Rattle.next_stop.specs.Chain.{Chained, toldBy, spentBy, thenNothing}
 use Rattle.next_stop.specs.declared.ListPlace.{ListPlace}
 use Rattle.next_stop.specs.declared.ListPlace.the-variants as place

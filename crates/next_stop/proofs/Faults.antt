@@ -10,14 +10,14 @@ use lib.ListN.{length, take, drop}
 use lib.Seq.{sets, sets-eq, take-at}
 use lib.Ieee.{Float, lt}
 use lib.Ieee.Scale.{finite}
-use Rattle.blend.specs.Channels.{channelsOf, coloursOf}
+use Rattle.blend.specs.Channels.{channelsOf, coloursOf, positionsIn, channelsIn}
 use Rattle.blend.specs.declared.Rgba.{Rgba}
 use Rattle.blend.specs.declared.Stop.{Stop}
 use Rattle.stops.specs.Stops.{finiteRgba}
 use Rattle.sampling.specs.Midpoints.{Gradient}
 use Rattle.thinning.specs.Kept.{stopRefusal, firstRefusal, refusalFrom}
 use Rattle.next_stop.specs.Step.{stopWith}
-use Rattle.next_stop.specs.Chain.{toldStops, positionsIn, channelsIn}
+use Rattle.next_stop.specs.Chain.{toldStops}
 use Rattle.next_stop.specs.declared.Told.{Told}
 use Rattle.next_stop.specs.declared.Told.the-variants as told
 use Rattle.next_stop.proofs.Chaining.{toldFrom, faultIn}
@@ -98,6 +98,7 @@ module _ (g : Gradient) where
 
   -- the list's positions and channels
   pub positions-are : (ks : List Float) → positionsIn (stopsAt ks) ≡ ks
+  unfolding positionsIn
   positions-are [] = refl
   positions-are (t ∷ ks) = ap (λ (l : List Float). t ∷ l) (positions-are ks)
 

@@ -1,14 +1,14 @@
 -- What a step hands out, from what the functions within promise. Assumes nothing.
 use mathlib.Core.Path.{_≡_, refl, sym, ap, _∙_}
-use mathlib.Core.Bool.{Bool, true, false, cond, _&&_}
+use mathlib.Core.Bool.{Bool, true, false, cond}
 use mathlib.Core.List.{List}
 use Prim.Native.Nat.{ℕ, zero, suc, _+_, _*_, _≤_, _<_}
 use native.Mathlib.Omega.{arith}
-use borrow.Author.Tests.{lt-ltb, le-ltb, ltb-true, ltb-false, eq-eqb, ne-eqb}
+use borrow.Author.Tests.{lt-ltb, le-ltb, ltb-true, eq-eqb, ne-eqb}
 use lib.Dec.{ltb, eqb}
 use lib.ListN.{getD}
 use lib.Ieee.{Float}
-use Rattle.refusals.specs.Refusals.{badRecord, otherThreshold}
+use Rattle.refusals.specs.Refusals.{badRecord}
 use Rattle.float.proofs.Flags.{both-l, both-r}
 use Rattle.blend.specs.declared.Stop.{Stop}
 use Rattle.stops.specs.declared.Checked.{Checked}
@@ -24,7 +24,7 @@ use Rattle.records.specs.Fitness.{thinCheck}
 use Rattle.thinning.specs.Kept.{stopRefusal}
 use Rattle.places.specs.Places.{pointAt, InRecord}
 use Rattle.places.specs.declared.RowPlace.{RowPlace}
-use Rattle.next_stop.specs.Step.{isWithin, placedCheck, numberOfTold, stopWith, listPlaceOf, handedBy, ended, refusedAt, Next, next, firstNext, laterNext, positionOf, faultOf, handedAt, handedFrom, faultFrom, stepCheck, handedOf, handedNumber, HandsOut}
+use Rattle.next_stop.specs.Step.{isWithin, placedCheck, numberOfTold, stopWith, listPlaceOf, handedBy, ended, refusedAt, Next, next, firstNext, handedAt, handedFrom, faultFrom, stepCheck, handedOf, handedNumber, HandsOut}
 use Rattle.next_stop.specs.Inner.{FindsNext}
 use Rattle.next_stop.specs.declared.Found.{Found}
 use Rattle.next_stop.specs.declared.ListPlace.{ListPlace}

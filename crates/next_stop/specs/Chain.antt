@@ -5,7 +5,7 @@ use mathlib.Core.List.{List, [], _∷_, _++_, map}
 use Prim.Native.Nat.{ℕ, zero, suc, _+_, _*_, _≤_, _<_}
 use lib.ListN.{length, take}
 use lib.Ieee.{Float}
-use Rattle.blend.specs.Channels.{channelsOf}
+use Rattle.blend.specs.Channels.{positionsIn, channelsIn}
 use Rattle.blend.specs.declared.Stop.{Stop}
 use Rattle.stops.specs.Lent.{Ramp}
 use Rattle.sampling.specs.Lent.{Held}
@@ -34,16 +34,9 @@ thenNothing ts zero = []
 thenNothing [] (suc n) = told.Ended ∷ thenNothing [] n
 thenNothing (t ∷ ts) (suc n) = t ∷ thenNothing ts n
 
--- stops as they are told, and as a list has them: their positions, and their channels
+-- stops as they are told
 abbrev pub toldStops : List Stop → List Told
 toldStops = map told.Stop
-
-abbrev pub positionsIn : List Stop → List Float
-positionsIn = map (λ (s : Stop). s .position)
-
-unfoldable pub channelsIn : List Stop → List Float
-channelsIn [] = []
-channelsIn (s ∷ ss) = channelsOf (s .colour) ++ channelsIn ss
 
 -- the steps hs have told the n stops that `out` holds, as far as they went, and then nothing more; with all of them told they have spent e
 pub record ListTold (n e : ℕ) (out : Output) (hs : List Handed) : Type 0 where

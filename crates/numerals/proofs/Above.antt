@@ -1,21 +1,21 @@
 -- A float above 0: what its bits say of what is written. Assumes nothing.
 use mathlib.Core.Path.{_≡_, refl, sym, ap, _∙_, subst}
 use mathlib.Core.Bool.{Bool, true, false, cond, not, _&&_}
-use mathlib.Core.List.{List, []}
+use mathlib.Core.List.{[]}
 use Prim.Native.Nat.{ℕ, zero, suc, _+_, _-_, _*_, _/_, _%_, _^_, _≤_, _<_}
-use native.Mathlib.Nat.{le-trans, le-of-eq, mul-one, mul-assoc, mul-comm, mul-left-comm, mul-right-comm, mul-le-mul-right, lt-of-not-le, not-le-of-lt, le-of-mul-le-mul-right, eq-of-mul-eq-mul-right}
+use native.Mathlib.Nat.{le-trans, le-of-eq, mul-one, mul-assoc, mul-right-comm, mul-le-mul-right, lt-of-not-le, not-le-of-lt, le-of-mul-le-mul-right, eq-of-mul-eq-mul-right}
 use native.Mathlib.Omega.{arith}
-use lib.Dec.{T, leb, ltb, eqb, leb→le, nleb→lt}
-use lib.IntN.{ℤ, pos, negsuc}
+use lib.Dec.{T, leb, eqb, leb→le, nleb→lt}
+use lib.IntN.{ℤ}
 use lib.Pow.{pow-add, pow-pos}
 use lib.Ieee.{Float, nan, inf, fin, binary32, up, down, lt, neg, isNan, fits, toBits, ofBits}
 use lib.Ieee.Fits.{down-pos}
-use lib.Ieee.Nearest.{closest, closest-same}
+use lib.Ieee.Nearest.{closest-same}
 use lib.Ieee.Positive.{above}
 use borrow.Author.Tests.{ltb-true, ltb-false, le-leb, lt-leb}
 use Rattle.numerals.specs.Written.{signed, nine, places, plainDecimal, inRange, textOf}
 use Rattle.numerals.proofs.Ranged.{Ranged, ranged}
-use Rattle.numerals.specs.Steps.{withSign, Ranging}
+use Rattle.numerals.specs.Steps.{withSign}
 
 -- ---- the text, inside the range and out of it
 text-out : (s : Bool) (a : ℕ) (e : ℤ) → inRange (suc a * up e) (down e) ≡ false → textOf (withSign s (fin false (suc a) e)) ≡ []

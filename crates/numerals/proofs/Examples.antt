@@ -1,6 +1,6 @@
 -- Numbers as text, computed. Assumes nothing.
 use mathlib.Core.Path.{_≡_, refl}
-use mathlib.Core.List.{List, [], _∷_}
+use mathlib.Core.List.{[], _∷_}
 use lib.Ieee.{binary32, ofBits}
 use Rattle.numerals.specs.Written.{digits, plainDecimal, places, nine, inRange, signed, textOf}
 

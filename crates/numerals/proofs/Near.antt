@@ -1,11 +1,11 @@
 -- A fraction within a quarter of a float's spacing rounds to that float. Assumes nothing.
-use mathlib.Core.Path.{_≡_, refl, sym, ap, _∙_, subst}
-use mathlib.Core.Logic.{inl, inr, ⊎-elim}
+use mathlib.Core.Path.{_≡_, sym, ap, _∙_, subst}
+use mathlib.Core.Logic.{inl, inr}
 use mathlib.Core.Bool.{Bool, true, false, cond, not}
-use Prim.Native.Nat.{ℕ, zero, suc, _+_, _-_, _*_, _/_, _%_, _^_, _≤_, _<_, compare}
+use Prim.Native.Nat.{ℕ, suc, _+_, _-_, _*_, _/_, _%_, _^_, _≤_, _<_, compare}
 use native.Mathlib.Nat.{div-add-mod', mod-lt, mul-left-comm, le-antisymm, le-trans, le-of-eq, mul-pos, mul-comm, mul-assoc, le-div-iff-mul-le, div-lt-iff-lt-mul, add-mul, mul-sub, mul-right-comm, mul-le-mul-right, lt-of-lt-of-le, eq-or-lt-of-le, sub-le}
 use native.Mathlib.Omega.{arith}
-use lib.Dec.{T, leb, leb→le, nleb→lt, lit<, lit≤}
+use lib.Dec.{T, leb, leb→le, nleb→lt, lit<}
 use lib.Pow.{pow-add, pow-pos}
 use lib.Ieee.{binary32, nearest, round, toBits}
 use lib.Ieee.Nearest.{closest, closest-mono}

@@ -1,13 +1,12 @@
 -- Nine digits written are the nearest decimal of nine digits, a tie to the even one. Assumes nothing.
 use mathlib.Core.Path.{_≡_, refl, sym, ap, _∙_, subst}
-use mathlib.Core.Logic.{_⊎_, inl, inr}
 use mathlib.Core.Bool.{Bool, true, false, cond, not}
 use mathlib.Core.List.{List}
 use Prim.Native.Nat.{ℕ, zero, suc, _+_, _-_, _*_, _/_, _%_, _^_, _≤_, _<_, compare, Ordering, Ordering·lt, Ordering·eq, Ordering·gt}
-use native.Mathlib.Nat.{le-trans, le-of-eq, lt-of-lt-of-le, lt-of-le-of-lt, mul-comm, mul-assoc, mul-left-comm, mul-right-comm, mul-sub, add-mul, mul-one, one-mul, mul-pos, mul-le-mul-right, mul-le-mul-left, mul-lt-mul-of-pos-right, mod-lt, div-add-mod', eq-of-mul-eq-mul-right}
+use native.Mathlib.Nat.{le-trans, le-of-eq, mul-comm, mul-assoc, mul-right-comm, mul-sub, add-mul, mul-one, one-mul, mul-pos, mul-le-mul-right, mul-le-mul-left, mul-lt-mul-of-pos-right, mod-lt, div-add-mod', eq-of-mul-eq-mul-right}
 use native.Mathlib.Omega.{arith}
 use lib.Arith.{lt-of-le-ne}
-use lib.Dec.{T, eqb, leb, ltb, eqb→eq, eqb-refl, leb→le, nleb→lt, lit<, lit≤}
+use lib.Dec.{T, eqb, leb, eqb→eq, eqb-refl, leb→le, nleb→lt, lit<, lit≤}
 use lib.Pow.{pow-add}
 use lib.Ieee.{nearest}
 use lib.Ieee.Nearest.{closest, closest-mono}

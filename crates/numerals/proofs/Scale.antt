@@ -1,11 +1,11 @@
 -- One turn of the loop that scales a number to nine digits. Assumes nothing.
 use mathlib.Core.Path.{_≡_, refl, sym, ap, _∙_, subst}
-use mathlib.Core.Bool.{Bool, true, false, cond}
+use mathlib.Core.Bool.{Bool, cond}
 use Prim.Native.Nat.{ℕ, zero, suc, _+_, _-_, _*_, _/_, _%_, _^_, _≤_, _<_, suc-le-suc, compare}
-use native.Mathlib.Nat.{le-trans, le-of-eq, lt-of-lt-of-le, lt-of-le-of-lt, mul-one, mul-comm, mul-assoc, mul-left-comm, mul-right-comm, mul-le-mul-left, mul-le-mul-right, mul-lt-mul-of-pos-right, div-lt-iff-lt-mul, le-div-iff-mul-le, mul-div-cancel, pow-suc, pow-le-pow-right, div-le-self, one-mul, le-of-suc-le-suc, le-of-lt, not-le-of-lt, lt-of-not-le}
+use native.Mathlib.Nat.{le-trans, le-of-eq, lt-of-lt-of-le, lt-of-le-of-lt, mul-one, mul-comm, mul-assoc, mul-le-mul-left, mul-le-mul-right, mul-lt-mul-of-pos-right, div-lt-iff-lt-mul, le-div-iff-mul-le, mul-div-cancel, pow-le-pow-right, div-le-self, one-mul, le-of-suc-le-suc, le-of-lt, not-le-of-lt, lt-of-not-le}
 use native.Mathlib.Omega.{arith}
 use lib.Ieee.Fits.{nearest-le}
-use lib.Dec.{leb, eqb, lit<, lit≤}
+use lib.Dec.{eqb, lit<}
 use lib.Pow.{pow-add, pow-pos, pow-mono, shl-exact}
 use lib.Ieee.Nearest.{closest, closest-same}
 use borrow.Author.Tests.{le-leb, lt-leb, ne-eqb}

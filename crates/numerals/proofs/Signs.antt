@@ -1,9 +1,9 @@
 -- A float below 0, above 0, neither: what is written of it. Assumes nothing.
 use mathlib.Core.Path.{_≡_, refl, sym, ap, _∙_, subst}
-use mathlib.Core.Bool.{Bool, true, false, not}
-use mathlib.Core.List.{List, [], _∷_}
+use mathlib.Core.Bool.{true, false, not}
+use mathlib.Core.List.{[], _∷_}
 use Prim.Native.Nat.{ℕ, zero, suc, _+_, _*_, _^_, _≤_, _<_}
-use native.Mathlib.Nat.{zero-mul, mul-one, mul-pos, zero-lt-suc}
+use native.Mathlib.Nat.{zero-mul, mul-pos, zero-lt-suc}
 use native.Mathlib.Omega.{arith}
 use lib.Dec.{T, ltb, lt→ltb, eqb→eq}
 use lib.IntN.{ℤ, pos}
@@ -12,7 +12,7 @@ use lib.Ieee.Fits.{up-pos}
 use lib.Ieee.Compare.{differs-from-itself, nan-differs}
 use lib.Ieee.Positive.{above}
 use borrow.Author.Tests.{ltb-true, ltb-false}
-use Rattle.numerals.specs.Written.{inRange, signed, writable, textOf}
+use Rattle.numerals.specs.Written.{signed, textOf}
 use Rattle.numerals.proofs.Trip.{power-one}
 use Rattle.numerals.specs.Steps.{withSign}
 

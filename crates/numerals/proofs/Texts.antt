@@ -1,17 +1,16 @@
 -- Digits written are digits, and the number that they make; so what is written in plain decimal has the form of a token. Assumes nothing.
-use mathlib.Core.Path.{_≡_, refl, sym, ap, _∙_, subst}
-use mathlib.Core.Bool.{Bool, true, false, _&&_}
-use mathlib.Core.List.{List, [], _∷_, _++_}
+use mathlib.Core.Path.{_≡_, refl, sym, ap, _∙_}
+use mathlib.Core.Bool.{Bool, true, false}
+use mathlib.Core.List.{List, _∷_, _++_}
 use Prim.Native.Nat.{ℕ, zero, suc, _+_, _-_, _*_, _/_, _%_, _^_, _≤_, _<_, max}
 use native.Mathlib.Nat.{le-max-left, le-max-right, max-le, le-of-eq, lt-of-lt-of-le, mul-one, zero-mul, zero-add, add-zero, mod-one, mul-assoc, add-mul, pow-succ', mod-eq-of-lt, div-add-mod', div-lt-iff-lt-mul}
 use native.Mathlib.Omega.{arith}
 use lib.Arith.{mod-mul}
-use lib.Dec.{lit<, lit≤}
+use lib.Dec.{lit<}
 use lib.ListN.{length, length-append}
 use lib.Pow.{pow-add}
-use borrow.Author.Tests.{le-leb}
 use Rattle.decimal.specs.Decimal.{areDigits, valueAfter}
-use Rattle.decimal.specs.Form.{Sign, none, minus, Rest, point, Form}
+use Rattle.decimal.specs.Form.{Sign, none, minus, point, Form}
 use Rattle.decimal.proofs.Parts.{value-split, digit}
 use Rattle.decimal.proofs.Scale.{ten-le}
 use Rattle.numerals.specs.Written.{digits, plainDecimal, signed}

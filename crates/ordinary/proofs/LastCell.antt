@@ -1,7 +1,7 @@
 -- The last cell of a domain has no midpoint past max, though its own end, min + (max - min), can lie past it by a unit.
 -- In units of 2 ^ -149, let max - min have 24 + k digits, and let v be twice 2 ^ k. Where max is 2 ^ 24 v or more in size, min and max are multiples of 2 ^ k, so that max - min is an f32 and the cell ends at max.
 -- Else the multiples of v near max are f32. With h the last of them up to max, the cell ends at h + 2 v at most, and starts at h - 254 v at most; so its right halves start at h - 126 v, h - 62 v, .., h at most. Assumes nothing.
-use mathlib.Core.Path.{_≡_, refl, sym, ap, _∙_, subst}
+use mathlib.Core.Path.{_≡_, sym, ap, _∙_, subst}
 use mathlib.Core.Bool.{true, false}
 use mathlib.Core.Logic.{_⊎_, inl, inr}
 use Prim.Native.Nat.{ℕ, suc, _+_, _-_, _*_, _/_, _^_, _≤_, _<_}

@@ -1,13 +1,11 @@
 -- The promise for ordinary ramps, and for wider classes, of the calls: of any results that the contracts of sampling, thinning and flattening allow. Assumes nothing.
 use mathlib.Core.Path.{_≡_, sym, ap, _∙_}
 use mathlib.Core.Bool.{true, _&&_}
-use mathlib.Core.List.{List}
 use mathlib.Core.Logic.{inl, inr}
 use Prim.Native.Nat.{ℕ, _+_, _-_, _≤_, _<_}
 use lib.Dec.{T}
 use lib.ListN.{length}
 use lib.Ieee.{Float, binary32, fits}
-use lib.Ieee.Scale.{finite}
 use Rattle.float.proofs.Flags.{both-r}
 use Rattle.refusals.specs.Refusals.{listFalling}
 use Rattle.stops.specs.Lent.{Ramp, change}

@@ -1,6 +1,6 @@
 -- The answers of `at` and `paint`, from what the check gave. Assumes nothing.
-use mathlib.Core.Path.{_≡_, refl, sym, _∙_, ap, fun-ext}
-use mathlib.Core.Bool.{true, false, true≢false}
+use mathlib.Core.Path.{_≡_, sym, _∙_, ap, fun-ext}
+use mathlib.Core.Bool.{true, false}
 use mathlib.Core.List.{List, _∷_, []}
 use Prim.Native.Nat.{ℕ, _-_, _*_, _≤_, _<_}
 use native.Mathlib.Omega.{arith}
@@ -12,17 +12,13 @@ use Rattle.refusals.specs.Refusals.{noRoom}
 use Rattle.float.specs.F32.{f0}
 use Rattle.slices.proofs.Stores.{sets-all}
 use Rattle.blend.specs.declared.Rgba.{Rgba}
-use Rattle.stops.specs.Place.{Rising}
-use Rattle.stops.specs.Pair.{colourIn}
-use Rattle.stops.specs.Near.{placeNear, pairOr, segmentFor, segmentIn}
 use Rattle.stops.specs.Segments.{isCatmullRom}
-use Rattle.stops.specs.declared.Kind.the-variants.{Linear, Smoothstep, Sharp, Basis, CatmullRom, Gimp}
-use Rattle.stops.specs.declared.Place.{Place}
+use Rattle.stops.specs.declared.Kind.the-variants.{CatmullRom}
 use Rattle.stops.specs.Lent.{Ramp}
 use Rattle.stops.specs.declared.Kind.{Kind}
 use Rattle.stops.specs.declared.Checked.{Checked}
 use Rattle.stops.specs.declared.Checked.the-variants as checked
-use Rattle.stops.proofs.Nearby.{near-same, segment-colour}
+use Rattle.stops.proofs.Nearby.{catmull}
 use Rattle.gradient.specs.Gimp.{gimpColour}
 use Rattle.gradient.specs.Ramp.{isGimp, checkOf, colourOf, anyColour}
 use Rattle.stops.specs.Answers.{onFine, numberOfChecked}
@@ -79,23 +75,6 @@ module _ (ramp : Ramp) where
           }
 
 -- ---- each kind's colours
-catmull : (kind : Kind) → isCatmullRom kind ≡ true → kind ≡ CatmullRom
-catmull Linear h = absurd (true≢false (sym h))
-catmull Smoothstep h = absurd (true≢false (sym h))
-catmull Sharp h = absurd (true≢false (sym h))
-catmull Basis h = absurd (true≢false (sym h))
-catmull CatmullRom h = refl
-catmull Gimp h = absurd (true≢false (sym h))
-
-module _ (kind : Kind) (ps cs : List Float) (two : 2 ≤ length ps) (rising : Rising ps) (t : Float) {c : Rgba} {w : Place} where
-  pub near-colour : (k : ℕ) → w ≡ placeNear ps t k → c ≡ colourIn kind ps cs t w → c ≡ stopColour kind ps cs t
-  near-colour k p e = e ∙ ap (λ (u : Place). colourIn kind ps cs t u) (p ∙ near-same ps two rising t k)
-
-pub kept-colour : (ps cs : List Float) (two : 2 ≤ length ps) (rising : Rising ps) (t : Float) (k : ℕ) {c : Rgba} {w : Place} {s : List (List Float)} {j : ℕ}
-    → w ≡ placeNear ps t k → j ≡ pairOr w k → s ≡ segmentFor cs (length ps) j → c ≡ segmentIn ps cs s t w → c ≡ stopColour CatmullRom ps cs t
-kept-colour ps cs two rising t k {w = w} {s = s} p q r e =
-    near-colour CatmullRom ps cs two rising t k p (e ∙ segment-colour ps cs t w k (r ∙ ap (λ (i : ℕ). segmentFor cs (length ps) i) q))
-
 module _ (ramp : Ramp) (ts out : List Float) where
   module _ (stops : isGimp (ramp .kind) ≡ false) where
     not-gimp : (t : Float) → stopColour (ramp .kind) (ramp .positions) (ramp .channels) t ≡ colourOf ramp t

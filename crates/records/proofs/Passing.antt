@@ -1,5 +1,5 @@
 -- The check of a thinning, one check after the other, and what a record that passes it has. Assumes nothing.
-use mathlib.Core.Path.{_≡_, refl, sym, ap, _∙_}
+use mathlib.Core.Path.{_≡_, _∙_}
 use mathlib.Core.Bool.{true}
 use Prim.Native.Nat.{ℕ}
 use lib.Ieee.{Float}

@@ -39,8 +39,7 @@ use Rattle.refresh.specs.RefreshDesk.{numberOfRefreshed, refreshCheck, r
 use Rattle.refresh.specs.AfterEdit.{Shaped, OneList, ByThreshold, Fresh, RefreshedThenThinned, FreshList, SameCell}
 use Rattle.editing.specs.declared.Edit.{Edit}
 use Rattle.refresh.specs.declared.Refreshed.{Refreshed}
-use Rattle.refresh.specs.declared.Refreshed.the-variants as refreshed
-use Rattle.refresh.proofs.EditChecks.{thin-fine, edited-sampling, same-marks}
+use Rattle.refresh.proofs.EditChecks.{thin-fine, edited-sampling}
 use Rattle.refresh.proofs.Agree.{row-at, count-at}
 use Rattle.refresh.proofs.Keeping.{kept-row, kept-count}
 use Rattle.refresh.proofs.ThenThinned.{by-check}

@@ -1,7 +1,7 @@
 -- The check of a refresh, and what a refresh that passes it may lean on. Assumes nothing.
 use mathlib.Core.Path.{_≡_, refl, sym, ap, _∙_}
 use mathlib.Core.List.{List}
-use Prim.Native.Nat.{ℕ, _+_, _*_, _≤_, _<_}
+use Prim.Native.Nat.{ℕ, _*_, _≤_, _<_}
 use native.Mathlib.Omega.{arith}
 use lib.ListN.{length, take}
 use lib.Ieee.{Float}
@@ -28,7 +28,7 @@ use Rattle.editing.specs.declared.Edit.{Edit}
 use Rattle.editing.specs.declared.copy.Copied.{Copied}
 use Rattle.editing.specs.declared.copy.Copied.the-variants as copied
 use Rattle.editing.proofs.Splices.{written-is}
-use Rattle.editing.proofs.Copying.{Room, copy-check, fits-are}
+use Rattle.editing.proofs.Copying.{copy-check, fits-are}
 use Rattle.editing.proofs.EditSound.{Sound, edit-sound}
 use Rattle.refresh.specs.RefreshDesk.{refreshCheck}
 

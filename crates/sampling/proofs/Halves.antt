@@ -12,21 +12,16 @@ use lib.Ieee.{Float}
 use Rattle.float.specs.F32.{half}
 use Rattle.blend.specs.Blend.{linear}
 use Rattle.blend.specs.declared.Rgba.{Rgba}
-use Rattle.stops.specs.Lent.{Ramp}
-use Rattle.gradient.specs.Ramp.{colourOf}
-use Rattle.stops.specs.Segments.{Table}
-use Rattle.sampling.specs.Inner.{PointAt, Between, HalvesTo}
-use Rattle.sampling.specs.declared.Point.{Point}
+use Rattle.sampling.specs.Inner.{HalvesTo}
 use Rattle.sampling.specs.declared.Halved.{Halved}
 use Rattle.sampling.specs.Midpoints.{Gradient, Far, midOf, keeps, halves, tries}
 use Rattle.slices.proofs.Stores.{sets-append}
 
--- the test on the colours in hand is the definition's
-pub keeps-is : (ramp : Ramp) (base : ℕ) (table : Table) (far : Far) (p q m : Point) (foretold : Rgba) (b r : Bool)
-    → Between ramp base table p q → PointAt (colourOf ramp) (midOf (p .t) (q .t)) m
-    → foretold ≡ linear (p .colour) (q .colour) half → r ≡ far (m .colour) foretold → r ≡ b → keeps (colourOf ramp) far (p .t) (q .t) ≡ b
+-- the test on the colours in hand, of the ends and of the midpoint t, is the definition's
+pub keeps-is : (g : Gradient) (far : Far) {t0 t1 t : Float} {a b c foretold : Rgba} {r yes : Bool} → a ≡ g t0 → b ≡ g t1 → t ≡ midOf t0 t1 → c ≡ g t
+    → foretold ≡ linear a b half → r ≡ far c foretold → r ≡ yes → keeps g far t0 t1 ≡ yes
 unfolding keeps
-keeps-is ramp base table far p q m foretold b r w at e f h = rw (← w .left, ← w .right, ← at .0, ← at .1, ← e, ← f) h
+keeps-is g far left right middle own e f h = rw (← left, ← right, ← middle, ← own, ← e, ← f) h
 
 module _ (g : Gradient) (far : Far) (t0 t1 : Float) where
   -- the midpoint m is kept

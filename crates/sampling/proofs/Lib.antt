@@ -3,6 +3,7 @@ pub mod Tabled
 pub mod Thresholds
 pub mod Words
 pub mod Halves
+pub mod EndSegments
 pub mod Rows
 pub mod Ends
 pub mod Filling

@@ -12,7 +12,7 @@ use Rattle.stops.specs.Stops.{colourAt}
 use Rattle.stops.specs.Near.{placeNear}
 use Rattle.stops.specs.Pair.{between, colourIn}
 use Rattle.stops.specs.Place.{placeOf}
-use Rattle.stops.specs.Segments.{isCatmullRom, Table, Segments, segmentBy, cubicBy}
+use Rattle.stops.specs.Segments.{isCatmullRom, Table, Segments, cubicBy}
 use Rattle.stops.specs.declared.Place.{Place}
 use Rattle.stops.specs.declared.Place.the-variants.{End, Nowhere, Between}
 use Rattle.stops.specs.declared.Kind.{Kind}

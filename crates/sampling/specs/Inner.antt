@@ -7,7 +7,8 @@ use lib.ListN.{length, set}
 use lib.Seq.{sets}
 use lib.Ieee.{Float}
 use Rattle.stops.specs.Lent.{Ramp, Change, Slice, Lent, rampIn, lentRamp}
-use Rattle.stops.specs.Segments.{Table, Segments}
+use Rattle.stops.specs.Near.{segmentFor}
+use Rattle.stops.specs.Segments.{isCatmullRom, Table, Segments}
 use Rattle.stops.specs.declared.Checked.the-variants.{Fine}
 use Rattle.gradient.specs.Ramp.{checkOf, colourOf}
 use Rattle.difference.specs.Difference.{exceeds}
@@ -54,6 +55,15 @@ pub record Between (ramp : Ramp) (base : ℕ) (table : Table) (p q : Point) : Ty
   pub ready : Prepared ramp base table
   pub left : Coloured (colourOf ramp) p
   pub right : Coloured (colourOf ramp) q
+
+-- the ends of a stretch of a checked Catmull-Rom ramp carry their colours and the segments of their pairs
+pub record DrawnBetween (ramp : Ramp) (p q : Point) (pSegment qSegment : List (List Float)) : Type 0 where
+  pub fine : checkOf ramp ≡ Fine
+  pub curved : isCatmullRom (ramp .kind) ≡ true
+  pub left : Coloured (colourOf ramp) p
+  pub right : Coloured (colourOf ramp) q
+  pub left-segment : pSegment ≡ segmentFor (ramp .channels) (length (ramp .positions)) (p .pair)
+  pub right-segment : qSegment ≡ segmentFor (ramp .channels) (length (ramp .positions)) (q .pair)
 
 -- the midpoints kept are stored from `at` on
 pub record HalvesTo (g : Gradient) (far : Far) (left : ℕ) (t0 t1 : Float) (at : ℕ) (row row′ : List Float) (r : Halved) : Type 0 where

@@ -22,7 +22,7 @@ pub(crate) fn is_tabled(keep: [bool; 36], n: usize) -> bool {
     n <= segments::ROOM
 }
 
-// The pairs from one to another, as many as there is room for.
+// The pairs from one to another, and none where there is no room for all.
 fn pairs_to(first: usize, last: usize, room: usize) -> usize
     ensures { λ r. ⌜ r ≤ room ⌝ }
 {
@@ -33,20 +33,12 @@ fn pairs_to(first: usize, last: usize, room: usize) -> usize
     if more < room {
         return more + 1;
     }
-    room
-}
-
-// A window has the segment of pair k.
-fn has(w: Window, k: usize) -> bool {
-    if k < w.base {
-        return false;
-    }
-    k - w.base < w.count
+    0
 }
 
 // The window of cell i: the segments of the pairs that it reaches, each worked out once, and of no others, so that a refresh
-// works out those of the cells that it samples. A cell that is kept, and one past the last, needs none. There is room for as many as a row can have
-// points: where a cell has more pairs, most of them have no point, and the rest is worked out point by point.
+// works out those of the cells that it samples. A cell that is kept, and one past the last, needs none. There is room for as
+// many as a row can have points: a cell with more pairs has no window, since most of them have no point (drawn).
 pub(crate) fn cover(
     task: Task,
     positions: &[f32],
@@ -70,8 +62,8 @@ pub(crate) fn cover(
     let first = near::pair_or(start, 0);
     let end = near::find_place(positions, edge(task.min, task.max, i + 1), first);
     let last = near::pair_or(end, stops::less(positions.len()));
-    if has(w, first) {
-        if has(w, last) {
+    if segments::has(w, first) {
+        if segments::has(w, last) {
             return w;
         }
     }

@@ -14,6 +14,7 @@ ghost use Rattle.sampling.specs.Promises.{Samples, Resamples};
 
 pub mod cells;
 mod covering;
+mod drawn;
 mod halving;
 mod marks;
 mod resampling;

@@ -12,7 +12,7 @@ use Rattle.refusals.specs.Refusals.{badSegment}
 use Rattle.float.specs.F32.{f0}
 use Rattle.rows.specs.declared.Parting.the-variants.{Spaces}
 use Rattle.text.specs.Text.{lines}
-use Rattle.rows.specs.Rows.{Numbers, all, none, numbers, partsAt, rowEnd, RowAt}
+use Rattle.rows.specs.Rows.{Numbers, all, none, partsAt, rowEnd, RowAt}
 use Rattle.text.proofs.Bytes.{no}
 use Rattle.text.proofs.Lines.{lines-after}
 use Rattle.rows.proofs.Numbers.{row-is, row-not, row-next}

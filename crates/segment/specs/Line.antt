@@ -1,7 +1,7 @@
 -- A segment line of a GIMP file: 12, then 16. Document 01, 'What a GIMP file may hold'; document 02 (i), (ix).
 use Prim.Native.Nat.{ℕ, min}
 use mathlib.Core.Path.{_≡_}
-use mathlib.Core.Bool.{Bool, not, cond, _&&_}
+use mathlib.Core.Bool.{Bool, cond, _&&_}
 use mathlib.Core.List.{List, [], _∷_, _++_}
 use lib.ListN.{length, drop, getD}
 use lib.Dec.{leb, eqb}

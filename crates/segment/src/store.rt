@@ -9,7 +9,7 @@ ghost use Prim.Native.Nat.{_*_};
 ghost use lib.ListN.{set};
 ghost use lib.Seq.{sets};
 ghost use Rattle.stops.specs.Lent.{old, new};
-ghost use Rattle.segment.specs.Store.{segmentPositions, segmentChannels, segmentCodes, lentStore, Stores};
+ghost use Rattle.segment.specs.Store.{segmentPositions, segmentCodes, lentStore, Stores};
 ghost use Rattle.segment.specs.Steps.{endsChannels};
 
 fn put_positions(out: &mut [f32], i: usize, g: Segment)

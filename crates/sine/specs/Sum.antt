@@ -1,7 +1,7 @@
 -- What private functions promise each other: an entry of the table by a sum of powers, which is told to be the entry where it is not too near half-way between two whole numbers.
 use Prim.Native.Nat.{ℕ, _+_, _-_, _*_, _/_, _^_}
-use mathlib.Core.Bool.{Bool, cond}
-use lib.Dec.{leb, eqb}
+use mathlib.Core.Bool.{cond}
+use lib.Dec.{leb}
 
 -- how far i lies from the nearer end of the table
 abbrev pub nearer : ℕ → ℕ

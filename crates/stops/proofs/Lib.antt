@@ -10,4 +10,5 @@ pub mod Nearby
 pub mod Pairs
 pub mod Colours
 pub mod Tables
+pub mod Windows
 pub mod Chording

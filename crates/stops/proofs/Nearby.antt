@@ -1,6 +1,6 @@
 -- On positions that rise, trying a pair first finds the document's place; and the segment of the pair gives the document's colour. Assumes nothing.
 use mathlib.Core.Path.{_≡_, refl, sym, _∙_, ap, subst}
-use mathlib.Core.Bool.{Bool, true, false, not, cond, _&&_}
+use mathlib.Core.Bool.{Bool, true, false, true≢false, not, cond, _&&_}
 use mathlib.Core.List.{List}
 use Prim.Native.Nat.{ℕ, _+_, _-_, _*_, _≤_, _<_}
 use native.Mathlib.Omega.{arith}
@@ -19,7 +19,9 @@ use Rattle.stops.specs.Stops.{posAt, colourAt, stopAt}
 use Rattle.stops.specs.Place.{Rising, placeOf, placeIn}
 use Rattle.stops.specs.Pair.{leftOf, rightOf, pairOf, between, colourIn}
 use Rattle.stops.specs.Near.{isBetween, placeNear, pairOr, segmentFor, segmentIn}
-use Rattle.stops.specs.declared.Kind.the-variants.{CatmullRom}
+use Rattle.stops.specs.Segments.{isCatmullRom}
+use Rattle.stops.specs.declared.Kind.{Kind}
+use Rattle.stops.specs.declared.Kind.the-variants.{Linear, Smoothstep, Sharp, Basis, CatmullRom, Gimp}
 use Rattle.stops.specs.declared.Place.{Place}
 use Rattle.stops.specs.declared.Place.the-variants.{End, Nowhere, Between}
 use Rattle.stops.proofs.Choice.{rising-numbers, le-is, first-is, place-between}
@@ -107,6 +109,22 @@ module _ (ps cs : List Float) (t : Float) where
   segment-colour (End i) k e = refl
   segment-colour Nowhere k e = refl
   segment-colour (Between j) k e = ap (λ (s : List (List Float)). segmentAt s (shareOf (stopAt ps cs (j - 1)) (stopAt ps cs j) t)) e
+
+-- ---- the colour of a ramp, whichever pair is tried first
+module _ (ps cs : List Float) (two : 2 ≤ length ps) (rising : Rising ps) (t : Float) {c : Rgba} {w : Place} (guess : ℕ) (near : w ≡ placeNear ps t guess) where
+  pub near-colour : (kind : Kind) → c ≡ colourIn kind ps cs t w → c ≡ colourIn kind ps cs t (placeOf ps t)
+  near-colour kind e = e ∙ ap (colourIn kind ps cs t) (near ∙ near-same ps two rising t guess)
+
+  pub kept-colour : (k : ℕ) {j : ℕ} {s : List (List Float)} → j ≡ pairOr w k → s ≡ segmentFor cs (length ps) j → c ≡ segmentIn ps cs s t w → c ≡ colourIn CatmullRom ps cs t (placeOf ps t)
+  kept-colour k q r e = near-colour CatmullRom (e ∙ segment-colour ps cs t w k (r ∙ ap (segmentFor cs (length ps)) q))
+
+pub catmull : (kind : Kind) → isCatmullRom kind ≡ true → kind ≡ CatmullRom
+catmull Linear h = absurd (true≢false (sym h))
+catmull Smoothstep h = absurd (true≢false (sym h))
+catmull Sharp h = absurd (true≢false (sym h))
+catmull Basis h = absurd (true≢false (sym h))
+catmull CatmullRom h = refl
+catmull Gimp h = absurd (true≢false (sym h))
 
 -- ---- what the functions give
 module _ (cs : List Float) (n k : ℕ) {s : List (List Float)} where

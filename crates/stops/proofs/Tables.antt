@@ -59,26 +59,30 @@ module _ (cs : List Float) (n base : ℕ) where
   tabled table₀ i table f e = record { many = e; written = f .written ∙ rw e }
 
   -- what is filled holds the segments
-  pub filled-most : (table₀ table : Table) (k : ℕ) → FillsTable cs n base table₀ table k → k ≤ length table
-  filled-most table₀ table k f = omega (arith, f .many, ap length (f .written) ∙ length-sets table₀ 0 (segmentsFrom cs n base (min (n - base) (length table₀))))
-
-  pub filled-segments : (table₀ table : Table) (k : ℕ) → FillsTable cs n base table₀ table k → Segments cs n base (take k table)
-  filled-segments table₀ table k f =
-      let w : take k table ≡ segmentsFrom cs n base k =
-      ap (take k) (f .written ∙ rw (← f .many)) ∙ take-sets table₀ (segmentsFrom cs n base k) k (first-long k) (omega (arith, f .many)) in
-      record { each = λ i l. let h : i < k = omega (arith, l, ap length w, first-long k) in rw w (single-of (λ j. segmentFor cs n (base + j)) [] k i h) }
-
-  pub no-segments : (table : Table) → Segments cs n base (take 0 table)
-  no-segments table = record { each = λ k l. absurd (omega arith) }
+  pub window-filled : (table : Table) (k : ℕ) → k ≤ length table → InHand cs n (record { base = base; count = k }) (sets table 0 (segmentsFrom cs n base k))
+  window-filled table k h =
+      let w : take k (sets table 0 (segmentsFrom cs n base k)) ≡ segmentsFrom cs n base k = take-sets table (segmentsFrom cs n base k) k (first-long k) h in
+      record {
+        fits = omega (arith, length-sets table 0 (segmentsFrom cs n base k));
+        segments = record { each = λ i l. let j : i < k = omega (arith, l, ap length w, first-long k) in rw w (single-of (λ m. segmentFor cs n (base + m)) [] k i j) };
+      }
 
   -- a window filled, in the whole table or in its first part; and an empty one
   pub filled-window : (table₀ table : Table) (k : ℕ) → FillsTable cs n base table₀ table k → InHand cs n (record { base = base; count = k }) table
-  filled-window table₀ table k f = record { fits = filled-most table₀ table k f; segments = filled-segments table₀ table k f }
+  filled-window table₀ table k f =
+      let e : table ≡ sets table₀ 0 (segmentsFrom cs n base k) = f .written ∙ rw (← f .many) in
+      rw e (window-filled table₀ k (omega (arith, f .many)))
+
+  pub filled-segments : (table₀ table : Table) (k : ℕ) → FillsTable cs n base table₀ table k → Segments cs n base (take k table)
+  filled-segments table₀ table k f = filled-window table₀ table k f .segments
 
   pub part-window : (table₀ table rest : Table) (k : ℕ) → FillsTable cs n base table₀ table k → InHand cs n (record { base = base; count = k }) (table ++ rest)
   part-window table₀ table rest k f =
-      let h = filled-most table₀ table k f in
-      record { fits = omega (arith, length-append table rest); segments = rw (take-append-le k table rest h) (filled-segments table₀ table k f) }
+      let h = filled-window table₀ table k f in
+      record { fits = omega (arith, h .fits, length-append table rest); segments = rw (take-append-le k table rest (h .fits)) (h .segments) }
+
+  pub no-segments : (table : Table) → Segments cs n base (take 0 table)
+  no-segments table = record { each = λ k l. absurd (omega arith) }
 
   pub empty-window : (table : Table) → InHand cs n (record { base = base; count = 0 }) table
   empty-window table = record { fits = omega arith; segments = no-segments table }

@@ -2,7 +2,7 @@
 use borrow.Author.Needs.{needs}
 use Rattle.float.proofs.Flags.{failed, passed}
 use native.Mathlib.Omega.{arith}
-use mathlib.Core.Path.{_≡_, sym, ap, _∙_}
+use mathlib.Core.Path.{_≡_, ap, _∙_}
 use mathlib.Core.Bool.{Bool}
 use mathlib.Core.List.{List}
 use lib.Ieee.{Float}
@@ -13,10 +13,6 @@ use Rattle.ggr_writing.specs.File.{segmentBetween, writableSegment, writ
 use Rattle.ggr_writing.proofs.Checks.{from-start, from-fails, from-next, from-done}
 use Rattle.ggr_writing.proofs.are_writable.Statement.{statement}
 use Rattle.ggr_writing.proofs.are_writable.Tie as tie
-use Rattle.ggr_writing.proofs.are_writable.Reads as reads
-use Rattle.ggr_writing.proofs.are_writable.Lts as lts
-use Rattle.ggr_writing.proofs.is_writable_pair.Reads as is-writable-pair-reads
-use Rattle.stops.proofs.stop.Reads as stop-reads
 
 abbrev Inv-loop : tie.InvT-loop
 Inv-loop n positions channels i₀ i = (i ≤ n) × (writableFrom (n - i) i positions channels ≡ writableFrom n 0 positions channels)

@@ -11,11 +11,6 @@ use Rattle.ggr_writing.proofs.Checks.{other-start, other-end, right-end
 use borrow.Author.Needs.{needs}
 use Rattle.ggr_writing.proofs.can_write.Statement.{statement}
 use Rattle.ggr_writing.proofs.can_write.Tie as tie
-use Rattle.ggr_writing.proofs.can_write.Reads as reads
-use Rattle.ggr_writing.proofs.can_write.Lts as lts
-use Rattle.ggr_writing.proofs.are_writable.Reads as are-writable-reads
-use Rattle.stops.proofs.item.Reads as item-reads
-use Rattle.stops.proofs.less.Reads as less-reads
 
 less-requires : tie.Need-less-requires
 less-requires c κs = search needs

@@ -3,8 +3,6 @@ use Rattle.ggr_writing.proofs.Checks.{few-stops, many-stops, right-stop
 use borrow.Author.Needs.{needs}
 use Rattle.ggr_writing.proofs.is_shaped.Statement.{statement}
 use Rattle.ggr_writing.proofs.is_shaped.Tie as tie
-use Rattle.ggr_writing.proofs.is_shaped.Reads as reads
-use Rattle.ggr_writing.proofs.is_shaped.Lts as lts
 
 returns : tie.Need-returns
 returns c = few-stops _ _ (c .if1 .taken)

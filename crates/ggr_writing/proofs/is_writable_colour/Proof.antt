@@ -4,9 +4,6 @@ use Rattle.ggr_writing.proofs.Checks.{no-red, no-green, no-blue, a-colo
 use borrow.Author.Needs.{needs}
 use Rattle.ggr_writing.proofs.is_writable_colour.Statement.{statement}
 use Rattle.ggr_writing.proofs.is_writable_colour.Tie as tie
-use Rattle.ggr_writing.proofs.is_writable_colour.Reads as reads
-use Rattle.ggr_writing.proofs.is_writable_colour.Lts as lts
-use Rattle.numerals.proofs.is_writable.Reads as is-writable-reads
 
 is-writable-requires : tie.Need-is-writable-requires
 is-writable-requires c κs = search needs

@@ -5,10 +5,6 @@ use Rattle.ggr_writing.proofs.Checks.{no-left, no-middle, no-right, no-
 use borrow.Author.Needs.{needs}
 use Rattle.ggr_writing.proofs.is_writable_pair.Statement.{statement}
 use Rattle.ggr_writing.proofs.is_writable_pair.Tie as tie
-use Rattle.ggr_writing.proofs.is_writable_pair.Reads as reads
-use Rattle.ggr_writing.proofs.is_writable_pair.Lts as lts
-use Rattle.ggr_writing.proofs.is_writable_colour.Reads as is-writable-colour-reads
-use Rattle.numerals.proofs.is_writable.Reads as is-writable-reads
 
 is-writable-requires : tie.Need-is-writable-requires
 is-writable-requires c κs = search needs

@@ -2,15 +2,13 @@
 use borrow.Author.Needs.{needs}
 use mathlib.Core.Path.{_≡_, refl}
 use mathlib.Core.Bool.{true}
-use Prim.Native.Nat.{_-_, _≤_}
+use Prim.Native.Nat.{_-_}
 use lib.ListN.{length, drop}
 use lib.Ieee.{inf, div, neg, ofBits}
 use Rattle.ggr_writing.specs.File.{rises}
 use Rattle.ggr_writing.proofs.Checks.{rises-falls, rises-next, rises-done}
 use Rattle.ggr_writing.proofs.never_falls.Statement.{statement}
 use Rattle.ggr_writing.proofs.never_falls.Tie as tie
-use Rattle.ggr_writing.proofs.never_falls.Reads as reads
-use Rattle.ggr_writing.proofs.never_falls.Lts as lts
 
 abbrev Inv-loop : tie.InvT-loop
 Inv-loop positions prev₀ i₀ prev i = rises prev (drop i positions) ≡ rises (inf true) positions

@@ -4,13 +4,6 @@ use Rattle.ggr_writing.proofs.Final.{not-shaped, not-rising, not-writab
 use borrow.Author.Needs.{needs}
 use Rattle.ggr_writing.proofs.write.Statement.{statement}
 use Rattle.ggr_writing.proofs.write.Tie as tie
-use Rattle.ggr_writing.proofs.write.Reads as reads
-use Rattle.ggr_writing.proofs.write.Lts as lts
-use Rattle.ggr_writing.proofs.can_write.Reads as can-write-reads
-use Rattle.ggr_writing.proofs.is_shaped.Reads as is-shaped-reads
-use Rattle.ggr_writing.proofs.lines.put_file.Reads as put-file-reads
-use Rattle.ggr_writing.proofs.never_falls.Reads as never-falls-reads
-use Rattle.slices.proofs.zero_bytes.Reads as zero-bytes-reads
 
 is-shaped-requires : tie.Need-is-shaped-requires
 is-shaped-requires c κs = search needs
@@ -34,10 +27,20 @@ same-length : tie.Need-same-length
 same-length c = search needs
 
 returns-3 : tie.Need-returns-3
-returns-3 c = let a = c .before .before .before .before .before .before .before .before .before .before .before .before .before .args in not-writable (a .positions .now) (a .channels .now) (a .text .now) (passed (c .before .before .before .before .before .before .before .before .if1 .left) (c .before .before .before .before .before .before .before .before .before .is-shaped .ensures)) (passed (c .before .before .before .before .before .before .if2 .left) (c .before .before .before .before .before .before .before .never-falls .ensures)) (failed (c .before .before .before .before .if3 .taken) (c .before .before .before .before .before .can-write .ensures)) (c .before .before .zero-bytes .ensures)
+returns-3 c =
+    let told = c .before .before .before .before in
+    let shaped = told .before .before .before .before in
+    let a = shaped .before .before .before .before .before .args in
+    not-writable (a .positions .now) (a .channels .now) (a .text .now)
+    (passed (shaped .if1 .left) (shaped .before .is-shaped .ensures))
+    (passed (told .before .before .if2 .left) (told .before .before .before .never-falls .ensures))
+    (failed (told .if3 .taken) (told .before .can-write .ensures))
+    (c .before .before .zero-bytes .ensures)
 
 put-file-requires : tie.Need-put-file-requires
-put-file-requires c κs = let a = c .before .before .before .before .before .before .before .before .before .before .args in shaped-few _ _ (passed (c .before .before .before .before .before .if1 .left) (c .before .before .before .before .before .before .is-shaped .ensures))
+put-file-requires c κs =
+    let shaped = c .before .before .before .before .before in
+    shaped-few _ _ (passed (shaped .if1 .left) (shaped .before .is-shaped .ensures))
 
 zero-bytes-requires-2 : tie.Need-zero-bytes-requires-2
 zero-bytes-requires-2 c κs = search needs
@@ -46,13 +49,34 @@ same-length-2 : tie.Need-same-length-2
 same-length-2 c = search needs
 
 returns-4 : tie.Need-returns-4
-returns-4 c = let a = c .before .before .before .before .before .before .before .before .before .before .before .before .before .before .before .before .before .before .args in no-room (a .positions .now) (a .channels .now) (a .text .now) (passed (c .before .before .before .before .before .before .before .before .before .before .before .before .before .if1 .left) (c .before .before .before .before .before .before .before .before .before .before .before .before .before .before .is-shaped .ensures)) (passed (c .before .before .before .before .before .before .before .before .before .before .before .if2 .left) (c .before .before .before .before .before .before .before .before .before .before .before .before .never-falls .ensures)) (passed (c .before .before .before .before .before .before .before .before .before .if3 .left) (c .before .before .before .before .before .before .before .before .before .before .can-write .ensures)) (c .before .before .before .before .before .before .before .put-file .ensures) (c .before .before .before .before .if4 .taken) (c .before .before .zero-bytes2 .ensures)
+returns-4 c =
+    let put = c .before .before .before .before .before .before .before in
+    let writable = put .before .before in
+    let shaped = writable .before .before .before .before in
+    let a = shaped .before .before .before .before .before .args in
+    no-room (a .positions .now) (a .channels .now) (a .text .now)
+    (passed (shaped .if1 .left) (shaped .before .is-shaped .ensures))
+    (passed (writable .before .before .if2 .left) (writable .before .before .before .never-falls .ensures))
+    (passed (writable .if3 .left) (writable .before .can-write .ensures))
+    (put .put-file .ensures)
+    (c .before .before .before .before .if4 .taken)
+    (c .before .before .zero-bytes2 .ensures)
 
 same-length-3 : tie.Need-same-length-3
 same-length-3 c = search needs
 
 returns-5 : tie.Need-returns-5
-returns-5 c = let a = c .before .before .before .before .before .before .before .before .before .before .before .before .before .before .args in has-room (a .positions .now) (a .channels .now) (a .text .now) (passed (c .before .before .before .before .before .before .before .before .before .if1 .left) (c .before .before .before .before .before .before .before .before .before .before .is-shaped .ensures)) (passed (c .before .before .before .before .before .before .before .if2 .left) (c .before .before .before .before .before .before .before .before .never-falls .ensures)) (passed (c .before .before .before .before .before .if3 .left) (c .before .before .before .before .before .before .can-write .ensures)) (c .before .before .before .put-file .ensures) (c .if4 .left)
+returns-5 c =
+    let put = c .before .before .before in
+    let writable = put .before .before in
+    let shaped = writable .before .before .before .before in
+    let a = shaped .before .before .before .before .before .args in
+    has-room (a .positions .now) (a .channels .now) (a .text .now)
+    (passed (shaped .if1 .left) (shaped .before .is-shaped .ensures))
+    (passed (writable .before .before .if2 .left) (writable .before .before .before .never-falls .ensures))
+    (passed (writable .if3 .left) (writable .before .can-write .ensures))
+    (put .put-file .ensures)
+    (c .if4 .left)
 
 pub write-spec : {M : Type 1} → statement M
 write-spec =

@@ -4,8 +4,6 @@ use Prim.Native.Nat.{_-_, _≤_}
 use borrow.Author.Needs.{needs}
 use Rattle.leaves.proofs.line_end.Statement.{statement}
 use Rattle.leaves.proofs.line_end.Tie as tie
-use Rattle.leaves.proofs.line_end.Reads as reads
-use Rattle.leaves.proofs.line_end.Lts as lts
 
 abbrev Inv-loop : tie.InvT-loop
 Inv-loop s from i₀ i = (from ≤ i) × (i ≤ length s)

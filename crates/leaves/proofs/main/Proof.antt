@@ -4,12 +4,6 @@ use Prim.Native.Nat.{_+_, _-_, _≤_}
 use borrow.Author.Needs.{needs}
 use Rattle.leaves.proofs.main.Statement.{statement}
 use Rattle.leaves.proofs.main.Tie as tie
-use Rattle.leaves.proofs.main.Reads as reads
-use Rattle.leaves.proofs.main.Lts as lts
-use Rattle.io.proofs.large_buffer.Reads as large-buffer-reads
-use Rattle.io.proofs.read_full.Reads as read-full-reads
-use Rattle.leaves.proofs.line_end.Reads as line-end-reads
-use Rattle.leaves.proofs.run.Reads as run-reads
 
 abbrev Inv-loop : tie.InvT-loop
 Inv-loop n s at₀ at = at ≤ length s + 1

@@ -4,9 +4,6 @@ use Prim.Native.Nat.{_-_, _≤_}
 use borrow.Author.Needs.{needs}
 use Rattle.leaves.proofs.pattern.Statement.{statement}
 use Rattle.leaves.proofs.pattern.Tie as tie
-use Rattle.leaves.proofs.pattern.Reads as reads
-use Rattle.leaves.proofs.pattern.Lts as lts
-use Rattle.leaves.proofs.digit.Reads as digit-reads
 
 abbrev Inv-loop : tie.InvT-loop
 Inv-loop s v₀ i₀ v i = i ≤ length s

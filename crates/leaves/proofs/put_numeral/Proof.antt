@@ -9,10 +9,6 @@ use Rattle.numerals.proofs.Theorems.{bytes-are}
 use borrow.Author.Needs.{needs}
 use Rattle.leaves.proofs.put_numeral.Statement.{statement}
 use Rattle.leaves.proofs.put_numeral.Tie as tie
-use Rattle.leaves.proofs.put_numeral.Reads as reads
-use Rattle.leaves.proofs.put_numeral.Lts as lts
-use Rattle.leaves.proofs.put.Reads as put-reads
-use Rattle.numerals.proofs.write.Reads as write-reads
 
 within : (t bytes : List ℕ) (len : ℕ) → TextIs t bytes len → len ≤ length bytes
 within t bytes len h = omega (arith, h .long, ap length (h .is) ∙ length-append t (replicate (18 - length t) 0))

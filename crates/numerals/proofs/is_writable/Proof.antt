@@ -3,9 +3,6 @@ use borrow.Author.Needs.{needs}
 use Rattle.numerals.proofs.Range.{writes-nan, writes-small, writes-large}
 use Rattle.numerals.proofs.is_writable.Statement.{statement}
 use Rattle.numerals.proofs.is_writable.Tie as tie
-use Rattle.numerals.proofs.is_writable.Reads as reads
-use Rattle.numerals.proofs.is_writable.Lts as lts
-use Rattle.float.proofs.magnitude.Reads as magnitude-reads
 
 returns : tie.Need-returns
 returns c = writes-nan (c .before .args .x) (c .if1 .taken)

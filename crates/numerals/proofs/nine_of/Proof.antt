@@ -1,17 +1,12 @@
 -- `nine_of` meets its contract. The loop's invariant: a / den is m * 10 ^ k / 2 ^ shift. Assumes nothing.
-use mathlib.Core.Path.{_≡_, refl, sym, ap, _∙_, subst}
-use Prim.Native.Nat.{ℕ, suc, _+_, _-_, _*_, _/_, _%_, _^_, _≤_, _<_, compare}
-use native.Mathlib.Nat.{mod-lt, div-le-self}
-use native.Mathlib.Numerals.{add-one}
+use mathlib.Core.Path.{subst}
+use Prim.Native.Nat.{ℕ, _-_, _*_, _/_, _%_, _^_, _≤_, _<_}
+use native.Mathlib.Nat.{mod-lt}
 use native.Mathlib.Omega.{arith}
-use lib.Ieee.{nearest}
-use borrow.Author.Needs.{needs}
 use Rattle.float.proofs.Nearest.{stays, moves}
 use Rattle.numerals.proofs.Scale.{Scaling, scale-start, den-pos, before-last, not-last, a-small, den-small, ten-small, scale-turn, nines, q-small, one-up}
 use Rattle.numerals.proofs.nine_of.Statement.{statement}
 use Rattle.numerals.proofs.nine_of.Tie as tie
-use Rattle.numerals.proofs.nine_of.Reads as reads
-use Rattle.numerals.proofs.nine_of.Lts as lts
 
 abbrev Inv-loop : tie.InvT-loop
 Inv-loop m shift a₀ den₀ k₀ ten₀ a den k ten = Scaling m shift a den k ten

@@ -3,10 +3,6 @@ use borrow.Author.Needs.{needs}
 use Rattle.numerals.proofs.Put.{minus-put, plus-put}
 use Rattle.numerals.proofs.nine_text.Statement.{statement}
 use Rattle.numerals.proofs.nine_text.Tie as tie
-use Rattle.numerals.proofs.nine_text.Reads as reads
-use Rattle.numerals.proofs.nine_text.Lts as lts
-use Rattle.numerals.proofs.put_plain.Reads as put-plain-reads
-use Rattle.numerals.proofs.settled.Reads as settled-reads
 
 settled-requires : tie.Need-settled-requires
 settled-requires c κs = search needs

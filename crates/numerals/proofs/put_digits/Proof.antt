@@ -1,13 +1,9 @@
 -- `put_digits` meets its contract. The loop's invariant: from the place i on the digits are there. Assumes nothing.
-use mathlib.Core.Path.{_≡_, sym, ap, _∙_}
-use Prim.Native.Nat.{ℕ, _+_, _-_, _≤_, _<_}
+use Prim.Native.Nat.{_-_}
 use native.Mathlib.Omega.{arith}
-use lib.ListN.{length, set, length-set}
 use Rattle.numerals.proofs.Put.{Putting, put-start, put-length, put-turn, put-end}
 use Rattle.numerals.proofs.put_digits.Statement.{statement}
 use Rattle.numerals.proofs.put_digits.Tie as tie
-use Rattle.numerals.proofs.put_digits.Reads as reads
-use Rattle.numerals.proofs.put_digits.Lts as lts
 
 abbrev Inv-loop : tie.InvT-loop
 Inv-loop out₀ at w x i₀ y₀ out i y = Putting out₀ at w x out i y

@@ -1,17 +1,13 @@
 -- `put_plain` meets its contract. Assumes nothing.
-use mathlib.Core.Path.{_≡_, sym, ap, _∙_, subst}
-use Prim.Native.Nat.{ℕ, _+_, _-_, _^_, _≤_, _<_, max}
+use mathlib.Core.Path.{_∙_}
+use Prim.Native.Nat.{_-_}
 use native.Mathlib.Omega.{arith}
-use lib.ListN.{length, set, length-set}
+use lib.ListN.{length-set}
 use Rattle.numerals.proofs.Tens.{ten-pos}
 use Rattle.numerals.proofs.Put.{plain-is, plain-length}
 use borrow.Author.Needs.{needs}
 use Rattle.numerals.proofs.put_plain.Statement.{statement}
 use Rattle.numerals.proofs.put_plain.Tie as tie
-use Rattle.numerals.proofs.put_plain.Reads as reads
-use Rattle.numerals.proofs.put_plain.Lts as lts
-use Rattle.numerals.proofs.put_digits.Reads as put-digits-reads
-use Rattle.numerals.proofs.width.Reads as width-reads
 
 width-requires : tie.Need-width-requires
 width-requires c κs = search needs

@@ -1,13 +1,9 @@
 -- `settled` meets its contract. Assumes nothing.
-use Prim.Native.Nat.{_<_}
 use native.Mathlib.Omega.{arith}
 use Rattle.numerals.proofs.Scale.{some-places, settled-ten, settled-nine}
 use borrow.Author.Needs.{needs}
 use Rattle.numerals.proofs.settled.Statement.{statement}
 use Rattle.numerals.proofs.settled.Tie as tie
-use Rattle.numerals.proofs.settled.Reads as reads
-use Rattle.numerals.proofs.settled.Lts as lts
-use Rattle.numerals.proofs.nine_of.Reads as nine-of-reads
 
 nine-of-requires : tie.Need-nine-of-requires
 nine-of-requires c κs = search needs

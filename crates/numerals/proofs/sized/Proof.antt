@@ -7,10 +7,6 @@ use Rattle.numerals.proofs.Put.{text-none, text-as}
 use Rattle.numerals.proofs.Above.{too-low, too-high, above-no-nan, Found, found}
 use Rattle.numerals.proofs.sized.Statement.{statement}
 use Rattle.numerals.proofs.sized.Tie as tie
-use Rattle.numerals.proofs.sized.Reads as reads
-use Rattle.numerals.proofs.sized.Lts as lts
-use Rattle.numerals.proofs.nine_text.Reads as nine-text-reads
-use Rattle.numerals.proofs.none.Reads as none-reads
 
 none-requires : tie.Need-none-requires
 none-requires c κs = search needs

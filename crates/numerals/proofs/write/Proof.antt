@@ -6,10 +6,6 @@ use Rattle.numerals.proofs.Put.{text-none, text-as, text-put}
 use Rattle.numerals.proofs.Signs.{nan-text, no-nan, below-zero, neg-neg, above-zero, plus-zero, minus-zero}
 use Rattle.numerals.proofs.write.Statement.{statement}
 use Rattle.numerals.proofs.write.Tie as tie
-use Rattle.numerals.proofs.write.Reads as reads
-use Rattle.numerals.proofs.write.Lts as lts
-use Rattle.numerals.proofs.none.Reads as none-reads
-use Rattle.numerals.proofs.sized.Reads as sized-reads
 
 none-requires : tie.Need-none-requires
 none-requires c κs = search needs

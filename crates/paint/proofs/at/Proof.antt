@@ -1,5 +1,4 @@
 -- `at` meets its contract: the check, then the colour or the refusal. Assumes nothing.
-use denote.Ref.{now}
 use mathlib.Core.Path.{sym, _∙_}
 use Rattle.stops.specs.Lent.{rampIn}
 use Rattle.paint.proofs.Painting.{at-coloured, at-refused}

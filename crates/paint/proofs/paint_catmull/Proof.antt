@@ -13,7 +13,7 @@ use Rattle.stops.specs.Near.{segmentFor}
 use Rattle.stops.specs.declared.Kind.the-variants.{CatmullRom}
 use Rattle.blend.specs.Channels.{channelsOf, coloursOf}
 use Rattle.paint.specs.Within.{stopColour}
-use Rattle.paint.proofs.Painting.{kept-colour}
+use Rattle.stops.proofs.Nearby.{kept-colour}
 use Rattle.paint.proofs.paint_catmull.Statement.{statement}
 use Rattle.paint.proofs.paint_catmull.Tie as tie
 
@@ -75,7 +75,7 @@ loop-again c =
       ap length (p .put-colour .ensures) ∙ simp length-sets (l .loop .inv .1),
       p .put-colour .ensures
           ∙ ap (λ (r : List Float). sets r (4 * i) (channelsOf (p .before .before .segment-colour .result))) (l .loop .inv .2)
-          ∙ colours-next (stopColour CatmullRom (now (s .args .positions)) (now (s .args .channels))) (now (s .args .ts)) (now (s .args .out)) (s .pre .0 .room) i (omega arith) (kept-colour (now (s .args .positions)) (now (s .args .channels)) (s .pre .0 .two) (s .pre .0 .rising) _ (l .loop .k) (p .before .before .before .before .before .find-place .ensures) (p .before .before .before .before .pair-or .ensures) (p .before .before .before .renewed .ensures) (p .before .before .segment-colour .ensures)),
+          ∙ colours-next (stopColour CatmullRom (now (s .args .positions)) (now (s .args .channels))) (now (s .args .ts)) (now (s .args .out)) (s .pre .0 .room) i (omega arith) (kept-colour (now (s .args .positions)) (now (s .args .channels)) (s .pre .0 .two) (s .pre .0 .rising) _ (l .loop .k) (p .before .before .before .before .before .find-place .ensures) (l .loop .k) (p .before .before .before .before .pair-or .ensures) (p .before .before .before .renewed .ensures) (p .before .before .segment-colour .ensures)),
       p .before .before .before .renewed .ensures,
     )
 

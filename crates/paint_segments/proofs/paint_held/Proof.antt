@@ -46,7 +46,8 @@ place-along-requires-2 c κs = search needs
 
 loop-holds : tie.Need-loop-holds Inv-loop μ-loop
 loop-holds c =
-    let s = c .before .before .before .before .before .before .before .before .before .before .before in (
+    let held = c .before .before .before .before .before in
+    let s = held .before .before .before .before .before .before in (
       omega (arith, s .pre .1 .0 .inside, s .pre .1 .0 .some),
       refl,
       λ e. record { there = omega (arith, s .pre .1 .0 .inside, s .pre .1 .0 .some); found = s .pre .1 .0 .found; on = s .pre .1 .0 .on },

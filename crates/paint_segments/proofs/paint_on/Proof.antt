@@ -101,8 +101,9 @@ add-is-hued c =
 
 shared-slice-read-is-hued : tie.Need-shared-slice-read-is-hued
 shared-slice-read-is-hued c =
-    let s = c .before .before .before .before .before .before .before .before .before .before .before in
-    omega (arith, there (c .before), s .pre .0 .cut .codes)
+    let found = c .before in
+    let s = found .before .before .before .before .before .before .before .before .before .before in
+    omega (arith, there found, s .pre .0 .cut .codes)
 
 is-hued-requires : tie.Need-is-hued-requires
 is-hued-requires c κs = search needs

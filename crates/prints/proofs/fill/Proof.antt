@@ -7,8 +7,6 @@ use native.Mathlib.Omega.{arith}
 use borrow.Author.Needs.{needs}
 use Rattle.prints.proofs.fill.Statement.{statement}
 use Rattle.prints.proofs.fill.Tie as tie
-use Rattle.prints.proofs.fill.Reads as reads
-use Rattle.prints.proofs.fill.Lts as lts
 
 abbrev Inv-loop : tie.InvT-loop
 Inv-loop text₀ at s n i₀ text i = (length text ≡ length text₀) × (i ≤ n)

@@ -1,7 +1,7 @@
 -- `refresh` meets its contract: a refusal changes nothing; else the cells that are not kept are sampled anew from the changed ramp. Assumes nothing.
-use mathlib.Core.Path.{_≡_, sym, ap, _∙_}
+use mathlib.Core.Path.{sym, _∙_}
 use native.Mathlib.Omega.{arith}
-use lib.ListN.{length, take, replicate, length-replicate}
+use lib.ListN.{replicate, length-replicate}
 use lib.Seq.{length-take-le}
 use Rattle.float.specs.F32.{f0}
 use Rattle.stops.specs.Lent.{rampOf}

@@ -1,7 +1,7 @@
 -- `refresh_list` meets its contract: a refusal changes nothing; else the record is refreshed from the changed ramp and the list made of it. Assumes nothing.
-use mathlib.Core.Path.{_≡_, sym, ap, _∙_}
+use mathlib.Core.Path.{sym, _∙_}
 use native.Mathlib.Omega.{arith}
-use lib.ListN.{length, take, replicate, length-replicate}
+use lib.ListN.{replicate, length-replicate}
 use lib.Seq.{length-take-le}
 use Rattle.float.specs.F32.{f0}
 use Rattle.stops.specs.Lent.{rampOf}
@@ -41,7 +41,8 @@ mul-m c =
     let copied = told .before .before .before .before .before in
     let passed = copied .before .before .before in
     let thinned = passed .before .before in
-    let a = thinned .before .before .before .before .before .before .before .before .before .before .before .before .args in
+    let lent = thinned .before .before .before .before .before .before in
+    let a = lent .before .before .before .before .before .before .args in
     let ramp = rampOf (a .kind) (a .positions .now) (a .channels .now) (a .codes .now) in
     let thin = sym (thinned .check-thin .ensures .answer) ∙ passed .enum-told .given .1 in
     let fine = thinned-fine ramp (a .edit) (a .threshold) _ thin in
@@ -56,7 +57,8 @@ array-share-prefix-copied-positions c =
     let copied = told .before .before .before .before .before in
     let passed = copied .before .before .before in
     let thinned = passed .before .before in
-    let a = thinned .before .before .before .before .before .before .before .before .before .before .before .before .args in
+    let lent = thinned .before .before .before .before .before .before in
+    let a = lent .before .before .before .before .before .before .args in
     let ramp = rampOf (a .kind) (a .positions .now) (a .channels .now) (a .codes .now) in
     let thin = sym (thinned .check-thin .ensures .answer) ∙ passed .enum-told .given .1 in
     let fine = thinned-fine ramp (a .edit) (a .threshold) _ thin in
@@ -71,7 +73,8 @@ slice-aggregate-relist c =
     let copied = told .before .before .before .before .before in
     let passed = copied .before .before .before in
     let thinned = passed .before .before in
-    let a = thinned .before .before .before .before .before .before .before .before .before .before .before .before .args in
+    let lent = thinned .before .before .before .before .before .before in
+    let a = lent .before .before .before .before .before .before .args in
     let ramp = rampOf (a .kind) (a .positions .now) (a .channels .now) (a .codes .now) in
     let thin = sym (thinned .check-thin .ensures .answer) ∙ passed .enum-told .given .1 in
     let fine = thinned-fine ramp (a .edit) (a .threshold) _ thin in
@@ -86,7 +89,8 @@ array-share-prefix-copied-channels c =
     let copied = told .before .before .before .before .before in
     let passed = copied .before .before .before in
     let thinned = passed .before .before in
-    let a = thinned .before .before .before .before .before .before .before .before .before .before .before .before .args in
+    let lent = thinned .before .before .before .before .before .before in
+    let a = lent .before .before .before .before .before .before .args in
     let ramp = rampOf (a .kind) (a .positions .now) (a .channels .now) (a .codes .now) in
     let thin = sym (thinned .check-thin .ensures .answer) ∙ passed .enum-told .given .1 in
     let fine = thinned-fine ramp (a .edit) (a .threshold) _ thin in
@@ -101,7 +105,8 @@ slice-aggregate-relist-2 c =
     let copied = told .before .before .before .before .before in
     let passed = copied .before .before .before in
     let thinned = passed .before .before in
-    let a = thinned .before .before .before .before .before .before .before .before .before .before .before .before .args in
+    let lent = thinned .before .before .before .before .before .before in
+    let a = lent .before .before .before .before .before .before .args in
     let ramp = rampOf (a .kind) (a .positions .now) (a .channels .now) (a .codes .now) in
     let thin = sym (thinned .check-thin .ensures .answer) ∙ passed .enum-told .given .1 in
     let fine = thinned-fine ramp (a .edit) (a .threshold) _ thin in
@@ -143,7 +148,8 @@ returns-2 c =
     let copied = told .before .before .before .before .before in
     let passed = copied .before .before .before in
     let thinned = passed .before .before in
-    let a = thinned .before .before .before .before .before .before .before .before .before .before .before .before .args in
+    let lent = thinned .before .before .before .before .before .before in
+    let a = lent .before .before .before .before .before .before .args in
     let ramp = rampOf (a .kind) (a .positions .now) (a .channels .now) (a .codes .now) in
     let thin = sym (thinned .check-thin .ensures .answer) ∙ passed .enum-told .given .1 in
     let fine = thinned-fine ramp (a .edit) (a .threshold) _ thin in
@@ -175,7 +181,8 @@ returns-3 c =
     let copied = told .before .before .before .before .before in
     let passed = copied .before .before .before in
     let thinned = passed .before .before in
-    let a = thinned .before .before .before .before .before .before .before .before .before .before .before .before .args in
+    let lent = thinned .before .before .before .before .before .before in
+    let a = lent .before .before .before .before .before .before .args in
     let ramp = rampOf (a .kind) (a .positions .now) (a .channels .now) (a .codes .now) in
     let thin = sym (thinned .check-thin .ensures .answer) ∙ passed .enum-told .given .1 in
     let fine = thinned-fine ramp (a .edit) (a .threshold) _ thin in

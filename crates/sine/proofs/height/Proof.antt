@@ -2,7 +2,6 @@
 use native.Mathlib.Omega.{arith}
 use mathlib.Core.Path.{refl}
 use Rattle.sine.proofs.Summed.{product-most, part-most, square-most, summed}
-use borrow.Author.Needs.{needs}
 use Rattle.sine.proofs.height.Statement.{statement}
 use Rattle.sine.proofs.height.Tie as tie
 

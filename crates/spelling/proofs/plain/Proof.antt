@@ -1,5 +1,4 @@
 -- `plain` meets its contract: a case for each byte. Assumes nothing.
-use borrow.Author.Needs.{needs}
 use Prim.Native.Nat.{_-_}
 use borrow.Author.Tests.{eq-eqb, ne-eqb}
 use Rattle.spelling.specs.Spelling.{plainOf}

@@ -6,10 +6,6 @@ use Rattle.colorgrad_c.proofs.Writing.{numeral-put}
 use borrow.Author.Needs.{needs}
 use Rattle.colorgrad_c.proofs.writer.colorgrad_numeral.Statement.{statement}
 use Rattle.colorgrad_c.proofs.writer.colorgrad_numeral.Tie as tie
-use Rattle.colorgrad_c.proofs.writer.colorgrad_numeral.Reads as reads
-use Rattle.colorgrad_c.proofs.writer.colorgrad_numeral.Lts as lts
-use Rattle.numerals.proofs.write.Reads as write-reads
-use Rattle.plain.proofs.name.write_name.Reads as write-name-reads
 
 write-requires : tie.Need-write-requires
 write-requires c κs = search needs

@@ -3,10 +3,6 @@ use Rattle.colorgrad_c.proofs.Writing.{shows-written}
 use borrow.Author.Needs.{needs}
 use Rattle.colorgrad_c.proofs.writer.colorgrad_write_ggr.Statement.{statement}
 use Rattle.colorgrad_c.proofs.writer.colorgrad_write_ggr.Tie as tie
-use Rattle.colorgrad_c.proofs.writer.colorgrad_write_ggr.Reads as reads
-use Rattle.colorgrad_c.proofs.writer.colorgrad_write_ggr.Lts as lts
-use Rattle.colorgrad_c.proofs.writer.written_shown.Reads as written-shown-reads
-use Rattle.ggr_writing.proofs.write.Reads as write-reads
 
 write-requires : tie.Need-write-requires
 write-requires c κs = search needs

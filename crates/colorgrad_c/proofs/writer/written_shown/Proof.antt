@@ -4,8 +4,6 @@ use Rattle.colorgrad_c.specs.Writer.{writtenShown}
 use borrow.Author.Needs.{needs}
 use Rattle.colorgrad_c.proofs.writer.written_shown.Statement.{statement}
 use Rattle.colorgrad_c.proofs.writer.written_shown.Tie as tie
-use Rattle.colorgrad_c.proofs.writer.written_shown.Reads as reads
-use Rattle.colorgrad_c.proofs.writer.written_shown.Lts as lts
 
 enum-known-answer : tie.Need-enum-known-answer
 enum-known-answer c = search needs

@@ -1,8 +1,8 @@
 -- `splice` meets its contract: what stands before, what is put in, what stands after. Assumes nothing.
-use mathlib.Core.Path.{_≡_, sym}
+use mathlib.Core.Path.{sym}
 use Prim.Native.Nat.{_≤_}
 use native.Mathlib.Omega.{arith}
-use lib.ListN.{length, take}
+use lib.ListN.{length}
 use lib.Seq.{length-take-le}
 use Rattle.editing.proofs.Splices.{runs-joined}
 use borrow.Author.Needs.{needs}

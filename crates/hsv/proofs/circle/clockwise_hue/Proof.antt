@@ -1,6 +1,6 @@
 -- `circle::clockwise_hue` meets its contract: the mirror of the way up. Assumes nothing.
 use mathlib.Core.Path.{ap}
-use lib.Ieee.{Float, neg}
+use lib.Ieee.{neg}
 use Rattle.hsv.specs.Circle.{downHue}
 use borrow.Author.Needs.{needs}
 use Rattle.hsv.proofs.circle.clockwise_hue.Statement.{statement}

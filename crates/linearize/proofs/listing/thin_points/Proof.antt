@@ -8,6 +8,7 @@ use lib.ListN.{length}
 use lib.Seq.{length-take-le}
 use Rattle.stops.specs.Lent.{rampOf, rampIn}
 use Rattle.stops.proofs.Tables.{no-segments, empty-window}
+use Rattle.stops.proofs.Windows.{followed}
 use Rattle.gradient.specs.Ramp.{colourOf}
 use Rattle.difference.specs.Difference.{exceeds}
 use Rattle.places.specs.Places.{listOf, pointsBefore}
@@ -43,7 +44,7 @@ abbrev last-of : tie.After-emit Inv-loop μ-loop → tie.At-loop Inv-loop μ-loo
 last-of c = c .before .before .before .before .before
 
 table-length : (c : tie.At-loop Inv-loop μ-loop) → length (c .loop .table) ≡ length (first-of c .args .table .now)
-table-length c = c .loop .inv .1 .1 ∙ c .before .before .follow .kept .1 .1 .1 .1 .0
+table-length c = c .loop .inv .1 .1 ∙ c .before .before .follow .kept .1 .1 .1 .1 .1 .0
 
 next-place-requires : tie.Need-next-place-requires Inv-loop μ-loop
 next-place-requires c κs = tt
@@ -61,7 +62,7 @@ evaluate-requires : tie.Need-evaluate-requires Inv-loop μ-loop
 evaluate-requires c κs = tt
 
 follow-requires : tie.Need-follow-requires Inv-loop μ-loop
-follow-requires c κs = empty-window _ _ _ _
+follow-requires c κs = tt
 
 loop-holds : tie.Need-loop-holds Inv-loop μ-loop
 loop-holds c =
@@ -75,7 +76,7 @@ loop-holds c =
     let none = no-segments (a .channels .now) (length (a .positions .now)) 0 (a .table .now) in
     let p = prepared-point _ _ _ (record { fine = at-start .pre .1; segments = none }) _ _ _ (at-point .evaluate .ensures) in (
       started g (exceeds (a .cutoff)) (a .room) (a .rows .now) (a .counts .now) (a .max) (at-start .pre .0 .0) (a .start) (a .out-positions .now) (a .out-channels .now) (at-place .next-place .result) (at-point .evaluate .result) (at-start .pre .0 .1) (at-place .next-place .ensures) (p .0 ∙ at-number .point-at .ensures) (p .1),
-      (at-window .follow .ensures, refl),
+      (followed _ _ _ _ _ _ _ _ (at-window .follow .ensures) (empty-window _ _ _ _), refl),
     )
 
 next-place-requires-2 : tie.Need-next-place-requires-2 Inv-loop μ-loop
@@ -94,7 +95,7 @@ evaluate-requires-2 : tie.Need-evaluate-requires-2 Inv-loop μ-loop
 evaluate-requires-2 c κs = tt
 
 follow-requires-2 : tie.Need-follow-requires-2 Inv-loop μ-loop
-follow-requires-2 c κs = loop-of (c .before) .loop .inv .1 .0
+follow-requires-2 c κs = tt
 
 step-requires : tie.Need-step-requires Inv-loop μ-loop
 step-requires c κs = tt
@@ -112,7 +113,7 @@ same-length-2 c =
 same-length-3 : tie.Need-same-length-3 Inv-loop μ-loop
 same-length-3 c =
     let at-window = c .before .before .before .before .before .before .before .before .before in
-    at-window .follow2 .kept .1 .1 .1 .1 .0 ∙ table-length (loop-of (at-window .before .before))
+    at-window .follow2 .kept .1 .1 .1 .1 .1 .0 ∙ table-length (loop-of (at-window .before .before))
 
 returns : tie.Need-returns Inv-loop μ-loop
 returns c =
@@ -154,7 +155,7 @@ loop-again c =
     let g = colourOf (rampIn (a .kind) (a .positions) (a .channels) (a .codes)) in
     let p = prepared-point _ _ _ (record { fine = at-start .pre .1; segments = l .inv .1 .0 .segments }) _ _ _ (at-point .evaluate2 .ensures) in (
       next g (exceeds (a .cutoff)) (a .room) (a .rows .now) (a .counts .now) (a .max) (at-start .pre .0 .0) _ (l .out-positions) (l .out-channels) (l .s) (l .place) (l .x) (l .inv .0) (at-place .before .if1 .taken) (at-place .next-place2 .result) (at-point .evaluate2 .result) (at-place .next-place2 .ensures) (p .0 ∙ at-number .point-at2 .ensures) (p .1) (at-step .step .last .1 .1 .1 .1 .1 .0) (at-step .step .last .1 .1 .1 .1 .1 .1 .0) (at-step .step .result) (at-step .step .ensures) (c .if2 .left) (at-step .step .kept .1 .1 .1 .1 .1 .0) (at-step .step .kept .1 .1 .1 .1 .1 .1 .0),
-      (at-window .follow2 .ensures, at-window .follow2 .kept .1 .1 .1 .1 .0 ∙ l .inv .1 .1),
+      (followed _ _ _ _ _ _ _ _ (at-window .follow2 .ensures) (l .inv .1 .0), at-window .follow2 .kept .1 .1 .1 .1 .1 .0 ∙ l .inv .1 .1),
     )
 
 emit-requires : tie.Need-emit-requires Inv-loop μ-loop

@@ -1,5 +1,5 @@
 -- `find` meets its contract: what is left of the list gives the same stop from place to place. The measure is what is left of the list. Assumes nothing.
-use mathlib.Core.Path.{_∙_, subst}
+use mathlib.Core.Path.{_∙_}
 use Prim.Native.Nat.{_-_}
 use native.Mathlib.Omega.{arith}
 use lib.ListN.{length}

@@ -1,5 +1,5 @@
 -- `colour_stretch` meets its contract: end by end. Assumes nothing.
-use mathlib.Core.Path.{_≡_, ap, _∙_}
+use mathlib.Core.Path.{ap, _∙_}
 use Prim.Native.Nat.{ℕ}
 use Rattle.reach.specs.Stretch.{leftEnd, rightEnd}
 use Rattle.reach.proofs.Outer.{by-ends}

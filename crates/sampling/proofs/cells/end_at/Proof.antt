@@ -1,6 +1,5 @@
 -- `end_at` meets its contract: the point at the end of the cell. Assumes nothing.
 use mathlib.Core.Path.{_∙_}
-use native.Mathlib.Omega.{arith}
 use Rattle.sampling.proofs.Ends.{end-is}
 use Rattle.sampling.proofs.Tabled.{prepared-point}
 use borrow.Author.Needs.{needs}

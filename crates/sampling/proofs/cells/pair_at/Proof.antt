@@ -1,5 +1,4 @@
 -- `pair_at` meets its contract: the pair that was read, mixed by its kind. Assumes nothing.
-use mathlib.Core.Path.{refl}
 use denote.Ref.{now}
 use lib.ListN.{length}
 use Rattle.stops.specs.Pair.{pairOf, colourIn}

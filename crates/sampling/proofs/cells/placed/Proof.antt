@@ -1,7 +1,5 @@
 -- `placed` meets its contract: by the place. Assumes nothing.
-use mathlib.Core.Path.{refl}
 use denote.Ref.{now}
-use Rattle.stops.specs.declared.Place.the-variants.{End, Nowhere, Between}
 use Rattle.sampling.proofs.Tabled.{by-end, by-nowhere, by-between}
 use borrow.Author.Needs.{needs}
 use Rattle.sampling.proofs.cells.placed.Statement.{statement}

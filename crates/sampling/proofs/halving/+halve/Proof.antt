@@ -60,7 +60,7 @@ halve-returns-2 t c =
     let tested = evaluated .before .before .before in
     let at-start = tested .before .before .before .before .before in
     let m = prepared-point _ _ _ (at-start .pre .1 .1 .ready) _ _ _ (evaluated .evaluate .ensures) in
-    none-kept _ _ _ _ _ _ _ (tested .if1 .left) (keeps-is _ _ _ _ _ _ (evaluated .evaluate .result) _ _ _ (at-start .pre .1 .1) m (c .before .before .interpolate-linear .ensures) (c .before .stands-out .ensures) (not-true _ (c .if2 .taken)))
+    none-kept _ _ _ _ _ _ _ (tested .if1 .left) (keeps-is _ _ (at-start .pre .1 .1 .left) (at-start .pre .1 .1 .right) (m .0) (m .1) (c .before .before .interpolate-linear .ensures) (c .before .stands-out .ensures) (not-true _ (c .if2 .taken)))
 
 halve-sub-n : (t : ℕ) → halve-lts.Need-sub-n (calls t) (halve-at t) halve.Post
 halve-sub-n t c = omega arith
@@ -135,7 +135,7 @@ halve-returns-3 t c =
     let at-start = tested .before .before .before .before .before in
     let evaluated = halved .before .before .before .before .before in
     let m = prepared-point _ _ _ (at-start .pre .1 .1 .ready) _ _ _ (evaluated .evaluate .ensures) in
-    let yes = keeps-is _ _ _ _ _ _ (evaluated .evaluate .result) _ _ _ (at-start .pre .1 .1) m (halved .before .before .before .before .interpolate-linear .ensures) (halved .before .before .before .stands-out .ensures) (not-false _ (halved .before .before .if2 .left)) in
+    let yes = keeps-is _ _ (at-start .pre .1 .1 .left) (at-start .pre .1 .1 .right) (m .0) (m .1) (halved .before .before .before .before .interpolate-linear .ensures) (halved .before .before .before .stands-out .ensures) (not-false _ (halved .before .before .if2 .left)) in
     both-halves _ _ _ _ _ _ _ (tested .if1 .left) (at-start .pre .1 .0) _ _ _ (halved .halve .ensures) _ _ (again .halve2 .ensures) (m .0) yes
 
 pub +halve-spec : {M : Type 1} → statement M

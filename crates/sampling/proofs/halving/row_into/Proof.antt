@@ -10,8 +10,8 @@ use Rattle.sampling.proofs.halving.row_into.Tie as tie
 slice-write-row : tie.Need-slice-write-row
 slice-write-row c = search needs
 
-halve-requires : tie.Need-halve-requires
-halve-requires c κs = (simp length-set (omega arith), c .before .before .before .before .before .pre .1)
+halve-cell-requires : tie.Need-halve-cell-requires
+halve-cell-requires c κs = (simp length-set (omega arith), c .before .before .before .before .before .pre .1)
 
 zero-from-requires : tie.Need-zero-from-requires
 zero-from-requires c κs = search needs
@@ -20,7 +20,7 @@ same-length : tie.Need-same-length
 same-length c =
     let cleared = c .before .before in
     let halved = cleared .before .before .before .before in
-    cleared .zero-from .kept .0 ∙ halved .halve .kept .1 .1 .1 .1 .0 ∙ simp length-set
+    cleared .zero-from .kept .0 ∙ halved .halve-cell .kept .1 .1 .1 .1 .0 ∙ simp length-set
 
 returns : tie.Need-returns
 returns c =
@@ -28,8 +28,8 @@ returns c =
     let halved = cleared .before .before .before .before in
     let at-start = halved .before .before .before .before .before .before in
     let a = at-start .args in
-    row-is _ _ (a .p .t) (a .q .t) (a .row .now) (halved .halve .last .1 .1 .1 .1 .0) _ (halved .halve .result) (at-start .pre .0) (halved .halve .ensures) (cleared .zero-from .ensures)
+    row-is _ _ (a .p .t) (a .q .t) (a .row .now) (halved .halve-cell .last .1 .1 .1 .1 .0) _ (halved .halve-cell .result) (at-start .pre .0) (halved .halve-cell .ensures) (cleared .zero-from .ensures)
 
 pub row-into-spec : {M : Type 1} → statement M
 row-into-spec =
-    tie.close (tie.spec slice-write-row halve-requires zero-from-requires same-length returns)
+    tie.close (tie.spec slice-write-row halve-cell-requires zero-from-requires same-length returns)
