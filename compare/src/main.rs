@@ -1,6 +1,7 @@
 //! Compares the library with the published Rust, and times both.
 
 mod bench;
+mod calls;
 mod clock;
 mod colours;
 mod count;
