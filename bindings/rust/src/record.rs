@@ -19,7 +19,9 @@ pub struct Record {
 }
 
 impl Record {
-    /// A record that was kept elsewhere. Refused with 5 where it is not 4,608 numbers, 36 counts of 1 to 128 and 3 words.
+    /// A record that was kept elsewhere. Refused with 5 where it is not 4,608 numbers, 36 counts of 1 to 128 and 3 words. The
+    /// words are taken as they are: where the first is not the bits of a threshold in force, one that
+    /// [`lent::threshold`](crate::lent::threshold) leaves as it is, every call on the record is refused with 20.
     pub fn from_parts(rows: Vec<f32>, counts: Vec<u8>, marks: Vec<u32>) -> Result<Record, Refusal> {
         let is_shaped = rows.len() == ROWS && counts.len() == CELLS && marks.len() == MARKS;
         if !is_shaped || !counts.iter().all(|count| (1..=128).contains(count)) {
