@@ -17,7 +17,7 @@
 //! # Ok::<(), Refusal>(())
 //! ```
 
-use crate::calls::call;
+use crate::calls;
 use crate::{Color, Edit, ParseGgrError, Refusal, Verdict};
 
 /// How many stops a ramp may have.
@@ -123,6 +123,14 @@ pub(crate) fn answer<T>(number: u32, value: T) -> Result<T, Refusal> {
     }
 }
 
+/// Calls the library with a ramp's four arguments before the others.
+macro_rules! with_ramp {
+    ($call:ident, $ramp:expr $(, $argument:expr)*) => {
+        $crate::calls::$call($ramp.kind as u32, $ramp.positions, $ramp.channels, $ramp.codes $(, $argument)*)
+    };
+}
+pub(crate) use with_ramp;
+
 /// Of the stops and the evaluations that were told.
 fn listed(refusal: u32, [stops, evaluations]: [usize; 2]) -> Result<Listed, Refusal> {
     answer(refusal, Listed { stops, evaluations })
@@ -131,34 +139,34 @@ fn listed(refusal: u32, [stops, evaluations]: [usize; 2]) -> Result<Listed, Refu
 impl Ramp<'_> {
     /// Whether other calls take the ramp: refusals 1, 2, 3.
     pub fn check(&self) -> Result<(), Refusal> {
-        answer(call!(colorgrad_check(of self)), ())
+        answer(with_ramp!(check, self), ())
     }
 
     /// The ends of the domain; 0 and 1 for GIMP segments. Refusals 1, 2, 3.
     pub fn domain(&self) -> Result<(f32, f32), Refusal> {
         let mut ends = [0.0; 2];
-        let refusal = call!(colorgrad_domain_told(of self, out ends));
+        let refusal = with_ramp!(domain, self, &mut ends);
         answer(refusal, (ends[0], ends[1]))
     }
 
     /// The colour at t. Refusals 1, 2, 3.
     pub fn at(&self, t: f32) -> Result<Color, Refusal> {
         let mut channels = [0.0; 4];
-        let refusal = call!(colorgrad_at_told(of self, t, out channels));
+        let refusal = with_ramp!(at, self, t, &mut channels);
         answer(refusal, channels.into())
     }
 
     /// Writes the colours at `ts`, four channels each; what lies past them stays. Refusals 1, 2, 3 leave `out` as it was,
     /// 7 sets it to zero.
     pub fn paint(&self, ts: &[f32], out: &mut [f32]) -> Result<(), Refusal> {
-        answer(call!(colorgrad_paint(of self, lent ts, out out)), ())
+        answer(with_ramp!(paint, self, ts, out), ())
     }
 
     /// Fills a record, whatever was in it: the evaluations. Refusals 1 to 5 leave it as it was.
     pub fn sample(&self, threshold: f32, record: RecordMut<'_>) -> Result<usize, Refusal> {
         let RecordMut { rows, counts, marks } = record;
         let mut told = [0];
-        let refusal = call!(colorgrad_sample_told(of self, threshold, out rows, out counts, out marks, out told));
+        let refusal = with_ramp!(sample, self, threshold, rows, counts, marks, &mut told);
         answer(refusal, told[0])
     }
 
@@ -167,9 +175,7 @@ impl Ramp<'_> {
         let Record { rows, counts, marks } = record;
         let StopsMut { positions, channels } = out;
         let mut told = [0; 2];
-        let refusal = call!(colorgrad_thin_told(
-            of self, threshold, lent rows, lent counts, lent marks, out positions, out channels, out told
-        ));
+        let refusal = with_ramp!(thin, self, threshold, rows, counts, marks, positions, channels, &mut told);
         listed(refusal, told)
     }
 
@@ -180,9 +186,7 @@ impl Ramp<'_> {
         let RecordMut { rows, counts, marks } = record;
         let StopsMut { positions, channels } = out;
         let mut told = [0; 2];
-        let refusal = call!(colorgrad_flatten_told(
-            of self, threshold, out rows, out counts, out marks, out positions, out channels, out told
-        ));
+        let refusal = with_ramp!(flatten, self, threshold, rows, counts, marks, positions, channels, &mut told);
         listed(refusal, told)
     }
 
@@ -193,9 +197,8 @@ impl Ramp<'_> {
         let RecordMut { rows, counts, marks } = record;
         let (sort, stop, position, Color { r, g, b, a }) = edit.parts();
         let mut told = [0];
-        let refusal = call!(colorgrad_edit_told(
-            of self, sort, stop, position, r, g, b, a, threshold, out rows, out counts, out marks, out told
-        ));
+        let refusal =
+            with_ramp!(edit, self, sort, stop, position, r, g, b, a, threshold, rows, counts, marks, &mut told);
         answer(refusal, told[0])
     }
 
@@ -212,10 +215,10 @@ impl Ramp<'_> {
         let StopsMut { positions, channels } = out;
         let (sort, stop, position, Color { r, g, b, a }) = edit.parts();
         let mut told = [0; 2];
-        let refusal = call!(colorgrad_edit_list_told(
-            of self, sort, stop, position, r, g, b, a, threshold,
-            out rows, out counts, out marks, out positions, out channels, out told
-        ));
+        let refusal = with_ramp!(
+            edit_list, self, sort, stop, position, r, g, b, a, threshold, rows, counts, marks, positions, channels,
+            &mut told
+        );
         listed(refusal, told)
     }
 
@@ -223,7 +226,7 @@ impl Ramp<'_> {
     /// disagree are a wrong length. Refused with 1 to 4, of the ramp alone.
     pub fn judge(&self, threshold: f32, positions: &[f32], channels: &[f32]) -> Result<Verdict, Refusal> {
         let (mut told, mut t) = ([0; 4], [0.0]);
-        let refusal = call!(colorgrad_judge_told(of self, threshold, lent positions, lent channels, out told, out t));
+        let refusal = with_ramp!(judge, self, threshold, positions, channels, &mut told, &mut t);
         answer(refusal, ()).map(|()| Verdict::told(told, t[0]))
     }
 }
@@ -234,7 +237,7 @@ pub fn sharp(colors: &[f32], domain: (f32, f32), softness: f32, out: StopsMut<'_
     let StopsMut { positions, channels } = out;
     let (min, max) = domain;
     let mut told = [0];
-    let refusal = call!(colorgrad_sharp_told(lent colors, min, max, softness, out positions, out channels, out told));
+    let refusal = calls::sharp(colors, min, max, softness, positions, channels, &mut told);
     answer(refusal, told[0])
 }
 
@@ -255,9 +258,7 @@ pub fn read(text: &[u8], foreground: Color, background: Color, out: SegmentsMut<
     let Color { r, g, b, a } = foreground;
     let Color { r: br, g: bg, b: bb, a: ba } = background;
     let mut told = [0; 2];
-    let refusal = call!(colorgrad_read_told(
-        lent text, r, g, b, a, br, bg, bb, ba, out positions, out channels, out codes, out told
-    ));
+    let refusal = calls::read(text, r, g, b, a, br, bg, bb, ba, positions, channels, codes, &mut told);
     let [line, segments] = told;
     answer(refusal, segments).map_err(|refusal| ParseGgrError { refusal, line })
 }
@@ -265,7 +266,7 @@ pub fn read(text: &[u8], foreground: Color, background: Color, out: SegmentsMut<
 /// How long the name in a GIMP text is. Its bytes are written where `out` holds them all, else it stays as it was. 0 where
 /// the text would be refused with room for 256 segments.
 pub fn name(text: &[u8], out: &mut [u8]) -> usize {
-    call!(colorgrad_name(lent text, out out))
+    calls::name(text, out)
 }
 
 /// Bytes that are enough for a GIMP text of so many stops: with this room, 7 is never given.
@@ -278,45 +279,45 @@ pub const fn written_bytes(stops: usize) -> usize {
 /// stays as it was; with 19 or 7: all of it is set to zero.
 pub fn write_ggr(positions: &[f32], channels: &[f32], text: &mut [u8]) -> Result<usize, Refusal> {
     let mut told = [0];
-    let refusal = call!(colorgrad_write_ggr_told(lent positions, lent channels, out text, out told));
+    let refusal = calls::write_ggr(positions, channels, text, &mut told);
     answer(refusal, told[0])
 }
 
 /// How long the text of a number is in a GIMP text, 0 where it cannot be written. Its bytes are written where `out` holds
 /// them all, else it stays as it was; [`MOST_NUMERAL`] always suffice.
 pub fn numeral(x: f32, out: &mut [u8]) -> usize {
-    call!(colorgrad_numeral(x, out out))
+    calls::numeral(x, out)
 }
 
 /// How many bytes the tool `flatten` prints for an input. They are written where `output` holds them all, else it is set to
 /// zero. [`MOST_PRINTED`] bytes always suffice.
 pub fn desk(input: &[u8], output: &mut [u8]) -> usize {
-    call!(colorgrad_desk(lent input, out output))
+    calls::desk(input, output)
 }
 
 /// The number that the bytes are: a sign or none, digits with a point or none, 1 to 18 of them.
 pub fn token(text: &[u8]) -> Option<f32> {
     let mut value = [0.0];
-    let is_number = call!(colorgrad_token_told(lent text, out value)) != 0;
+    let is_number = calls::token(text, &mut value) != 0;
     is_number.then_some(value[0])
 }
 
 /// The threshold that calls take where this one is asked for: 0.001 to 0.035, and 0.007 for one that is not finite.
 pub fn threshold(asked: f32) -> f32 {
-    call!(colorgrad_threshold(asked))
+    calls::threshold(asked)
 }
 
 /// The correctly rounded square root of any number.
 pub fn root(x: f32) -> f32 {
-    call!(colorgrad_root(x))
+    calls::root(x)
 }
 
 /// The number such that, for every s, half the root of s is above t exactly when s is above it.
 pub fn cutoff(t: f32) -> f32 {
-    call!(colorgrad_cutoff(t))
+    calls::cutoff(t)
 }
 
 /// The version of the library that is linked, 1000 * (1000 * major + minor) + patch: this crate's own.
 pub fn version() -> u32 {
-    call!(colorgrad_version())
+    calls::version()
 }

@@ -134,7 +134,8 @@ impl List {
     /// The list as the text of a GIMP gradient, named `flattened`: linear RGB segments, 9 significant digits. Reading it
     /// gives the segments back, bit for bit. Refused with 1 where it has more than 257 stops, and with 19 where it does not
     /// run from 0 to 1 or a number other than zero, a half-way point too, has a magnitude below 1e-6 or above 1e6: so a
-    /// list of a smooth ramp, whose channel came out as 3e-8, is refused.
+    /// list of a smooth ramp, whose channel came out as 3e-8, is refused, and one in metres must be taken to 0..1 first. A
+    /// channel of a basis ramp's list may be 1.00000012: it is written so, and Inkscape refuses to read it.
     ///
     /// ```
     /// use guineaplume::{Color, GimpGradient, Gradient, LinearGradient};

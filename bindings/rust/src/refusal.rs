@@ -1,6 +1,6 @@
 //! Why an answer was refused.
 
-use crate::calls::{call, text};
+use crate::calls;
 use std::error::Error;
 use std::fmt;
 
@@ -96,10 +96,17 @@ impl Refusal {
     }
 }
 
+/// The text that a call of the library writes, which is asked first how long it is.
+pub(crate) fn text(write: impl Fn(&mut [u8]) -> usize) -> String {
+    let mut bytes = vec![0; write(&mut [])];
+    write(&mut bytes);
+    String::from_utf8(bytes).expect("the library's words are ASCII")
+}
+
 /// The library's words.
 impl fmt::Display for Refusal {
     fn fmt(&self, f: &mut fmt::Formatter<'_>) -> fmt::Result {
-        f.write_str(&text(|out| call!(colorgrad_message_told(self.number(), out out))))
+        f.write_str(&text(|out| calls::message(self.number(), out)))
     }
 }
 

@@ -2,8 +2,7 @@
 
 use std::iter::FusedIterator;
 
-use crate::calls::call;
-use crate::lent::{answer, Ramp, Record};
+use crate::lent::{answer, with_ramp, Ramp, Record};
 use crate::{Color, Refusal};
 
 /// Where a caller is in a list: all that is kept between two steps.
@@ -61,9 +60,8 @@ impl Ramp<'_> {
         let Record { rows, counts, marks } = record;
         let (state, row, index) = place.plain();
         let (mut told, mut stop) = ([0; 5], [0.0; 5]);
-        let refusal = call!(colorgrad_next_stop_told(
-            of self, threshold, lent rows, lent counts, lent marks, state, row, index, out told, out stop
-        ));
+        let refusal =
+            with_ramp!(next_stop, self, threshold, rows, counts, marks, state, row, index, &mut told, &mut stop);
         let [has_stop, evaluations, state, row, index] = told;
         let [position, r, g, b, a] = stop;
         let stop = (has_stop != 0).then_some((position, Color { r, g, b, a }));

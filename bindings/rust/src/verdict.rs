@@ -1,7 +1,8 @@
 //! What is said of a list that was made elsewhere.
 
-use crate::calls::{call, text};
+use crate::calls;
 use crate::lent::CELLS;
+use crate::refusal::text;
 use std::fmt;
 
 /// What is said of a list of stops that was made elsewhere: yes, or no with the first thing that is wrong.
@@ -86,7 +87,7 @@ impl Verdict {
 /// The library's words, with the stop or the point that is named.
 impl fmt::Display for Verdict {
     fn fmt(&self, f: &mut fmt::Formatter<'_>) -> fmt::Result {
-        let said = text(|out| call!(colorgrad_verdict_message_told(self.number(), out out)));
+        let said = text(|out| calls::verdict_message(self.number(), out));
         match *self {
             Verdict::BadStop { stop } => f.write_str(&said.replacen("a stop", &format!("stop {stop}"), 1)),
             Verdict::TooFar { row: CELLS, t, .. } => write!(f, "{said} at {t} (the end of the ramp)"),
