@@ -7,7 +7,14 @@
  * lengths may disagree, numbers may be anything; what cannot be used is refused with a number below. The one thing to keep
  * to is C's own: each pointer is to as many items as its length says, and a slice that a call writes overlaps no other.
  *
- * Stack: some 116 KB for colorgrad_desk, 68 KB to edit, 44 KB to judge, 26 KB to sample, flatten or paint, and below 13 KB
+ *     static ColorgradRecordRoom record;
+ *     static ColorgradListRoom list;
+ *     ColorgradRamp ramp = colorgrad_ramp(COLORGRAD_LINEAR, colorgrad_stops(positions, channels, 4));
+ *     ColorgradListed made = colorgrad_ramp_flatten(ramp, COLORGRAD_THRESHOLD, colorgrad_record(&record), colorgrad_list(&list));
+ *     if (made.refusal != COLORGRAD_FINE)
+ *         puts(colorgrad_message(made.refusal));
+ *
+ * Stack: some 120 KB for colorgrad_desk, 70 KB to edit, 45 KB to judge, 26 KB to sample, flatten or paint, and below 13 KB
  * for every other call. These were read off the compiled code for x86-64, and are not proved (docs/SPEED.md).
  *
  * The calls stand in three headers. This one has those over structs, which are for programs. colorgrad_long.h has the same

@@ -1,6 +1,7 @@
 /* Guineaplume: the calls of version 0.1.0, each argument by itself, answering structs. colorgrad.h includes this header, and
- * says there, at the call over structs of the same name, what each does and what a refusal leaves. A record or a list that
- * may not be written is lent by these alone. */
+ * says what each does and what a refusal leaves: of colorgrad_flatten at colorgrad_ramp_flatten, and so on; of colorgrad_sharp
+ * at colorgrad_build_sharp, of colorgrad_read at colorgrad_read_segments, of colorgrad_write_ggr at colorgrad_write_stops, and
+ * of colorgrad_refresh at colorgrad_ramp_edit, since it is an edit of a colour. A record that is const is lent by these alone. */
 #ifndef COLORGRAD_H
 #error "include colorgrad.h"
 #endif
