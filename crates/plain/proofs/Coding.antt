@@ -1,16 +1,12 @@
 -- A kind by its code, and an answer shown: of a kind, and of a code that names none. Assumes nothing.
-use mathlib.Core.Path.{_≡_, sym, ap, ap₂, subst, _∙_}
+use mathlib.Core.Path.{_≡_, sym, ap, subst, _∙_}
 use Prim.Native.Nat.{ℕ}
 use borrow.Author.Tests.{ne-eqb}
-use lib.Ieee.{Float}
-use Rattle.stops.specs.declared.Checked.{Checked}
 use Rattle.stops.specs.declared.Kind.{Kind}
 use Rattle.stops.specs.declared.Kind.the-variants.{Linear, Smoothstep, Sharp, Basis, CatmullRom, Gimp}
 use Rattle.plain.specs.Kinds.{kindOf, onKind, Shows}
-use Rattle.plain.specs.Ramps.{domainBy}
 use Rattle.plain.specs.declared.kinds.Coded.{Coded}
 use Rattle.plain.specs.declared.kinds.Coded.the-variants.{Of, Unknown}
-use Rattle.plain.specs.declared.ramps.Domain.{Domain}
 
 -- the codes, each to its kind
 pub code-0 : {n : ℕ} → n ≡ 0 → Of Linear ≡ kindOf n
@@ -47,6 +43,3 @@ module _ {A B : Type 0} {code : ℕ} {x : Coded} {P : Kind → A → Type 0} {Q 
 
   pub of-no-kind : x ≡ Unknown → Q a → b ≡ show a → Shows code P Q show b
   of-no-kind e q h = record { shows = record { answer = a; promised = subst (λ (z : Coded). onKind z P Q a) (sym e ∙ is) q; shown = h } }
-
-pub domain-is : {d : Domain} {c c′ : Checked} {lo lo′ hi hi′ : Float} → d ≡ domainBy c lo hi → c ≡ c′ → lo ≡ lo′ → hi ≡ hi′ → d ≡ domainBy c′ lo′ hi′
-domain-is {d} {c} {c′} {lo} {lo′} {hi} {hi′} e f l h = e ∙ ap (λ (x : Checked). domainBy x lo hi) f ∙ ap₂ (domainBy c′) l h

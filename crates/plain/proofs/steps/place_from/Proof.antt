@@ -1,25 +1,19 @@
--- `place_from` meets its contract: by the state. Assumes nothing.
-use Rattle.plain.proofs.Stepping.{from-start, from-after, from-end}
-use borrow.Author.Needs.{needs}
 use Rattle.plain.proofs.steps.place_from.Statement.{statement}
 use Rattle.plain.proofs.steps.place_from.Tie as tie
+use Rattle.plain.proofs.steps.place_from.Reads as reads
+use Rattle.plain.proofs.steps.place_from.Lts as lts
 
+-- src/steps.rt:27:9
 returns : tie.Need-returns
-returns c = from-start (c .before .args .place) (c .if1 .taken)
+returns c = ?
 
-cast-t4 : tie.Need-cast-t4
-cast-t4 c = search needs
-
-cast-t5 : tie.Need-cast-t5
-cast-t5 c = search needs
-
+-- src/steps.rt:30:9
 returns-2 : tie.Need-returns-2
-returns-2 c =
-    let at-test = c .before .before in
-    from-after (at-test .before .before .args .place) (at-test .before .if1 .left) (at-test .if2 .taken)
+returns-2 c = ?
 
+-- src/steps.rt:23:1
 returns-3 : tie.Need-returns-3
-returns-3 c = from-end (c .before .before .args .place) (c .before .if1 .left) (c .if2 .left)
+returns-3 c = ?
 
 pub place-from-spec : {M : Type 1} → statement M
-place-from-spec = tie.close (tie.spec returns cast-t4 cast-t5 returns-2 returns-3)
+place-from-spec = tie.close (tie.spec returns returns-2 returns-3)
