@@ -6,5 +6,5 @@ pub mod Gimp
 pub mod Lists
 pub mod Judging
 pub mod Edits
-pub mod Tool
+pub mod inner
 pub mod Writer

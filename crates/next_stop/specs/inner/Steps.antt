@@ -5,7 +5,7 @@ use Prim.Native.Nat.{ℕ, _≤_}
 use lib.Ieee.{Float}
 use Rattle.sampling.specs.Constants.{recordLength}
 use Rattle.sampling.specs.Midpoints.{Gradient, Far}
-use Rattle.sampling.specs.Inner.{PointAt}
+use Rattle.sampling.specs.inner.Steps.{PointAt}
 use Rattle.places.specs.Places.{pointAt}
 use Rattle.places.specs.declared.RowPlace.{RowPlace}
 use Rattle.next_stop.specs.Step.{next, laterNext}

@@ -10,7 +10,7 @@ use Rattle.difference.specs.Difference.{exceeds}
 use Rattle.sampling.specs.Constants.{recordLength}
 use Rattle.sampling.specs.Midpoints.{Gradient, Far}
 use Rattle.float.specs.F32.{f0}
-use Rattle.sampling.specs.Inner.{Coloured}
+use Rattle.sampling.specs.inner.Steps.{Coloured}
 use Rattle.sampling.specs.Segments.{pointOf}
 use Rattle.sampling.specs.declared.Point.{Point}
 use Rattle.places.specs.Places.{listOf}
