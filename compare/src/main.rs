@@ -46,12 +46,13 @@ use std::path::Path;
 use std::process::ExitCode;
 
 const USAGE: &str = "compare COMMAND [N] [--seed S] [--case I]
-  roots tokens colours sine sharp texts counts torn lists refresh edits marks many promise   one comparison, of N inputs
+  roots tokens colours sine hues sharp texts counts torn lists refresh edits marks many promise steps numerals written judge
+                     one comparison, of N inputs or at its full size
   all [PERCENT]      every comparison, at its full size or at that part of it
   differences        the smallest inputs of docs/DIFFERENCES.md, with the Rust's answers and ours
   gimp FOLDER [N]    N lists written there as .ggr files (200), for compare/gimp.py
   files FOLDER       the .ggr files in it, as compare/fetch gets them
-  bench [TABLE]      times beside the Rust's: root token paint files read flatten refresh
+  bench [TABLE]      times beside the Rust's: root token paint files read flatten growth refresh
   count [TABLE]      instructions in place of times, by valgrind's callgrind
   own [N] [FOLDER]   how many of our own lists are turned down, of N random ramps and of the .ggr files in FOLDER
   typing             request (x): how much of a fresh flattening a keystroke is, and whether its two figures hold
