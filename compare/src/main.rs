@@ -1,6 +1,9 @@
 //! Compares the library with the published Rust, and times both.
 
 mod bench;
+// the exports, declared once in the repository; not all of them are compared here
+#[allow(dead_code)]
+#[path = "../../bindings/rust/src/calls.rs"]
 mod calls;
 mod clock;
 mod colours;
