@@ -35,6 +35,7 @@ mod sample;
 mod sharp;
 mod shown;
 mod sine;
+mod sine_lists;
 mod smallest;
 mod steps;
 mod texts;
@@ -65,11 +66,12 @@ const USAGE: &str = "compare COMMAND [N] [--seed S] [--case I]
 type Comparison = (&'static str, fn(&Options) -> Vec<Tally>, u64);
 
 /// Each comparison with its full size.
-const COMPARISONS: [Comparison; 19] = [
+const COMPARISONS: [Comparison; 20] = [
     ("roots", roots::run, 1 << 32),
     ("tokens", tokens::run, 100_000_000),
     ("colours", colours::run, 2_000_000),
     ("sine", sine::run, 12_000_000),
+    ("waves", sine_lists::run, 100_000),
     ("hues", hues::run, 12_000_000),
     ("sharp", sharp::run, 1_000_000),
     ("texts", texts::run, 200_000),
