@@ -50,7 +50,7 @@ use std::path::Path;
 use std::process::ExitCode;
 
 const USAGE: &str = "compare COMMAND [N] [--seed S] [--case I]
-  roots tokens colours sine hues sharp texts counts torn lists refresh edits marks many promise steps numerals written judge
+  roots tokens colours sine waves hues sharp texts counts torn lists refresh edits marks many promise steps numerals written judge
                      one comparison, of N inputs or at its full size
   all [PERCENT]      every comparison, at its full size or at that part of it
   differences        the smallest inputs of docs/DIFFERENCES.md, with the Rust's answers and ours
