@@ -1,7 +1,7 @@
 #!/usr/bin/env python3
 """Reads the tool's input as document 01 says, beside the tool itself: random texts, every byte of the answers compared.
 
-    compare/desk.py [N]                    N texts (100,000) through target/bin/flatten, which `rt check flatten` builds
+    compare/desk.py [N]                    N texts (100,000) through the tool, as ./flatten starts it
     compare/desk.py --case SEED            one of them alone
     compare/desk.py --answer FILE          what this reading prints for a file
     compare/desk.py --store                writes what the program `grammar` runs in the gate, and the answers
@@ -14,13 +14,14 @@ import random
 import subprocess
 import sys
 from collections import Counter
+from functools import cache
 from pathlib import Path
 
 sys.dont_write_bytecode = True
 
 from document import DEFAULT, Ramp, Refusal, bits_of, number, refresh, sample, thin, threshold_of
 
-PROGRAM = Path(__file__).resolve().parent.parent / "target/bin/flatten"
+READY = Path(__file__).resolve().parent.parent / "tool/ready"
 MOST_BYTES, MOST_STOPS, ROOM = 16384, 512, 1000
 
 
@@ -358,8 +359,14 @@ def store():
 
 # ---- the comparison
 
+@cache
+def tool():
+    """The words that start the tool on this machine."""
+    return subprocess.run([str(READY)], stdout=subprocess.PIPE, check=True, text=True).stdout.split("\n")[:-1]
+
+
 def printed(data):
-    return subprocess.run([str(PROGRAM)], input=data, stdout=subprocess.PIPE, check=True).stdout
+    return subprocess.run(tool(), input=data, stdout=subprocess.PIPE, check=True).stdout
 
 
 def compare(seeds):
