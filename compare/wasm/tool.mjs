@@ -1,40 +1,13 @@
 #!/usr/bin/env node
-// wasm.mjs [FILE ..]: the library as WebAssembly beside the tool, on inputs of the tool; examples/*.tsv where none is named.
+// tool.mjs [FILE ..]: the library as WebAssembly beside the tool, on inputs of the tool; examples/*.tsv where none is named.
 // Of each file three texts are compared, byte for byte: what ./flatten prints; what colorgrad_desk answers; and, where the
-// input is read, the same text put together here of tokens, a sampling, an edit and a list. ./library makes the library.
+// input is read, the same text put together here of tokens, a sampling, an edit and a list.
 import { execFileSync } from 'node:child_process';
 import { readdirSync, readFileSync } from 'node:fs';
-import { dirname, join } from 'node:path';
-import { fileURLToPath } from 'node:url';
+import { join } from 'node:path';
+import { call, CELLS, copy, lend, MARKS, ROOT, ROWS, takeBack } from './library.mjs';
 
-const ROOT = dirname(dirname(fileURLToPath(import.meta.url)));
-const [CELLS, ROWS, MARKS, ROOM, MOST_PRINTED, THRESHOLD] = [36, 4608, 3, 1000, 50029, 0.007];
-
-const wasm = execFileSync(join(ROOT, 'library'), ['wasm'], { encoding: 'utf8' }).trimEnd();
-// the remainder of two f32 is an f32, so that of two doubles is it
-const imports = { env: { fmodf: (x, y) => x % y } };
-const { instance: { exports } } = await WebAssembly.instantiate(readFileSync(wasm), imports);
-exports.memory.grow(16);
-let top = 0;
-
-/** Room in the library's memory, past all that was lent since the start of this input. */
-function lend(Type, length) {
-    const view = new Type(exports.memory.buffer, top, length);
-    top += (view.byteLength + 7) & ~7;
-    return view;
-}
-
-function copy(Type, items) {
-    const view = lend(Type, items.length);
-    view.set(items);
-    return view;
-}
-
-/** A slice goes over as its address and its length, which has 64 bits. */
-function call(name, ...given) {
-    const words = given.flatMap(x => (ArrayBuffer.isView(x) ? [x.byteOffset, BigInt(x.length)] : [x]));
-    return exports[`colorgrad_${name}`](...words);
-}
+const [ROOM, MOST_PRINTED, THRESHOLD] = [1000, 50029, 0.007];
 
 function desk(input) {
     const out = lend(Uint8Array, MOST_PRINTED);
@@ -93,7 +66,7 @@ function differs(file) {
     const printed = execFileSync(join(ROOT, 'flatten'), [file], { encoding: 'utf8' });
     const texts = [];
     for (const answer of printed.startsWith('unread') ? [desk] : [desk, putTogether]) {
-        top = exports.__heap_base.value;
+        takeBack();
         texts.push([answer.name, answer(input)]);
     }
     const wrong = texts.filter(([, text]) => text !== printed);
