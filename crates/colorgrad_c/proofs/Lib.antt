@@ -3,3 +3,4 @@ pub mod Writing
 pub mod Sorted
 pub mod Printing
 pub mod Stepping
+pub mod Messages
