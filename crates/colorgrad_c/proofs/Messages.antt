@@ -4,15 +4,15 @@ use mathlib.Core.Bool.{Bool, true, false, cond, _&&_}
 use mathlib.Core.List.{List, [], _∷_, _++_}
 use Prim.Native.Nat.{ℕ, zero, suc, _+_, _-_, _≤_, _<_}
 use Prim.Native.String.{String, [] as empty}
+use native.Mathlib.Nat.{sub-zero}
 use native.Mathlib.Omega.{arith}
 use lib.Dec.{leb, ltb}
 use lib.ListN.{length, getD, take, drop}
-use borrow.Author.Tests.{leb-true, ltb-true, ltb-false}
+use borrow.Author.Tests.{leb-true, ltb-true, ltb-false, lt-ltb, le-ltb}
 use Rattle.float.proofs.Flags.{both-l, both-r}
 use Rattle.text.specs.Text.{every, lines, firstOf, restOf}
 use Rattle.text.specs.Places.{LineAt}
 use Rattle.ggr_writing.proofs.Parts.{Shown, lines-line}
-use Rattle.plain.specs.Name.{named}
 use Rattle.colorgrad_c.specs.About.{bytesIn}
 
 -- ---- line k of a text
@@ -33,7 +33,7 @@ pub record Passed (s : List ℕ) (k at i : ℕ) : Type 0 where
   pub line : getD (lines (drop at s)) (k - i) [] ≡ getD (lines s) k []
 
 pub passed-none : (s : List ℕ) (k : ℕ) → Passed s k 0 0
-passed-none s k = record { within = omega arith; left = omega arith; line = refl }
+passed-none s k = record { within = omega arith; left = omega arith; line = rw sub-zero }
 
 pub passed-more : {s : List ℕ} {k at i end next : ℕ} → Passed s k at i → i < k → LineAt s at end next → Passed s k next (i + 1)
 passed-more {s} {k} {at} {i} {end} {next} p h l =
@@ -95,11 +95,14 @@ chosen ts other n = go (ltb n (length ts)) refl where
   go true e = among ts other n (ltb-true n (length ts) e)
   go false e = other-last ts other ∙ sym (past ts other n (ltb-false n (length ts) e))
 
--- what is written of line k is the text of the number n
-pub says : (ts : List String) (other : String) (n : ℕ) {k r : ℕ} (all out : List ℕ) {out′ : List ℕ} → all ≡ joinedTexts (ts ++ (other ∷ [])) → allShow (ts ++ (other ∷ [])) ≡ true
-    → k ≡ cond (ltb n (length ts)) n (length ts) → (r ≡ length (getD (lines all) k [])) × (out′ ≡ named (getD (lines all) k []) out)
-    → (r ≡ length (bytesIn (getD ts n other))) × (out′ ≡ named (bytesIn (getD ts n other)) out)
-says ts other n {k} all out e shows f h =
-    let is : getD (lines all) k [] ≡ bytesIn (getD ts n other) =
-    ap (λ (s : List ℕ). getD (lines s) k []) e ∙ line-is (ts ++ (other ∷ [])) k shows ∙ ap (λ (i : ℕ). bytesIn (getD (ts ++ (other ∷ [])) i empty)) f ∙ ap bytesIn (chosen ts other n) in
-    (h .0 ∙ ap length is, h .1 ∙ ap (λ (l : List ℕ). named l out) is)
+pub text-in : {n most : ℕ} → n < most → n ≡ cond (ltb n most) n most
+text-in {n} {most} h = rw (lt-ltb n most h)
+
+pub text-out : {n most : ℕ} → most ≤ n → most ≡ cond (ltb n most) n most
+text-out {n} {most} h = rw (le-ltb n most h)
+
+-- line k of texts is the text of the number n
+pub text-is : (ts : List String) (other : String) (n : ℕ) {k : ℕ} (all : List ℕ) → all ≡ joinedTexts (ts ++ (other ∷ [])) → allShow (ts ++ (other ∷ [])) ≡ true
+    → k ≡ cond (ltb n (length ts)) n (length ts) → getD (lines all) k [] ≡ bytesIn (getD ts n other)
+text-is ts other n {k} all e shows f =
+    ap (λ (s : List ℕ). getD (lines s) k []) e ∙ line-is (ts ++ (other ∷ [])) k shows ∙ ap (λ (i : ℕ). bytesIn (getD (ts ++ (other ∷ [])) i empty)) f ∙ ap bytesIn (chosen ts other n)

@@ -1,15 +1,12 @@
--- An answer of the writer told, and a number's bytes. Assumes nothing.
+-- An answer of the writer told, and a name written. Assumes nothing.
 use mathlib.Core.Path.{_≡_, ap, _∙_}
 use mathlib.Core.List.{List, [], _∷_}
 use Prim.Native.Nat.{ℕ}
-use lib.ListN.{length, take}
-use lib.Ieee.{Float}
+use lib.ListN.{length}
 use Rattle.stops.specs.Lent.{Change}
 use Rattle.plain.specs.Telling.{telling, Reply}
 use Rattle.plain.specs.Name.{named}
 use Rattle.plain.proofs.Stored.{tells-same}
-use Rattle.numerals.specs.Written.{textOf, TextIs}
-use Rattle.numerals.proofs.Theorems.{bytes-are}
 use Rattle.ggr_writing.specs.File.{FileWritten, WritesAs, numberOfWriteAnswer, bytesOfWriteAnswer}
 use Rattle.ggr_writing.specs.declared.WriteAnswer.{WriteAnswer}
 use Rattle.colorgrad_c.specs.Writer.{ShowsText}
@@ -25,9 +22,6 @@ shows-written d h =
       left = d .left;
     }
 
--- the bytes that are handed over
-pub numeral-put : (x : Float) (out : List ℕ) {bytes out′ : List ℕ} {len r : ℕ} → TextIs (textOf x) bytes len → r ≡ length (take len bytes) → out′ ≡ named (take len bytes) out
-    → (r ≡ length (textOf x)) × (out′ ≡ named (textOf x) out)
-numeral-put x out {bytes} {out′} {len} {r} t e f =
-    let b = bytes-are (textOf x) bytes len t in
-    (e ∙ ap length b, f ∙ ap (λ (l : List ℕ). named l out) b)
+-- what is written of a name is written of one that equals it
+pub written-same : (out : List ℕ) {out′ name name′ : List ℕ} {r : ℕ} → (r ≡ length name) × (out′ ≡ named name out) → name ≡ name′ → (r ≡ length name′) × (out′ ≡ named name′ out)
+written-same out h e = (h .0 ∙ ap length e, h .1 ∙ ap (λ (l : List ℕ). named l out) e)

@@ -1,53 +1,48 @@
+-- `tell_read` meets its contract: each case of an answer is told. Assumes nothing.
+use mathlib.Core.List.{[], _∷_}
+use Rattle.ggr.specs.File.{numberOfAnswer, lineOfAnswer, segmentsOfAnswer}
+use Rattle.ggr.specs.declared.Answer.{Answer}
+use Rattle.plain.proofs.Stored.{told-case}
 use borrow.Author.Needs.{needs}
 use Rattle.colorgrad_c.proofs.gimp.tell_read.Statement.{statement}
 use Rattle.colorgrad_c.proofs.gimp.tell_read.Tie as tie
-use Rattle.colorgrad_c.proofs.gimp.tell_read.Reads as reads
-use Rattle.colorgrad_c.proofs.gimp.tell_read.Lts as lts
-use Rattle.plain.proofs.telling.tell_numbers.Reads as tell-numbers-reads
 
--- src/gimp.rt:23:22
 enum-known-answer : tie.Need-enum-known-answer
 enum-known-answer c = search needs
 
--- src/gimp.rt:24:32
 slice-aggregate-tell-numbers : tie.Need-slice-aggregate-tell-numbers
 slice-aggregate-tell-numbers c = search needs
 
--- src/gimp.rt:24:13
 tell-numbers-requires : tie.Need-tell-numbers-requires
 tell-numbers-requires c κs = search needs
 
--- src/gimp.rt:27:25
 enum-known-answer-2 : tie.Need-enum-known-answer-2
 enum-known-answer-2 c = search needs
 
--- src/gimp.rt:28:32
 slice-aggregate-tell-numbers-2 : tie.Need-slice-aggregate-tell-numbers-2
 slice-aggregate-tell-numbers-2 c = search needs
 
--- src/gimp.rt:28:13
 tell-numbers-requires-2 : tie.Need-tell-numbers-requires-2
 tell-numbers-requires-2 c κs = search needs
 
--- src/gimp.rt:29:13
 cast-result : tie.Need-cast-result
 cast-result c = search needs
 
--- src/gimp.rt:18:1
 same-length : tie.Need-same-length
 same-length c = search needs
 
--- src/gimp.rt:18:1
 returns : tie.Need-returns
-returns c = ?
+returns c =
+    let told = c .before .before in let case = told .before .before .before .before in
+    told-case _ numberOfAnswer (λ (x : Answer). lineOfAnswer x ∷ segmentsOfAnswer x ∷ []) (case .answer .given .1) (told .tell-numbers .ensures)
 
--- src/gimp.rt:18:1
 same-length-2 : tie.Need-same-length-2
 same-length-2 c = search needs
 
--- src/gimp.rt:18:1
 returns-2 : tie.Need-returns-2
-returns-2 c = ?
+returns-2 c =
+    let told = c .before .before in let case = told .before .before .before .before in
+    told-case _ numberOfAnswer (λ (x : Answer). lineOfAnswer x ∷ segmentsOfAnswer x ∷ []) (case .answer2 .given .1) (told .tell-numbers2 .ensures)
 
 pub tell-read-spec : {M : Type 1} → statement M
 tell-read-spec =

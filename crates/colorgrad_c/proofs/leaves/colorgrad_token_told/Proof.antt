@@ -1,26 +1,24 @@
+-- `colorgrad_token_told` meets its contract: the token that is read, told. Assumes nothing.
+use mathlib.Core.Path.{ap, _∙_}
+use Rattle.plain.proofs.Stored.{tells-same}
+use Rattle.colorgrad_c.specs.Leaves.{isNumber, valueTold}
 use borrow.Author.Needs.{needs}
 use Rattle.colorgrad_c.proofs.leaves.colorgrad_token_told.Statement.{statement}
 use Rattle.colorgrad_c.proofs.leaves.colorgrad_token_told.Tie as tie
-use Rattle.colorgrad_c.proofs.leaves.colorgrad_token_told.Reads as reads
-use Rattle.colorgrad_c.proofs.leaves.colorgrad_token_told.Lts as lts
-use Rattle.colorgrad_c.proofs.leaves.tell_token.Reads as tell-token-reads
-use Rattle.decimal.proofs.read.Reads as read-reads
 
--- src/leaves.rt:60:16
 read-requires : tie.Need-read-requires
 read-requires c κs = search needs
 
--- src/leaves.rt:60:5
 tell-token-requires : tie.Need-tell-token-requires
 tell-token-requires c κs = search needs
 
--- src/leaves.rt:55:1
 same-length : tie.Need-same-length
 same-length c = search needs
 
--- src/leaves.rt:55:1
 returns : tie.Need-returns
-returns c = ?
+returns c =
+    let told = c .before .before in let e = told .before .before .read .ensures in
+    (told .tell-token .ensures .0 ∙ ap isNumber e, tells-same _ (told .tell-token .ensures .1) (ap valueTold e))
 
 pub colorgrad-token-told-spec : {M : Type 1} → statement M
 colorgrad-token-told-spec =
