@@ -1,6 +1,6 @@
 -- Judging a list, for a kind given by its code.
 use mathlib.Core.Path.{_≡_}
-use mathlib.Core.List.{List}
+use mathlib.Core.List.{List, [], _∷_}
 use Prim.Native.Nat.{ℕ}
 use lib.Ieee.{Float}
 use Rattle.refusals.specs.Refusals.{misshapen}
@@ -12,11 +12,12 @@ use Rattle.judge.specs.declared.Verdict.{Verdict}
 use Rattle.judge.specs.declared.Verdict.the-variants as verdict
 use Rattle.plain.specs.Telling.{Reply}
 use Rattle.plain.specs.Kinds.{CodedRamp, TellsBoth}
-use Rattle.plain.specs.Verdicts.{verdictTold, pointTold}
+use Rattle.plain.specs.Verdicts.{verdictTold, pointOf}
 
 -- the promise of `judge`, of a ramp of any kind; a code that names no kind is 1
 abbrev pub CodedJudges : CodedRamp → Float → Offer → Reply (List ℕ × List Float) → Type 0
 CodedJudges by asked offer =
     TellsBoth (by .code) (λ (kind : Kind). Judges (by .ramp kind) asked offer)
     (λ (a : Verdict). a ≡ verdict.Refused misshapen)
-    numberOfVerdict verdictTold pointTold
+    numberOfVerdict verdictTold
+    (λ (a : Verdict). pointOf a ∷ [])

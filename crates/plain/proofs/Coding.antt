@@ -1,5 +1,5 @@
 -- A kind by its code, and an answer shown: of a kind, and of a code that names none. Assumes nothing.
-use mathlib.Core.Path.{_≡_, sym, ap, subst, _∙_}
+use mathlib.Core.Path.{_≡_, sym, ap, ap₂, subst, _∙_}
 use Prim.Native.Nat.{ℕ}
 use borrow.Author.Tests.{ne-eqb}
 use Rattle.stops.specs.declared.Kind.{Kind}
@@ -43,3 +43,10 @@ module _ {A B : Type 0} {code : ℕ} {x : Coded} {P : Kind → A → Type 0} {Q 
 
   pub of-no-kind : x ≡ Unknown → Q a → b ≡ show a → Shows code P Q show b
   of-no-kind e q h = record { shows = record { answer = a; promised = subst (λ (z : Coded). onKind z P Q a) (sym e ∙ is) q; shown = h } }
+
+-- a number and what is told, as one answer: into one slice, and into two
+pub paired : {A B : Type 0} {a c : A} {b d : B} → (a ≡ c) × (b ≡ d) → _≡_ {A = A × B} (a, b) (c, d)
+paired {A} {B} h = ap₂ (λ (x : A) (y : B). (x, y)) (h .0) (h .1)
+
+pub paired-both : {A B C : Type 0} {a d : A} {b e : B} {c f : C} → (a ≡ d) × ((b ≡ e) × (c ≡ f)) → _≡_ {A = A × (B × C)} (a, (b, c)) (d, (e, f))
+paired-both h = paired (h .0, paired (h .1))

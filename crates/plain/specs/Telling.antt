@@ -6,7 +6,7 @@ use lib.Seq.{sets}
 use Rattle.stops.specs.Lent.{Change, change, Lent, old, new}
 
 -- xs from the start of a slice on, as many as it holds; what lies past the last of them stays
-abbrev pub telling : {A : Type 0} → List A → List A → List A
+unfoldable pub telling : {A : Type 0} → List A → List A → List A
 telling xs was = sets was 0 xs
 
 -- what a call answers: a number, and what it tells into was and is

@@ -17,11 +17,11 @@ verdictTold (TooFar row index t) = 6 ∷ 0 ∷ row ∷ index ∷ []
 verdictTold (Refused n) = 0 ∷ 0 ∷ 0 ∷ 0 ∷ []
 
 -- the t of the point
-abbrev pub pointTold : Verdict → List Float
-pointTold Yes = f0 ∷ []
-pointTold WrongLength = f0 ∷ []
-pointTold (BadStop stop) = f0 ∷ []
-pointTold WrongFirst = f0 ∷ []
-pointTold WrongLast = f0 ∷ []
-pointTold (TooFar row index t) = t ∷ []
-pointTold (Refused n) = f0 ∷ []
+abbrev pub pointOf : Verdict → Float
+pointOf Yes = f0
+pointOf WrongLength = f0
+pointOf (BadStop stop) = f0
+pointOf WrongFirst = f0
+pointOf WrongLast = f0
+pointOf (TooFar row index t) = t
+pointOf (Refused n) = f0

@@ -5,17 +5,18 @@ use next_stop::Handed;
 use next_stop::ListPlace;
 use next_stop::Told;
 ghost use mathlib.Core.Path.{_≡_};
+ghost use mathlib.Core.List.{_∷_};
 ghost use Prim.Native.Nat.{min};
 ghost use Rattle.stops.specs.Lent.{old, new};
 ghost use Rattle.next_stop.specs.Step.{numberOfTold};
 ghost use Rattle.plain.specs.Telling.{telling};
 ghost use Rattle.plain.specs.Steps.{mostPlain, placeFrom, placeTold, hasStop, stopTold, handedTold};
 
-pub const START: u32 = 0;
+pub const START: usize = 0;
 
-pub const AFTER: u32 = 1;
+pub const AFTER: usize = 1;
 
-pub const ENDED: u32 = 2;
+pub const ENDED: usize = 2;
 
 const MOST: usize = 4294967295;
 
@@ -23,10 +24,11 @@ const MOST: usize = 4294967295;
 pub fn place_from(state: u32, row: u32, index: u32) -> ListPlace
     ensures { λ r. ⌜ r ≡ placeFrom state row index ⌝ }
 {
-    if state == START {
+    let code = state as usize;
+    if code == START {
         return ListPlace::Start;
     }
-    if state == AFTER {
+    if code == AFTER {
         return ListPlace::After {
             row: row as usize,
             index: index as usize,
@@ -45,14 +47,15 @@ fn narrow(n: usize) -> usize
     MOST
 }
 
-// The state, the row and the index, which count after a stop alone.
-fn place_told(place: ListPlace) -> [usize; 3]
-    ensures { λ r. ⌜ r ≡ placeTold place ⌝ }
+// What is told of a step: whether there is a stop, the evaluations, and the state, the row and the index of a place, which
+// count after a stop alone.
+fn step_told(has: usize, evaluations: usize, place: ListPlace) -> [usize; 5]
+    ensures { λ r. ⌜ r ≡ has ∷ evaluations ∷ placeTold place ⌝ }
 {
     match place {
-        ListPlace::Start => [START as usize, 0, 0],
-        ListPlace::After { row, index } => [AFTER as usize, narrow(row), narrow(index)],
-        ListPlace::Ended => [ENDED as usize, 0, 0],
+        ListPlace::Start => [has, evaluations, START, 0, 0],
+        ListPlace::After { row, index } => { [has, evaluations, AFTER, narrow(row), narrow(index)] }
+        ListPlace::Ended => [has, evaluations, ENDED, 0, 0],
     }
 }
 
@@ -99,17 +102,8 @@ pub fn tell_handed(handed: Handed, told: &mut [usize], stop: &mut [f32]) -> u32
 {
     let what = handed.told;
     let at = handed.place;
-    let place = place_told(at);
-    tell_numbers(
-        told,
-        &[
-            has_stop(what),
-            handed.evaluations,
-            place[0],
-            place[1],
-            place[2],
-        ],
-    );
+    let numbers = step_told(has_stop(what), handed.evaluations, at);
+    tell_numbers(told, &numbers);
     tell_floats(stop, &stop_told(what));
     told_number(what)
 }

@@ -3,10 +3,11 @@ use crate::telling::tell_floats;
 use crate::telling::tell_numbers;
 use judge::Verdict;
 ghost use mathlib.Core.Path.{_≡_};
+ghost use mathlib.Core.List.{[], _∷_};
 ghost use Rattle.stops.specs.Lent.{old, new};
 ghost use Rattle.judge.specs.Verdicts.{numberOfVerdict};
 ghost use Rattle.plain.specs.Telling.{telling};
-ghost use Rattle.plain.specs.Verdicts.{verdictTold, pointTold};
+ghost use Rattle.plain.specs.Verdicts.{verdictTold, pointOf};
 
 // What is said of the list; nothing, where the ramp is refused.
 pub const NOT_JUDGED: usize = 0;
@@ -57,30 +58,30 @@ fn verdict_told(verdict: Verdict) -> [usize; 4]
 }
 
 // The t of the point that is too far.
-fn point_told(verdict: Verdict) -> [f32; 1]
-    ensures { λ r. ⌜ r ≡ pointTold verdict ⌝ }
+fn point_of(verdict: Verdict) -> f32
+    ensures { λ r. ⌜ r ≡ pointOf verdict ⌝ }
 {
     match verdict {
-        Verdict::Yes => [0.0],
-        Verdict::WrongLength => [0.0],
-        Verdict::BadStop { stop: _ } => [0.0],
-        Verdict::WrongFirst => [0.0],
-        Verdict::WrongLast => [0.0],
+        Verdict::Yes => 0.0,
+        Verdict::WrongLength => 0.0,
+        Verdict::BadStop { stop: _ } => 0.0,
+        Verdict::WrongFirst => 0.0,
+        Verdict::WrongLast => 0.0,
         Verdict::TooFar {
             row: _,
             index: _,
             t,
-        } => [t],
-        Verdict::Refused(_) => [0.0],
+        } => t,
+        Verdict::Refused(_) => 0.0,
     }
 }
 
 pub fn tell_verdict(verdict: Verdict, told: &mut [usize], t: &mut [f32]) -> u32
     ensures { λ r. ⌜ r ≡ numberOfVerdict verdict ⌝ }
     ensures { λ _. ⌜ new told ≡ telling (verdictTold verdict) (old told) ⌝ }
-    ensures { λ _. ⌜ new t ≡ telling (pointTold verdict) (old t) ⌝ }
+    ensures { λ _. ⌜ new t ≡ telling (pointOf verdict ∷ []) (old t) ⌝ }
 {
     tell_numbers(told, &verdict_told(verdict));
-    tell_floats(t, &point_told(verdict));
+    tell_floats(t, &[point_of(verdict)]);
     verdict_number(verdict)
 }

@@ -1,19 +1,16 @@
+-- `place_from` meets its contract: by the state. Assumes nothing.
+use Rattle.plain.proofs.Stepping.{from-start, from-after, from-end}
 use Rattle.plain.proofs.steps.place_from.Statement.{statement}
 use Rattle.plain.proofs.steps.place_from.Tie as tie
-use Rattle.plain.proofs.steps.place_from.Reads as reads
-use Rattle.plain.proofs.steps.place_from.Lts as lts
 
--- src/steps.rt:27:9
 returns : tie.Need-returns
-returns c = ?
+returns c = from-start _ _ _ (c .if1 .taken)
 
--- src/steps.rt:30:9
 returns-2 : tie.Need-returns-2
-returns-2 c = ?
+returns-2 c = from-after _ _ _ (c .before .if1 .left) (c .if2 .taken)
 
--- src/steps.rt:23:1
 returns-3 : tie.Need-returns-3
-returns-3 c = ?
+returns-3 c = from-end _ _ _ (c .before .if1 .left) (c .if2 .left)
 
 pub place-from-spec : {M : Type 1} → statement M
 place-from-spec = tie.close (tie.spec returns returns-2 returns-3)

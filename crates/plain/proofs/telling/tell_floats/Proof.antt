@@ -1,50 +1,55 @@
+-- `tell_floats` meets its contract: the first i are told. Assumes nothing.
+use borrow.Author.Needs.{needs, scaled-fits}
+use native.Mathlib.Omega.{arith}
+use mathlib.Core.Path.{_≡_}
+use Prim.Native.Nat.{_-_}
+use lib.ListN.{length, take}
+use lib.Ieee.{nan}
+use Rattle.plain.specs.Telling.{telling}
+use Rattle.plain.proofs.Stored.{tell-none, tell-next, tell-done, tell-long}
 use Rattle.plain.proofs.telling.tell_floats.Statement.{statement}
 use Rattle.plain.proofs.telling.tell_floats.Tie as tie
-use Rattle.plain.proofs.telling.tell_floats.Reads as reads
-use Rattle.plain.proofs.telling.tell_floats.Lts as lts
-use Rattle.slices.proofs.put.Reads as put-reads
 
 abbrev Inv-loop : tie.InvT-loop
-Inv-loop told₀ floats i₀ told i = ?
+Inv-loop told₀ floats i₀ told i = told ≡ telling (take i floats) told₀
 
 abbrev μ-loop : tie.MeasureT-loop
-μ-loop told₀ floats i₀ told i = ?
+μ-loop told₀ floats i₀ told i = length floats - i
 
--- src/telling.rt:31:5
 loop-holds : tie.Need-loop-holds Inv-loop μ-loop
-loop-holds c = ?
+loop-holds c = tell-none (c .before .before .args .floats .now) _
 
--- src/telling.rt:32:22
 mul-put : tie.Need-mul-put Inv-loop μ-loop
-mul-put c = ?
+mul-put c =
+    let l = c .before .before in let s = l .before .before .before in
+    scaled-fits (l .loop .i) (length (s .args .floats .now)) 4 (omega arith) (s .good .1 .0 .1)
 
--- src/telling.rt:32:22
 shared-slice-read-put : tie.Need-shared-slice-read-put Inv-loop μ-loop
-shared-slice-read-put c = ?
+shared-slice-read-put c = search needs
 
--- src/telling.rt:32:9
 put-requires : tie.Need-put-requires Inv-loop μ-loop
-put-requires c κs = ?
+put-requires c κs = search needs
 
--- src/telling.rt:33:9
 add-i : tie.Need-add-i Inv-loop μ-loop
-add-i c = ?
+add-i c = search needs
 
--- src/telling.rt:31:5
 loop-less : tie.Need-loop-less Inv-loop μ-loop
-loop-less c = ?
+loop-less c = search needs
 
--- src/telling.rt:31:5
 loop-again : tie.Need-loop-again Inv-loop μ-loop
-loop-again c = ?
+loop-again c =
+    let l = c .before .before .before .before .before .before in let s = l .before .before .before in
+    tell-next (s .args .floats .now) (s .args .told .now) (l .loop .i) nan (search needs) (l .loop .inv) (c .before .before .put .ensures)
 
--- src/telling.rt:27:1
 same-length : tie.Need-same-length Inv-loop μ-loop
-same-length c = ?
+same-length c =
+    let l = c .before in let s = l .before .before .before in
+    tell-long (take (l .loop .i) (s .args .floats .now)) (s .args .told .now) (l .loop .inv)
 
--- src/telling.rt:27:1
 returns : tie.Need-returns Inv-loop μ-loop
-returns c = ?
+returns c =
+    let l = c .before in let s = l .before .before .before in
+    tell-done (s .args .floats .now) (s .args .told .now) (l .loop .i) (search needs) (l .loop .inv)
 
 pub tell-floats-spec : {M : Type 1} → statement M
 tell-floats-spec =
