@@ -65,7 +65,7 @@ pub desk : (κs : Lfts 2) (a : _) → Coincide (of-desk.Learnt κs a) (λ r e. r
 desk κs a = coincide (λ r e w. both (w .0) (w .1))
 
 -- ---- an answer that is told coincides where the answer does
-module _ {A E R B : Type 0} {P : A → E → Type 0} {show : A → B} {said : R → E → B} where
+module _ {A E R B : Type 0} {P : A → E → Type 0} {show : A → B} (said : R → E → B) where
   by-answer : {X : Type 0} {rest : E → X} → Coincide P (λ (a : A) (e : E). a with rest e)
       → Coincide (λ (r : R) (e : E). ShowsOf (λ (a : A). P a e) show (said r e)) (λ (r : R) (e : E). said r e with rest e)
   by-answer {X} {rest} same r s e f v w =
@@ -77,7 +77,7 @@ module _ {A E R B : Type 0} {P : A → E → Type 0} {show : A → B} {said : R 
 
 pub sharp : (κs : Lfts 4) (a : _) → Coincide (of-sharp.Learnt κs a) (λ r e. (r with now (e .1 .1 .1 .1 .1 .1 .0)) with now (e .1 .1 .1 .1 .0) with now (e .1 .1 .1 .1 .1 .0))
 sharp κs a =
-    by-answer (coincide (λ r e w. both (w .answer) (both (w .positions) (w .channels))))
+    by-answer _ (coincide (λ r e w. both (w .answer) (both (w .positions) (w .channels))))
 
 -- ---- the calls for a kind by its code: of the kind that the code names, and of a code that names none
 module _ {A E : Type 0} {P : Kind → A → E → Type 0} {Q : A → E → Type 0} where
@@ -86,64 +86,64 @@ module _ {A E : Type 0} {P : Kind → A → E → Type 0} {Q : A → E → Type 
   by-kind known unknown (Of kind) = known kind
   by-kind known unknown Unknown = unknown
 
-  module _ {R B : Type 0} {show : A → B} {said : R → E → B} (code : ℕ) where
+  module _ {R B : Type 0} {show : A → B} (said : R → E → B) (code : ℕ) where
     by-code : {X : Type 0} {rest : E → X} → ((kind : Kind) → Coincide (P kind) (λ (a : A) (e : E). a with rest e)) → Coincide Q (λ (a : A) (e : E). a with rest e)
         → Coincide (λ (r : R) (e : E). Shows code (λ (kind : Kind) (a : A). P kind a e) (λ (a : A). Q a e) show (said r e)) (λ (r : R) (e : E). said r e with rest e)
-    by-code known unknown r s e f v w = by-answer (by-kind known unknown (kindOf code)) r s e f (v .shows) (w .shows)
+    by-code known unknown r s e f v w = by-answer said (by-kind known unknown (kindOf code)) r s e f (v .shows) (w .shows)
 
     by-code-alone : ((kind : Kind) → Coincide (P kind) answer) → Coincide Q answer
         → Coincide (λ (r : R) (e : E). Shows code (λ (kind : Kind) (a : A). P kind a e) (λ (a : A). Q a e) show (said r e)) said
-    by-code-alone known unknown r s e f v w = by-answer-alone (by-kind known unknown (kindOf code)) r s e f (v .shows) (w .shows)
+    by-code-alone known unknown r s e f v w = by-answer-alone said (by-kind known unknown (kindOf code)) r s e f (v .shows) (w .shows)
 
 -- with the record
 pub sample : (κs : Lfts 7) (a : _) → Coincide (of-sample.Learnt κs a) (λ r e. (r with now (e .1 .1 .1 .1 .1 .1 .1 .1 .0)) with now (e .1 .1 .1 .1 .1 .0) with now (e .1 .1 .1 .1 .1 .1 .0) with now (e .1 .1 .1 .1 .1 .1 .1 .0))
 sample κs a =
-    by-code (a .0)
+    by-code _ (a .0)
     (λ kind. coincide (λ r e w. both (w .answer) (both (rows-of (w .left)) (both (counts-of (w .left)) (marks-of (w .left))))))
     (coincide (λ r e w. both (w .0) (both (rows-of (w .1)) (both (counts-of (w .1)) (marks-of (w .1))))))
 
 pub edit : (κs : Lfts 7) (a : _) → Coincide (of-edit.Learnt κs a) (λ r e. (r with now (e .1 .1 .1 .1 .1 .1 .1 .1 .1 .1 .1 .1 .1 .1 .1 .0)) with now (e .1 .1 .1 .1 .1 .1 .1 .1 .1 .1 .1 .1 .0) with now (e .1 .1 .1 .1 .1 .1 .1 .1 .1 .1 .1 .1 .1 .0) with now (e .1 .1 .1 .1 .1 .1 .1 .1 .1 .1 .1 .1 .1 .1 .0))
 edit κs a =
-    by-code (a .0)
+    by-code _ (a .0)
     (λ kind. coincide (λ r e w. both (w .answer) (both (rows-of (w .left)) (both (counts-of (w .left)) (marks-of (w .left))))))
     (coincide (λ r e w. both (w .0) (both (rows-of (w .1)) (both (counts-of (w .1)) (marks-of (w .1))))))
 
 -- with both outputs
 pub thin : (κs : Lfts 9) (a : _) → Coincide (of-thin.Learnt κs a) (λ r e. (r with now (e .1 .1 .1 .1 .1 .1 .1 .1 .1 .1 .0)) with now (e .1 .1 .1 .1 .1 .1 .1 .1 .0) with now (e .1 .1 .1 .1 .1 .1 .1 .1 .1 .0))
 thin κs a =
-    by-code (a .0)
+    by-code _ (a .0)
     (λ kind. coincide (λ r e w. both (w .told .answer) (both (positions-of (w .output)) (channels-of (w .output)))))
     (coincide (λ r e w. both (w .0) (both (positions-of (w .1)) (channels-of (w .1)))))
 
 -- with the record and both outputs
 pub flatten : (κs : Lfts 9) (a : _) → Coincide (of-flatten.Learnt κs a) (λ r e. (r with now (e .1 .1 .1 .1 .1 .1 .1 .1 .1 .1 .0)) with now (e .1 .1 .1 .1 .1 .0) with now (e .1 .1 .1 .1 .1 .1 .0) with now (e .1 .1 .1 .1 .1 .1 .1 .0) with now (e .1 .1 .1 .1 .1 .1 .1 .1 .0) with now (e .1 .1 .1 .1 .1 .1 .1 .1 .1 .0))
 flatten κs a =
-    by-code (a .0)
+    by-code _ (a .0)
     (λ kind. coincide (λ r e w. both (w .told .answer) (both (rows-of (w .left)) (both (counts-of (w .left)) (both (marks-of (w .left)) (both (positions-of (w .output)) (channels-of (w .output))))))))
     (coincide (λ r e w. both (w .0) (both (rows-of (w .1 .0)) (both (counts-of (w .1 .0)) (both (marks-of (w .1 .0)) (both (positions-of (w .1 .1)) (channels-of (w .1 .1))))))))
 
 pub edit-list : (κs : Lfts 9) (a : _) → Coincide (of-edit-list.Learnt κs a) (λ r e. (r with now (e .1 .1 .1 .1 .1 .1 .1 .1 .1 .1 .1 .1 .1 .1 .1 .1 .1 .0)) with now (e .1 .1 .1 .1 .1 .1 .1 .1 .1 .1 .1 .1 .0) with now (e .1 .1 .1 .1 .1 .1 .1 .1 .1 .1 .1 .1 .1 .0) with now (e .1 .1 .1 .1 .1 .1 .1 .1 .1 .1 .1 .1 .1 .1 .0) with now (e .1 .1 .1 .1 .1 .1 .1 .1 .1 .1 .1 .1 .1 .1 .1 .0) with now (e .1 .1 .1 .1 .1 .1 .1 .1 .1 .1 .1 .1 .1 .1 .1 .1 .0))
 edit-list κs a =
-    by-code (a .0)
+    by-code _ (a .0)
     (λ kind. coincide (λ r e w. both (w .told .answer) (both (rows-of (w .left)) (both (counts-of (w .left)) (both (marks-of (w .left)) (both (positions-of (w .output)) (channels-of (w .output))))))))
     (coincide (λ r e w. both (w .0) (both (rows-of (w .1 .0)) (both (counts-of (w .1 .0)) (both (marks-of (w .1 .0)) (both (positions-of (w .1 .1)) (channels-of (w .1 .1))))))))
 
 -- with the lent output
 pub paint : (κs : Lfts 5) (a : _) → Coincide (of-paint.Learnt κs a) (λ r e. r with now (e .1 .1 .1 .1 .1 .0))
-paint κs a = by-code (a .0) (λ kind. coincide (λ r e w. both (w .answer) (w .contents))) (coincide (λ r e w. both (w .0) (w .1)))
+paint κs a = by-code _ (a .0) (λ kind. coincide (λ r e w. both (w .answer) (w .contents))) (coincide (λ r e w. both (w .0) (w .1)))
 
 -- with what is told alone
 pub check : (κs : Lfts 3) (a : _) → Coincide (of-check.Learnt κs a) answer
-check κs a = by-code-alone (a .0) (λ kind. coincide (λ r e w. w .answer)) (coincide (λ r e w. w))
+check κs a = by-code-alone _ (a .0) (λ kind. coincide (λ r e w. w .answer)) (coincide (λ r e w. w))
 
 pub domain : (κs : Lfts 4) (a : _) → Coincide (of-domain.Learnt κs a) (λ r e. r with now (e .1 .1 .1 .1 .0))
-domain κs a = by-code-alone (a .0) (λ kind. coincide (λ r e w. w)) (coincide (λ r e w. w))
+domain κs a = by-code-alone _ (a .0) (λ kind. coincide (λ r e w. w)) (coincide (λ r e w. w))
 
 pub at : (κs : Lfts 4) (a : _) → Coincide (of-at.Learnt κs a) (λ r e. r with now (e .1 .1 .1 .1 .1 .0))
-at κs a = by-code-alone (a .0) (λ kind. coincide (λ r e w. w .answer)) (coincide (λ r e w. w))
+at κs a = by-code-alone _ (a .0) (λ kind. coincide (λ r e w. w .answer)) (coincide (λ r e w. w))
 
 pub next-stop : (κs : Lfts 8) (a : _) → Coincide (of-next-stop.Learnt κs a) (λ r e. r with now (e .1 .1 .1 .1 .1 .1 .1 .1 .1 .1 .1 .0) with now (e .1 .1 .1 .1 .1 .1 .1 .1 .1 .1 .1 .1 .0))
-next-stop κs a = by-code-alone (a .0) (λ kind. coincide (λ r e w. w .handed)) (coincide (λ r e w. w))
+next-stop κs a = by-code-alone _ (a .0) (λ kind. coincide (λ r e w. w .handed)) (coincide (λ r e w. w))
 
 pub judge : (κs : Lfts 7) (a : _) → Coincide (of-judge.Learnt κs a) (λ r e. r with now (e .1 .1 .1 .1 .1 .1 .1 .0) with now (e .1 .1 .1 .1 .1 .1 .1 .1 .0))
-judge κs a = by-code-alone (a .0) (λ kind. coincide (λ r e w. w .answer)) (coincide (λ r e w. w))
+judge κs a = by-code-alone _ (a .0) (λ kind. coincide (λ r e w. w .answer)) (coincide (λ r e w. w))
