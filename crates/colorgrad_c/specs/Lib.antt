@@ -1,3 +1,4 @@
+pub mod About
 pub mod Leaves
 pub mod Ramps
 pub mod Steps
