@@ -65,7 +65,7 @@ flat-or-not true c d h k = h
 flat-or-not false c d h k = k
 
 -- between two stops, by the kind
-pair-finite : (kind : Kind) (ps cs : List Float) (n k : ℕ) (t : Float) → ofPairs kind ≡ true → Share (shareOf (stopAt ps cs (k - 1)) (stopAt ps cs k) t)
+pub pair-finite : (kind : Kind) (ps cs : List Float) (n k : ℕ) (t : Float) → ofPairs kind ≡ true → Share (shareOf (stopAt ps cs (k - 1)) (stopAt ps cs k) t)
     → Each (Sized (largest kind)) (colourAt cs (k - 1)) → Each (Sized (largest kind)) (colourAt cs k) → finiteRgba (colourAt cs (k - 1)) ≡ true
     → finiteRgba (pairOf kind cs n k (stopAt ps cs (k - 1)) (stopAt ps cs k) t) ≡ true
 unfolding pairOf linearPair smoothPair sharpPair
