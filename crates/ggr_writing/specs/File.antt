@@ -139,9 +139,11 @@ leftIn (text t) old = t ++ drop (length t) old
 leftIn (refused number) old = old
 leftIn (cleared number) old = replicate (length old) 0
 
--- the answer, and the final contents of the output
+-- the answer with its number and its value, and the final contents of the output
 pub record WritesAs (o : FileWritten) (out : Change (List ℕ)) (r : WriteAnswer) : Type 0 where
   pub answer : r ≡ writeAnswerOf o
+  pub number : numberOfWriteAnswer r ≡ numberOfWriteAnswer (writeAnswerOf o)
+  pub bytes : bytesOfWriteAnswer r ≡ bytesOfWriteAnswer (writeAnswerOf o)
   pub left : out .exit ≡ leftIn o (out .entry)
 
 -- the bytes of a segment's line at most: 11 numbers of 18 bytes, each with a space, and the two codes

@@ -29,7 +29,8 @@ use Rattle.editing.specs.declared.copy.Copied.{Copied}
 use Rattle.editing.specs.declared.copy.Copied.the-variants as copied
 use Rattle.editing.proofs.Splices.{written-is}
 use Rattle.editing.proofs.Copying.{copy-check, fits-are}
-use Rattle.editing.proofs.EditSound.{Sound, edit-sound}
+use Rattle.editing.specs.Sound.{Sound}
+use Rattle.editing.proofs.EditSound.{edit-sound}
 use Rattle.refresh.specs.RefreshDesk.{refreshCheck}
 
 -- ---- the check of a refresh
