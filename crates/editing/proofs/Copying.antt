@@ -24,7 +24,7 @@ use Rattle.reach.specs.declared.stretch.Stretch.{Stretch}
 use Rattle.editing.specs.Edited.{stopOf, goneOf, positionsAfter, channelsAfter, stopsAfter}
 use Rattle.editing.specs.Rules.{editAllowed}
 use Rattle.editing.specs.Reached.{stretchOf, cellsKept}
-use Rattle.editing.specs.Copied.{copyFits, copyCheck, Copies}
+use Rattle.editing.specs.Copied.{copyFits, copyCheck, copyAnswer, Copies}
 use Rattle.editing.specs.declared.Edit.{Edit}
 use Rattle.editing.specs.declared.Edit.the-variants.{Colour, Move, Add, Remove}
 use Rattle.editing.specs.declared.copy.Copied.the-variants as copied
