@@ -40,7 +40,7 @@ all-finite : (c : Rgba) → Each (λ x. T (finite x)) c → finiteRgba c ≡ tru
 all-finite c h = rw (is-true (finite (c .r)) (h .red), is-true (finite (c .g)) (h .green), is-true (finite (c .b)) (h .blue), is-true (finite (c .a)) (h .alpha))
 
 -- ---- finite
-record Sized (l x : Float) : Type 0 where
+pub record Sized (l x : Float) : Type 0 where
   whole : T (finite x)
   low : T (le (neg l) x)
   high : T (le x l)
