@@ -29,7 +29,7 @@ pub cutoff-of : (κs : Lfts 0) (a : _) → Coincide (of-cutoff-of.Learnt κs a) 
 cutoff-of κs a = λ r s e f. cutoff-unique (thresholdOf (a .0)) r s
 
 pub check-sample : (κs : Lfts 3) (a : _) → Coincide (of-check-sample.Learnt κs a) answer
-check-sample κs a = coincide (λ r e w. w)
+check-sample κs a = coincide (λ r e w. w .answer)
 
 -- the answer and the record
 pub sample : (κs : Lfts 6) (a : _) → Coincide (of-sample.Learnt κs a) (λ r e. r with now (e .1 .1 .1 .1 .1 .0) with now (e .1 .1 .1 .1 .1 .1 .0) with now (e .1 .1 .1 .1 .1 .1 .1 .0))
