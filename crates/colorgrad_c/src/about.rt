@@ -64,8 +64,8 @@ fn write_line(texts: &[u8], k: usize, out: &mut [u8]) -> usize
     write_name(line(texts, k), out)
 }
 
-// The length of the message of a refusal, 0 for none. Its bytes are written where the output has room for all of them; else
-// it stays as it is.
+// The length of the message of a refusal; that of 0 is 'not refused'. Its bytes are written where the output has room for all
+// of them; else it stays as it is.
 #[no_mangle]
 pub extern "C" fn colorgrad_message_told(refusal: u32, out: &mut [u8]) -> usize
     ensures { λ r. ⌜ r ≡ length (messageOf refusal) ⌝ }
