@@ -1,18 +1,16 @@
 -- The answers of the call, from what the functions within promise. Assumes nothing.
-use mathlib.Core.Path.{_≡_, refl, sym, ap, ap₂, _∙_}
-use mathlib.Core.Bool.{Bool, cond}
+use mathlib.Core.Path.{_≡_, refl, sym, ap, _∙_}
 use mathlib.Core.List.{List}
 use Prim.Native.Nat.{ℕ, _≤_, _<_}
-use lib.Dec.{ltb}
 use lib.ListN.{length, replicate}
 use lib.Ieee.{Float}
 use borrow.Author.Tests.{lt-ltb, le-ltb}
 use Rattle.refusals.specs.Refusals.{noRoom}
-use Rattle.stops.specs.Answers.{numberOfChecked, onFine}
+use Rattle.stops.specs.Answers.{numberOfChecked}
 use Rattle.stops.specs.Lent.{Ramp}
 use Rattle.stops.specs.declared.Checked.{Checked}
 use Rattle.stops.specs.declared.Checked.the-variants as checked
-use Rattle.gradient.specs.Ramp.{colourOf, anyColour}
+use Rattle.gradient.specs.Ramp.{colourOf}
 use Rattle.gradient.proofs.Same.{same-function}
 use Rattle.sampling.specs.Constants.{thresholdOf}
 use Rattle.sampling.specs.Midpoints.{Gradient}
@@ -20,8 +18,7 @@ use Rattle.sampling.proofs.Checks.{ramp-fine}
 use Rattle.judge.specs.Lists.{Offer, offeredRamp}
 use Rattle.judge.proofs.Listing.{offered-colour}
 use Rattle.apart.specs.Checks.{lentCheck, apartCheck}
-use Rattle.apart.specs.Faults.{firstMerged}
-use Rattle.apart.specs.Answers.{numberOfApart, toldOf, faultsOver, apartOf, bytesOf}
+use Rattle.apart.specs.Answers.{toldOf, faultsOver, apartOf, bytesOf}
 use Rattle.apart.specs.Inner.{tallyOf, Tells, AnyTells}
 use Rattle.apart.specs.Promises.{TellsApart}
 use Rattle.apart.specs.declared.told.Apart.{Apart}

@@ -1,5 +1,5 @@
 -- The counts, depth by depth. Assumes nothing.
-use mathlib.Core.Path.{_≡_, refl, sym, ap, _∙_}
+use mathlib.Core.Path.{_≡_, refl, sym, _∙_}
 use mathlib.Core.Bool.{Bool, true, false, not, cond}
 use Prim.Native.Nat.{ℕ, zero, suc, _+_, _≤_, _<_}
 use mathlib.Core.Logic.{⊎-elim}
@@ -13,7 +13,6 @@ use Rattle.slices.proofs.Joined.{summed-next}
 use Rattle.judge.specs.Lists.{firstFailing}
 use Rattle.apart.specs.Faults.{flag, howMany}
 use Rattle.apart.specs.Inner.{firstNext, tallyNext}
-use Rattle.apart.specs.declared.told.Fault.{Fault}
 use Rattle.apart.specs.declared.told.Tally.{Tally}
 
 -- ---- one flag

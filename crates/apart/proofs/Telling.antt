@@ -18,11 +18,10 @@ use Rattle.stops.specs.declared.Kind.the-variants.{Linear}
 use Rattle.gradient.specs.Ramp.{anyColour}
 use Rattle.difference.specs.Difference.{distanceOf, differs}
 use Rattle.sampling.specs.Midpoints.{Gradient}
-use Rattle.judge.specs.Lists.{Offer, firstFailing, offeredRamp}
+use Rattle.judge.specs.Lists.{Offer, firstFailing}
 use Rattle.judge.specs.Verdicts.{close}
 use Rattle.judge.proofs.Listing.{offered-any}
-use Rattle.apart.specs.Faults.{flag, howMany, isMoved, isClose, isMerged, faultOf, faultsOf, firstMerged}
-use Rattle.apart.specs.Answers.{faultsOver}
+use Rattle.apart.specs.Faults.{isMoved, isClose, isMerged, faultOf, faultsOf, firstMerged}
 use Rattle.apart.specs.Inner.{mostCount, seenBy, anySeen, faultBy, faultFrom, byteOf, tallyNext, Countable, faultAt, tallyOf, Tells}
 use Rattle.apart.specs.declared.told.Seen.{Seen}
 use Rattle.apart.specs.declared.told.Fault.{Fault}

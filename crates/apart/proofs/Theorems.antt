@@ -1,7 +1,7 @@
 -- The theorems of the call: lists with the same stops get the same answer and bytes; what a byte of 4 says; when nothing is moved. Assumes nothing.
 use mathlib.Core.Path.{_≡_, refl, sym, ap, _∙_}
 use mathlib.Core.Bool.{Bool, true, false, not, cond, true≢false}
-use mathlib.Core.List.{List, [], _∷_, _++_}
+use mathlib.Core.List.{List, [], _∷_}
 use mathlib.Core.Logic.{⊎-elim}
 use Prim.Native.Nat.{ℕ, zero, suc, _+_, _-_, _≤_, _<_}
 use native.Mathlib.Omega.{arith}
@@ -25,7 +25,7 @@ use Rattle.sampling.specs.Constants.{thresholdOf}
 use Rattle.sampling.specs.Midpoints.{Gradient}
 use Rattle.sampling.specs.Sampling.{andThen}
 use Rattle.judge.specs.Lists.{Offer, sized, offeredRamp}
-use Rattle.judge.specs.Verdicts.{rampCheck, close, shapeVerdict}
+use Rattle.judge.specs.Verdicts.{rampCheck, close}
 use Rattle.judge.specs.Conditions.{Near, SameStops}
 use Rattle.judge.specs.declared.Verdict.the-variants as verdict
 use Rattle.judge.proofs.Shaping.{wrong-length}

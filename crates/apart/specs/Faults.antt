@@ -2,7 +2,6 @@
 use Prim.Native.Nat.{ℕ, zero, suc, _+_}
 use mathlib.Core.Bool.{Bool, false, not, cond, _&&_}
 use mathlib.Core.List.{List, [], _∷_}
-use lib.ListN.{length}
 use lib.Ieee.{Float}
 use Rattle.slices.specs.Joined.{joined, summed}
 use Rattle.stops.specs.Stops.{posAt}
@@ -19,11 +18,11 @@ flag n holds = cond holds n 0
 abbrev pub howMany : (ℕ → Bool) → ℕ → ℕ
 howMany test n = summed (λ i. flag 1 (test i)) n
 
-module _ (g h : Gradient) (threshold step : Float) (ds : List Float) where
-  -- the colours at depth i and at the one after it differ by more than the step; one that is not a number does not
-  abbrev pub tells : Gradient → ℕ → Bool
-  tells f i = differs step (f (posAt ds i)) (f (posAt ds (suc i)))
+-- a gradient's colours at depth i and at the one after it differ by more than the step; a difference that is not a number is not more
+abbrev pub tells : Float → List Float → Gradient → ℕ → Bool
+tells step ds f i = differs step (f (posAt ds i)) (f (posAt ds (suc i)))
 
+module _ (g h : Gradient) (threshold step : Float) (ds : List Float) where
   -- moved: unless the two colours at depth i differ by at most the threshold
   unfoldable pub isMoved : ℕ → Bool
   isMoved i = not (close g h threshold (posAt ds i))
@@ -31,12 +30,12 @@ module _ (g h : Gradient) (threshold step : Float) (ds : List Float) where
   -- close: unless the ramp tells depth i from the one before. The first has none before it
   unfoldable pub isClose : ℕ → Bool
   isClose zero = false
-  isClose (suc i) = not (tells g i)
+  isClose (suc i) = not (tells step ds g i)
 
   -- merged: not close, and unless the list tells the two
   unfoldable pub isMerged : ℕ → Bool
   isMerged zero = false
-  isMerged (suc i) = tells g i && not (tells h i)
+  isMerged (suc i) = tells step ds g i && not (tells step ds h i)
 
   -- the byte of depth i: the sum of what holds
   unfoldable pub faultOf : ℕ → ℕ

@@ -15,7 +15,7 @@ use Rattle.judge.specs.Lists.{Offer, sized, firstBad}
 use Rattle.judge.specs.Verdicts.{numberOfVerdict, endsVerdict, shapeVerdict}
 use Rattle.judge.specs.Inner.{Sound}
 use Rattle.judge.specs.declared.Verdict.{Verdict}
-use Rattle.judge.specs.declared.Verdict.the-variants.{Yes, WrongLength, BadStop, WrongFirst, WrongLast, TooFar, Refused}
+use Rattle.judge.specs.declared.Verdict.the-variants.{Yes, WrongLength, BadStop, WrongFirst, WrongLast}
 use Rattle.judge.proofs.Verdict.{the-type}
 use Rattle.judge.proofs.Listing.{sound}
 use Rattle.judge.proofs.Walking.{pick-number}
