@@ -12,7 +12,7 @@ use lib.ListN.{length}
 use lib.Ieee.{Float, lt}
 use lib.Ieee.Scale.{finite}
 use Rattle.float.specs.F32.{f0}
-use Rattle.refusals.specs.Refusals.{noRoom}
+use Rattle.refusals.specs.Refusals.{noRoom, badList, badDepths, badStep}
 use Rattle.stops.specs.Lent.{Ramp}
 use Rattle.stops.specs.Stops.{posAt}
 use Rattle.stops.specs.declared.Checked.{Checked}
@@ -27,7 +27,7 @@ use Rattle.judge.specs.declared.Verdict.the-variants.{Yes, WrongLength, BadStop
 use Rattle.judge.proofs.Verdict.{the-type}
 use Rattle.judge.proofs.Failing.{from-start}
 use Rattle.judge.proofs.Shaping.{shape-sound}
-use Rattle.apart.specs.Checks.{badList, badDepths, badStep, isYes, goodList, goodDepth, firstBadDepth, goodDepths, goodStep, askedCheck, givenCheck, lentCheck, apartCheck}
+use Rattle.apart.specs.Checks.{isYes, goodList, goodDepth, firstBadDepth, goodDepths, goodStep, askedCheck, givenCheck, lentCheck, apartCheck}
 
 -- ---- a depth
 pub as-lt : {p q p′ q′ : Float} {b : Bool} → p ≡ p′ → q ≡ q′ → lt p q ≡ b → lt p′ q′ ≡ b

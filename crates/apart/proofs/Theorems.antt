@@ -14,6 +14,7 @@ use Rattle.float.proofs.Flags.{both-l, both-r}
 use Rattle.float.proofs.Order.{as-T}
 use Rattle.slices.specs.Joined.{joined}
 use Rattle.slices.proofs.Joined.{length-joined, single}
+use Rattle.refusals.specs.Refusals.{badList}
 use Rattle.stops.specs.Answers.{onFine}
 use Rattle.stops.specs.Lent.{Ramp}
 use Rattle.stops.specs.Stops.{posAt}
@@ -30,7 +31,7 @@ use Rattle.judge.specs.Conditions.{Near, SameStops}
 use Rattle.judge.specs.declared.Verdict.the-variants as verdict
 use Rattle.judge.proofs.Shaping.{wrong-length}
 use Rattle.judge.proofs.Stopwise.{same-or-unsized}
-use Rattle.apart.specs.Checks.{badList, isYes, givenCheck, lentCheck, apartCheck}
+use Rattle.apart.specs.Checks.{isYes, givenCheck, lentCheck, apartCheck}
 use Rattle.apart.specs.Faults.{flag, howMany, isMoved, isClose, isMerged, faultOf, faultsOf}
 use Rattle.apart.specs.Answers.{toldOf, faultsOver, apartOf, bytesOf}
 use Rattle.apart.specs.Conditions.{Merged}

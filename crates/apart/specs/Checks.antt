@@ -7,7 +7,7 @@ use lib.ListN.{length}
 use lib.Ieee.{Float, lt}
 use lib.Ieee.Scale.{finite}
 use Rattle.float.specs.F32.{f0}
-use Rattle.refusals.specs.Refusals.{noRoom}
+use Rattle.refusals.specs.Refusals.{noRoom, badList, badDepths, badStep}
 use Rattle.stops.specs.Lent.{Ramp}
 use Rattle.stops.specs.Stops.{posAt}
 use Rattle.stops.specs.declared.Checked.{Checked}
@@ -18,18 +18,6 @@ use Rattle.judge.specs.Lists.{Offer, firstFailing}
 use Rattle.judge.specs.Verdicts.{rampCheck, shapeVerdict}
 use Rattle.judge.specs.declared.Verdict.{Verdict}
 use Rattle.judge.specs.declared.Verdict.the-variants.{Yes, WrongLength, BadStop, WrongFirst, WrongLast, TooFar, Refused}
-
--- a list that `judge` turns down before it asks for colours
-abbrev pub badList : ℕ
-badList = 22
-
--- no depths, or one that is not finite, outside min..max, or below the one before
-abbrev pub badDepths : ℕ
-badDepths = 23
-
--- a step that is not finite or below 0
-abbrev pub badStep : ℕ
-badStep = 24
 
 -- ---- the list
 abbrev pub isYes : Verdict → Bool

@@ -1,5 +1,8 @@
 // What a list, depths and a step must be, once the ramp is fine.
 use judge::Verdict;
+use refusals::BAD_DEPTHS;
+use refusals::BAD_LIST;
+use refusals::BAD_STEP;
 use stops::Checked;
 use stops::item;
 use stops::less;
@@ -7,15 +10,6 @@ ghost use mathlib.Core.Path.{_≡_};
 ghost use Rattle.stops.specs.Lent.{old};
 ghost use Rattle.judge.specs.Lists.{lentOffer};
 ghost use Rattle.apart.specs.Checks.{goodDepth, firstBadDepth, askedCheck, givenCheck};
-
-// A list that a judge turns down before it asks for colours.
-const BAD_LIST: u8 = 22;
-
-// No depths, or one that is not finite, outside the ramp's domain, or below the one before.
-const BAD_DEPTHS: u8 = 23;
-
-// A step that is not finite or below 0.
-const BAD_STEP: u8 = 24;
 
 // Depth i is finite, within the domain, and not below the one before it; the first is compared with itself.
 fn is_good(min: f32, max: f32, depths: &[f32], i: usize) -> bool
