@@ -28,3 +28,6 @@ pub use refresh::refresh_list;
 
 // A list that was made elsewhere: whether it shows a ramp within a threshold, and what is wrong if not.
 pub use judge::judge;
+
+// And which depths it made one: which moved, which the ramp itself holds too close, and which the list merged.
+pub use apart::apart;

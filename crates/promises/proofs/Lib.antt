@@ -27,6 +27,7 @@ pub mod Reach
 pub mod Editing
 pub mod Refresh
 pub mod Judge
+pub mod Apart
 pub mod Paint
 pub mod Desk
 pub mod Plain

@@ -81,3 +81,15 @@ unwritable = 19
 -- to thin or refresh: the record's words are not the bits of the threshold in force, of min and of max
 abbrev pub otherThreshold : ℕ
 otherThreshold = 20
+
+-- asking which depths a list made one: the list is turned down by `judge` before it asks for colours
+abbrev pub badList : ℕ
+badList = 22
+
+-- the same: no depths, or one that is not finite, outside min..max, or below the one before
+abbrev pub badDepths : ℕ
+badDepths = 23
+
+-- the same: a step that is not finite or below 0
+abbrev pub badStep : ℕ
+badStep = 24

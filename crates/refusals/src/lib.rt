@@ -62,6 +62,15 @@ pub const UNWRITABLE: u8 = 19;
 // A record of another threshold in force, or of other ends of the domain.
 pub const OTHER_THRESHOLD: u8 = 20;
 
+// A list that a judge turns down before it asks for colours.
+pub const BAD_LIST: u8 = 22;
+
+// No depths, or one that is not finite, outside the ramp's domain, or below the one before.
+pub const BAD_DEPTHS: u8 = 23;
+
+// A step that is not finite or below 0.
+pub const BAD_STEP: u8 = 24;
+
 // Stops of a ramp.
 pub const MOST_STOPS: usize = 2048;
 
