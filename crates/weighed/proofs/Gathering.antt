@@ -4,7 +4,7 @@ use mathlib.Core.Bool.{Bool, true, false, cond, _&&_, _||_, true≢false}
 use mathlib.Core.List.{List, [], _∷_, _++_}
 use Prim.Native.Nat.{ℕ, zero, suc, _+_, _*_, _≤_, _<_}
 use native.Mathlib.Omega.{arith}
-use borrow.Author.Tests.{ltb-true, ltb-false, leb-true, le-leb, lt-leb, eq-eqb, ne-eqb, eqb-true}
+use borrow.Author.Tests.{lt-ltb, le-ltb, ltb-true, ltb-false, leb-true, le-leb, lt-leb, eq-eqb, ne-eqb, eqb-true}
 use lib.Dec.{leb, eqb, ltb}
 use lib.ListN.{length, drop, length-append}
 use lib.Seq.{sets}
@@ -123,6 +123,7 @@ module _ (ps rows : List Float) (counts : List ℕ) (lo max : Float) (ts₀ : Li
           }
 
       pub merging-done : (ltb (s .place .row) 36 || s .next .some) ≡ false → Gathers (mergedOf ps rows counts lo max) ts₀ ms₀ ts ms (s .count)
+      unfolding merged toCome mergedOf
       merging-done h = go (ltb (s .place .row) 36) refl (s .next .some) refl
         where
           all : (a : Bool) → ltb (s .place .row) 36 ≡ a → a ≡ false → s .next .some ≡ false → w .taken ≡ mergedOf ps rows counts lo max
@@ -165,35 +166,35 @@ module _ (n long : ℕ) (counts : List ℕ) where
         bad-counts k h = go (countsGood counts) refl
           where
             go : (b : Bool) → countsGood counts ≡ b → false ≡ weighable n long counts
-            go true f = let z : _≡_ {A = ℕ} 0 1 = other (rw f at h) in absurd (omega arith)
+            go true f = absurd (other (rw f at h))
               where
-                other : checked.Fine ≡ checked.Refused k → 0 ≡ 1
-                other u = cc
+                other : checked.Fine ≡ checked.Refused k → ⊥
+                other u = let z : _≡_ {A = ℕ} 0 1 = cc in omega arith
             go false f = sym (good ∙ f)
 
+module _ (ps rows : List Float) (counts : List ℕ) (h : weighable (length ps) (length rows) counts ≡ true) where
+  pub few-positions : length ps ≤ 2048
+  unfolding weighable mostStops
+  few-positions = leb-true (length ps) 2048 (both-l _ _ h)
+
+  pub ready-of : Ready rows counts
+  unfolding weighable mostStops
+  ready-of =
+      let a = both-r (leb (length ps) 2048) (eqb (length rows) 4608 && (eqb (length counts) 36 && countsGood counts)) h in
+      let b = both-r (eqb (length rows) 4608) (eqb (length counts) 36 && countsGood counts) a in
+      let n = eqb-true (length counts) 36 (both-l (eqb (length counts) 36) (countsGood counts) b) in
+      let g = both-r (eqb (length counts) 36) (countsGood counts) b in
+      record {
+        long = eqb-true (length rows) 4608 (both-l (eqb (length rows) 4608) (eqb (length counts) 36 && countsGood counts) a);
+        many = n;
+        some = λ i k. each-good counts g i (omega (arith, n)) .0;
+        most = λ i k. each-good counts g i (omega (arith, n)) .1;
+      }
+
 module _ (ps rows : List Float) (counts : List ℕ) (lo hi : Float) where
-  module _ (h : weighable (length ps) (length rows) counts ≡ true) where
-    pub few-positions : length ps ≤ 2048
-    unfolding weighable mostStops
-    few-positions = leb-true (length ps) 2048 (both-l _ _ h)
-
-    pub ready-of : Ready rows counts
-    unfolding weighable mostStops
-    ready-of =
-        let a = both-r (leb (length ps) 2048) (eqb (length rows) 4608 && (eqb (length counts) 36 && countsGood counts)) h in
-        let b = both-r (eqb (length rows) 4608) (eqb (length counts) 36 && countsGood counts) a in
-        let n = eqb-true (length counts) 36 (both-l (eqb (length counts) 36) (countsGood counts) b) in
-        let g = both-r (eqb (length counts) 36) (countsGood counts) b in
-        record {
-          long = eqb-true (length rows) 4608 (both-l (eqb (length rows) 4608) (eqb (length counts) 36 && countsGood counts) a);
-          many = n;
-          some = λ i k. each-good counts g i (omega (arith, n)) .0;
-          most = λ i k. each-good counts g i (omega (arith, n)) .1;
-        }
-
-    pub gathered-all : (ts : List Float) (ms : List ℕ) (ts′ : List Float) (ms′ : List ℕ) (n : ℕ) → Gathers (mergedOf ps rows counts lo hi) ts ms ts′ ms′ n → Gathers (gathered ps rows counts lo hi) ts ms ts′ ms′ n
-    unfolding gathered
-    gathered-all ts ms ts′ ms′ n w = rw h w
+  pub gathered-all : weighable (length ps) (length rows) counts ≡ true → (ts : List Float) (ms : List ℕ) (ts′ : List Float) (ms′ : List ℕ) (n : ℕ) → Gathers (mergedOf ps rows counts lo hi) ts ms ts′ ms′ n → Gathers (gathered ps rows counts lo hi) ts ms ts′ ms′ n
+  unfolding gathered
+  gathered-all h ts ms ts′ ms′ n w = rw h w
 
   pub gathered-none : weighable (length ps) (length rows) counts ≡ false → (ts : List Float) (ms : List ℕ) → Gathers (gathered ps rows counts lo hi) ts ms ts ms 0
   unfolding gathered timesOf marksOf
@@ -205,3 +206,10 @@ module _ (ps rows : List Float) (counts : List ℕ) (lo hi : Float) where
   gathered-ready ok few =
       let g = all-good counts (λ i h. (ok .some i (omega (arith, ok .many)), ok .most i (omega (arith, ok .many)))) in
       rw (good (length ps) (length rows) counts few (ok .long) (ok .many), g)
+
+-- ---- whether there is one left
+pub on-row : (row : ℕ) (some : Bool) → row < 36 → true ≡ (ltb row 36 || some)
+on-row row some h = rw (lt-ltb row 36 h)
+
+pub past-rows : (row : ℕ) (some : Bool) → 36 ≤ row → some ≡ (ltb row 36 || some)
+past-rows row some h = rw (le-ltb row 36 h)

@@ -15,6 +15,9 @@ use Rattle.weighed.specs.declared.neighbours.Taken.{Taken}
 use Rattle.weighed.specs.declared.neighbours.Next.{Next}
 use Rattle.weighed.proofs.Counting.{by-length}
 
+pub next-same : {t t′ : Float} (m : ℕ) (w : Taken) → t ≡ t′ → nextOf t m w ≡ nextOf t′ m w
+next-same m w e = ap (λ (t : Float). nextOf t m w) e
+
 -- ---- one of the three lists, from an index on
 module _ (f : Float → Float) (m : ℕ) where
   drop-suc : (ps : List Float) (i : ℕ) → i < length ps → drop i (sitesBy f m ps) ≡ site (f (getD ps i nan)) m ∷ drop (suc i) (sitesBy f m ps)
@@ -27,7 +30,7 @@ module _ (f : Float → Float) (m : ℕ) where
   some-by ps i h = drop-suc ps i h ∙ rw add-one
 
   none-by : (ps : List Float) (i : ℕ) → length ps ≤ i → drop i (sitesBy f m ps) ≡ []
-  none-by ps i h = drop-of-length-le (sitesBy f m ps) (omega (arith, by-length f m ps))
+  none-by ps i h = drop-of-length-le (sitesBy f m ps) {i = i} (omega (arith, by-length f m ps))
 
 -- ---- two lists made one
 pub joined-nil : (xs : List Site) → joinedWith xs [] ≡ xs
@@ -60,7 +63,7 @@ module _ (ps : List Float) (at : Taken) where
   beside-none a b = record { left = ap₂ joinedWith (none-by belowOf besideMark ps (at .below) a) (none-by aboveOf besideMark ps (at .above) b) ∙ no-first []; lent = refl }
 
   pub beside-above : (r : Next) → length ps ≤ at .below → at .above < length ps → r ≡ nextAbove ps at → NextBeside ps at r
-  unfolding besideLeft
+  unfolding besideLeft joinedWith
   beside-above r a b e =
       let none = none-by belowOf besideMark ps (at .below) a in
       rw e (record { left = ap₂ joinedWith none (some-by aboveOf besideMark ps (at .above) b) ∙ no-first _ ∙ sym (ap (λ (l : List Site). site (aboveOf (getD ps (at .above) nan)) besideMark ∷ joinedWith l (drop (at .above + 1) (aboves ps))) none); lent = refl })
@@ -112,7 +115,7 @@ module _ (ps : List Float) (at : Taken) (x : Next) (w : NextBeside ps at x) wher
 
   -- x is the next of all, if what is left of all begins with it
   as-next : (b : Bool) → x .some ≡ b → ownLeft ps at ≡ cond b (site (x .t) (x .mark) ∷ joinedWith (besideLeft ps (x .with)) lents-left) [] → ownLeft ps at ≡ handed (ownLeft ps) x
-  unfolding ownLeft
+  unfolding ownLeft besideLeft
   as-next b h e = rw (h, w .lent) e
 
   pub no-lent : length ps ≤ at .lent → ownLeft ps at ≡ handed (ownLeft ps) x

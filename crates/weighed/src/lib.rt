@@ -114,7 +114,7 @@ fn goes_on(row: usize, some: bool) -> bool
 }
 
 // All of them, of a record that may be thinned.
-fn merge(
+fn merge_all(
     positions: &[f32],
     rows: &[f32],
     counts: &[u8],
@@ -178,5 +178,5 @@ pub fn gather(
     if !may_gather(positions.len(), rows.len(), counts) {
         return 0;
     }
-    merge(positions, rows, counts, min, max, ts, marks)
+    merge_all(positions, rows, counts, min, max, ts, marks)
 }

@@ -11,7 +11,7 @@ use Rattle.float.specs.F32.{_⊖_, _⊘_}
 use Rattle.blend.specs.Blend.{linear}
 use Rattle.blend.specs.Channels.{channelsOf, coloursOf}
 use Rattle.blend.specs.declared.Rgba.{Rgba}
-use Rattle.stops.specs.Lent.{Ramp}
+use Rattle.stops.specs.Lent.{Ramp, Change}
 use Rattle.stops.specs.Stops.{posAt}
 use Rattle.stops.specs.declared.Window.{Window}
 use Rattle.stops.specs.declared.Checked.the-variants.{Fine}
@@ -20,9 +20,13 @@ use Rattle.sampling.specs.Midpoints.{Gradient}
 use Rattle.sampling.specs.Inner.{Coloured}
 use Rattle.sampling.specs.declared.Point.{Point}
 use Rattle.thinning.specs.declared.Progress.{Progress}
+use Rattle.linearize.specs.Lent.{Output}
+use Rattle.linearize.specs.Desk.{listedOf, room}
+use Rattle.linearize.specs.declared.Listed.{Listed}
 use Rattle.weighed.specs.Points.{Site, site}
-use Rattle.within.specs.Shown.{Near, nearBelow, shownTo, lentLeft, toLent, reachFrom}
-use Rattle.within.specs.Kept.{Kept, lentShown, anyShown, stepFrom, positionsOf, keptRefusals}
+use Rattle.within.specs.Shown.{Near, nearBelow, fairly, shownTo, lentLeft, toLent, reachFrom}
+use Rattle.within.specs.Kept.{Kept, lentShown, anyShown, stepFrom, keptFrom, keptAll, positionsOf, keptRefusals}
+use Rattle.within.specs.Lists.{keptOf, refusalWithin, evaluationsWithin, writtenWithin}
 use Rattle.within.specs.declared.fair.Allowed.{Allowed}
 use Rattle.within.specs.declared.asking.Ahead.{Ahead}
 use Rattle.within.specs.declared.asking.Answer.{Answer}
@@ -107,8 +111,8 @@ pub record MayShow (ramp : Ramp) (ts : List Float) (w : Window) (block : List (L
   pub few : count ≤ 10753
 
 -- what they show of the arrays' points
-unfoldable pub fairFrom : Gradient → Near → Float → Float → List Float → List ℕ → ℕ → Bool
-fairFrom g near a b ts ms i = near (getD ms i 0) (g (getD ts i nan)) (linear (g a) (g b) ((getD ts i nan ⊖ a) ⊘ (b ⊖ a)))
+abbrev pub fairFrom : Gradient → Near → Float → Float → List Float → List ℕ → ℕ → Bool
+fairFrom g near a b ts ms i = fairly g near a b (siteAt ts ms i)
 
 pub record ShowsTo (ramp : Ramp) (offs : Allowed) (ts : List Float) (ms : List ℕ) (a b : Point) (from to : ℕ) (block′ : List (List Float)) (r : Answer) : Type 0 where
   pub yes : r .yes ≡ allFrom (fairFrom (colourOf ramp) (nearBy offs) (a .t) (b .t) ts ms) from (to - from)
@@ -165,3 +169,16 @@ ending g room n ps cs ks =
 pub record EndsWith (o : Ending) (s : Progress) (ps cs : List Float) : Type 0 where
   pub refused : s .refusal ≡ o .refusal
   pub same : s .refusal ≡ 0 → (s .stops ≡ o .stops) × ((ps ≡ o .places) × (cs ≡ o .colours))
+
+-- of the stops after one that stands, and of all
+abbrev pub stopsAfter : Ramp → Allowed → ℕ → Progress → ℕ → Float → List Float → List ℕ → List Float → List Float → Ending
+stopsAfter ramp offs room s count max ts ms ps cs =
+    ending (colourOf ramp) room (s .stops) ps cs (keptFrom (colourOf ramp) (nearBy offs) max (suc count) (s .last .t) (sitesFrom ts ms 0 count))
+
+abbrev pub allStops : Ramp → Allowed → ℕ → ℕ → Float → Float → List Float → List ℕ → List Float → List Float → Ending
+allStops ramp offs room count lo max ts ms ps cs = ending (colourOf ramp) room 0 ps cs (keptAll (colourOf ramp) (nearBy offs) max lo (sitesFrom ts ms 0 count))
+
+-- the list of the points ts is made: the answer and both outputs
+pub record MakesWithin (ramp : Ramp) (asked hold : Float) (ts : List Float) (out : Change Output) (r : Listed) : Type 0 where
+  pub answer : r ≡ listedOf (refusalWithin ramp asked hold (room (out .entry)) ts) (length (keptOf ramp asked hold ts)) (evaluationsWithin ramp asked hold ts)
+  pub output : out .exit ≡ writtenWithin ramp asked hold ts (out .entry)

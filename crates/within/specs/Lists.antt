@@ -47,6 +47,12 @@ module _ (ramp : Ramp) (asked hold : Float) where
   unfoldable pub evaluationsWithin : List Float → ℕ
   evaluationsWithin ts = length (sitesOf ramp ts) + 2
 
+  -- the list of the points ts, written
+  abbrev pub writtenWithin : List Float → Output → Output
+  writtenWithin ts out =
+      let r = refusalWithin (room out) ts in
+      outputOf (writtenOf r (sets (out .positions) 0 (listWithin ts .positions))) (writtenOf r (sets (out .channels) 0 (listWithin ts .channels)))
+
   module _ (was : Held) where
     unfoldable pub withinAnswer : Output → Listed
     withinAnswer out =
@@ -54,24 +60,14 @@ module _ (ramp : Ramp) (asked hold : Float) where
         answerBy (thinCheck ramp asked was) (refusalWithin (room out) ts) (length (keptOf ts)) (evaluationsWithin ts)
 
     unfoldable pub withinOutput : Output → Output
-    withinOutput out =
-        let ts = pointsIn ramp was in
-        let r = refusalWithin (room out) ts in
-        onFine (thinCheck ramp asked was)
-        (outputOf (writtenOf r (sets (out .positions) 0 (listWithin ts .positions))) (writtenOf r (sets (out .channels) 0 (listWithin ts .channels))))
-        (λ n. out)
+    withinOutput out = onFine (thinCheck ramp asked was) (writtenWithin (pointsIn ramp was) out) (λ n. out)
 
   -- a fresh sampling, and then that
   abbrev pub freshPoints : List Float
   freshPoints = pointsIn ramp (fresh ramp asked)
 
   unfoldable pub flattenWithinOutput : Held → Output → Output
-  flattenWithinOutput was out =
-      let ts = freshPoints in
-      let r = refusalWithin (room out) ts in
-      onFine (heldCheck ramp was)
-      (outputOf (writtenOf r (sets (out .positions) 0 (listWithin ts .positions))) (writtenOf r (sets (out .channels) 0 (listWithin ts .channels))))
-      (λ n. out)
+  flattenWithinOutput was out = onFine (heldCheck ramp was) (writtenWithin freshPoints out) (λ n. out)
 
   unfoldable pub flattenWithinEvaluations : ℕ
   flattenWithinEvaluations = freshEvaluations ramp asked + evaluationsWithin freshPoints

@@ -8,11 +8,24 @@ use stops::Kind;
 use stops::Window;
 use weighed::LENT;
 ghost use mathlib.Core.Path.{_≡_};
-ghost use mathlib.Core.Bool.{true};
+ghost use mathlib.Core.Bool.{true, cond};
 ghost use mathlib.Core.List.{[]};
 ghost use Prim.Native.Nat.{_+_, _-_, _*_, _^_, _≤_, min};
+ghost use lib.Dec.{eqb};
+ghost use Rattle.weighed.specs.Points.{lentMark};
 ghost use Rattle.stops.specs.Lent.{rampIn, lentRamp, old, new};
-ghost use Rattle.within.specs.Inner.{pointsTo, sitesFrom, aheadOf, Asking, Answers, Reaches, Steps, ShowsTo};
+ghost use Rattle.within.specs.Inner.{pointsTo, sitesFrom, aheadOf, Asking, Answers, Reaches, Steps, MayShow, ShowsTo};
+
+// Of `left` lent positions that are to come those after a point.
+fn left_after(mark: u8, left: usize) -> usize
+    requires { ⌜ 1 ≤ left ⌝ }
+    ensures { λ r. ⌜ r ≡ cond (eqb mark lentMark) (left - 1) left ⌝ }
+{
+    if mark == LENT {
+        return left - 1;
+    }
+    left
+}
 
 // The points up to the r-th lent position from `from` on, max last; 0 where there is none.
 fn to_lent(marks: &[u8; 10753], from: usize, count: usize, r: usize) -> usize
@@ -25,12 +38,11 @@ fn to_lent(marks: &[u8; 10753], from: usize, count: usize, r: usize) -> usize
     let mut left = r;
     let mut i = from;
     while i < count {
-        if marks[i] == LENT {
-            if left == 1 {
-                return i - from + 1;
-            }
-            left -= 1;
+        let mark = marks[i];
+        if (mark == LENT) & (left == 1) {
+            return i - from + 1;
         }
+        left = left_after(mark, left);
         i += 1;
     }
     if left == 1 {
@@ -130,7 +142,7 @@ fn ask(
     at: Ahead,
     r: usize,
 ) -> Answer
-    requires { ⌜ Asking (rampIn kind positions channels codes) (now ts) w (now block) a at ⌝ }
+    requires { ⌜ Asking (rampIn kind positions channels codes) (now ts) w (now block) a at × (1 ≤ r) ⌝ }
     ensures { λ x. ⌜ Answers (lentRamp kind positions channels codes) offs (old ts) (old marks) a at r (new block) x ⌝ }
 {
     let k = points_to(marks, at, r);
@@ -190,22 +202,62 @@ fn reach_from(
     k: usize,
     r: usize,
 ) -> Reach
-    requires { ⌜ Asking (rampIn kind positions channels codes) (now ts) w (now block) a at × (r * 2 ^ k ≤ 16384) ⌝ }
+    requires { ⌜ Asking (rampIn kind positions channels codes) (now ts) w (now block) a at × ((1 ≤ r) × (r * 2 ^ k ≤ 16384)) ⌝ }
     ensures { λ x. ⌜ Reaches (lentRamp kind positions channels codes) offs (old ts) (old marks) a at k r (new block) x ⌝ }
 {
     if k == 0 {
         return Reach { r, w };
     }
     let twice = 2 * r;
-    let p = ask(kind, positions, channels, codes, offs, a, ts, marks, w, block, at, twice);
+    let p = ask(
+        kind,
+        positions,
+        channels,
+        codes,
+        offs,
+        a,
+        ts,
+        marks,
+        w,
+        block,
+        at,
+        twice,
+    );
     let pw = p.w;
     if !p.yes {
         return Reach { r, w: pw };
     }
-    let x = reach_from(kind, positions, channels, codes, offs, a, ts, marks, pw, block, at, k - 1, twice);
+    let x = reach_from(
+        kind,
+        positions,
+        channels,
+        codes,
+        offs,
+        a,
+        ts,
+        marks,
+        pw,
+        block,
+        at,
+        k - 1,
+        twice,
+    );
     let xw = x.w;
     let sum = x.r + r;
-    let q = ask(kind, positions, channels, codes, offs, a, ts, marks, xw, block, at, sum);
+    let q = ask(
+        kind,
+        positions,
+        channels,
+        codes,
+        offs,
+        a,
+        ts,
+        marks,
+        xw,
+        block,
+        at,
+        sum,
+    );
     let qw = q.w;
     if !q.yes {
         return Reach { r: x.r, w: qw };
@@ -245,10 +297,37 @@ pub(crate) fn step_from(
         end,
         lent: true,
     };
-    let p = ask(kind, positions, channels, codes, offs, a, ts, marks, w, block, own, 1);
+    let p = ask(
+        kind,
+        positions,
+        channels,
+        codes,
+        offs,
+        a,
+        ts,
+        marks,
+        w,
+        block,
+        own,
+        1,
+    );
     let pw = p.w;
     if p.yes {
-        let x = reach_from(kind, positions, channels, codes, offs, a, ts, marks, pw, block, own, 14, 1);
+        let x = reach_from(
+            kind,
+            positions,
+            channels,
+            codes,
+            offs,
+            a,
+            ts,
+            marks,
+            pw,
+            block,
+            own,
+            14,
+            1,
+        );
         let xw = x.w;
         return Step {
             points: to_lent(marks, from, count, x.r),
@@ -262,7 +341,21 @@ pub(crate) fn step_from(
         end,
         lent: false,
     };
-    let y = reach_from(kind, positions, channels, codes, offs, a, ts, marks, pw, block, all, 14, 1);
+    let y = reach_from(
+        kind,
+        positions,
+        channels,
+        codes,
+        offs,
+        a,
+        ts,
+        marks,
+        pw,
+        block,
+        all,
+        14,
+        1,
+    );
     let yw = y.w;
     if 1 < y.r {
         return Step {
@@ -271,7 +364,20 @@ pub(crate) fn step_from(
             w: yw,
         };
     }
-    let q = ask(kind, positions, channels, codes, offs, a, ts, marks, yw, block, all, 1);
+    let q = ask(
+        kind,
+        positions,
+        channels,
+        codes,
+        offs,
+        a,
+        ts,
+        marks,
+        yw,
+        block,
+        all,
+        1,
+    );
     let qw = q.w;
     Step {
         points: 1,

@@ -9,12 +9,12 @@ use stops::Window;
 use stops::segments;
 use stops::segments::follow;
 ghost use mathlib.Core.Path.{_≡_};
+ghost use mathlib.Core.Bool.{true};
 ghost use Prim.Native.Nat.{_+_, _-_, _≤_, _<_, min};
 ghost use Rattle.gradient.specs.Ramp.{checkOf, colourOf};
 ghost use Rattle.sampling.specs.Inner.{Coloured, Prepared, PointAt};
 ghost use Rattle.stops.specs.Lent.{rampIn, lentRamp, old, new};
 ghost use Rattle.stops.specs.declared.Checked.the-variants.{Fine};
-ghost use Rattle.weighed.specs.Points.{site, lentMark};
 ghost use Rattle.within.specs.Shown.{pointAfter};
 ghost use Rattle.within.specs.Inner.{isUpTo, NearPair, ColoursInHand, Fills, Covers, sitesFrom};
 
@@ -229,5 +229,14 @@ pub(crate) fn point_after(
         };
     }
     let none: [[[f32; 4]; 4]; 1] = [[[0.0; 4]; 4]; 1];
-    evaluate(kind, positions, channels, codes, ts[j], guess, 0, &none[..0])
+    evaluate(
+        kind,
+        positions,
+        channels,
+        codes,
+        ts[j],
+        guess,
+        0,
+        &none[..0],
+    )
 }
