@@ -80,3 +80,7 @@ unwritable = 19
 -- to thin or refresh: the record's words are not the bits of the threshold in force, of min and of max
 abbrev pub otherThreshold : ℕ
 otherThreshold = 20
+
+-- a list within a hold: two stops that follow each other do not show what lies between them
+abbrev pub notShown : ℕ
+notShown = 21

@@ -61,6 +61,9 @@ pub const UNWRITABLE: u8 = 19;
 // A record of another threshold in force, or of other ends of the domain.
 pub const OTHER_THRESHOLD: u8 = 20;
 
+// Two stops of a list that follow each other do not show what lies between them.
+pub const NOT_SHOWN: u8 = 21;
+
 // Stops of a ramp.
 pub const MOST_STOPS: usize = 2048;
 
