@@ -84,6 +84,9 @@ module _ (f : ℕ → Bool) where
   unfolding allFrom
   none-asked i = refl
 
+  pub none-left : (i to : ℕ) → to ≤ i → allFrom f i (to - i) ≡ true
+  none-left i to h = let n : to - i ≡ 0 = omega arith in rw n (none-asked i)
+
   pub one-asked : (i k : ℕ) → 0 < k → allFrom f i k ≡ (f i && allFrom f (i + 1) (k - 1))
   unfolding allFrom
   one-asked i zero h = absurd (omega arith)
