@@ -12,7 +12,7 @@ use Rattle.weighed.specs.Points.{Site}
 use Rattle.weighed.specs.Gathered.{timesOf, marksOf}
 use Rattle.weighed.proofs.Gathering.{times-length, marks-length}
 use Rattle.within.specs.Shown.{Near, shows, fairly}
-use Rattle.within.specs.Inner.{siteAt, sitesFrom, allFrom, fairFrom}
+use Rattle.within.specs.inner.Weighing.{siteAt, sitesFrom, allFrom, fairFrom}
 
 module _ (ts : List Float) (ms : List ℕ) where
   pub sites-length : (i k : ℕ) → length (sitesFrom ts ms i k) ≡ k
@@ -83,6 +83,9 @@ module _ (f : ℕ → Bool) where
   pub none-asked : (i : ℕ) → allFrom f i 0 ≡ true
   unfolding allFrom
   none-asked i = refl
+
+  pub none-left : (i to : ℕ) → to ≤ i → allFrom f i (to - i) ≡ true
+  none-left i to h = let n : to - i ≡ 0 = omega arith in rw n (none-asked i)
 
   pub one-asked : (i k : ℕ) → 0 < k → allFrom f i k ≡ (f i && allFrom f (i + 1) (k - 1))
   unfolding allFrom

@@ -7,7 +7,7 @@ use Prim.Native.Nat.{ℕ, zero, suc, _+_, _-_, _≤_, _<_, min}
 use native.Mathlib.Nat.{eq-or-lt-of-le, lt-of-not-le}
 use native.Mathlib.Decide.{decLe}
 use native.Mathlib.Omega.{arith}
-use borrow.Author.Tests.{lt-ltb, le-ltb, ltb-true}
+use borrow.Author.Tests.{lt-ltb, le-ltb, ltb-true, eq-eqb, ne-eqb}
 use lib.Dec.{T, ltb}
 use lib.ListN.{length, getD, set}
 use lib.Seq.{getD-set-same, getD-set-other}
@@ -15,6 +15,8 @@ use lib.Ieee.{Float, nan, le, lt, isNan}
 use lib.Ieee.Bits.{is-true}
 use Rattle.float.proofs.Flags.{both-l, both-r}
 use Rattle.float.proofs.Order.{as-T, le-lt-trans, lt→le, le→not-lt, lt-is, no-nan-l, no-nan-r}
+use Rattle.float.specs.F32.{_⊖_, _⊘_}
+use Rattle.blend.specs.Blend.{linear}
 use Rattle.blend.specs.Channels.{channelsOf}
 use Rattle.blend.specs.declared.Rgba.{Rgba}
 use Rattle.stops.specs.Lent.{Ramp}
@@ -27,14 +29,14 @@ use Rattle.stops.proofs.Choice.{rising-numbers, le-is, first-is, place-between}
 use Rattle.gradient.specs.Ramp.{isGimp, colourOf}
 use Rattle.gradient.proofs.Valid.{valid}
 use Rattle.sampling.specs.Midpoints.{Gradient}
-use Rattle.sampling.specs.Inner.{Coloured, PointAt, Prepared}
+use Rattle.sampling.specs.inner.Steps.{Coloured, PointAt, Prepared}
 use Rattle.sampling.specs.Segments.{placedPoint}
 use Rattle.sampling.specs.declared.Point.{Point}
 use Rattle.sampling.proofs.Tabled.{placed-is}
-use Rattle.weighed.specs.Points.{site}
-use Rattle.within.specs.Shown.{Near, fairly}
-use Rattle.within.specs.Inner.{siteAt, entryAt, pointFair, blockFair, fairFrom, allFrom, isUpTo, NearPair, ColoursInHand, Fills, Covers}
-use Rattle.within.proofs.Arrays.{same-test}
+use Rattle.difference.specs.Difference.{clampedOf, squaresOf}
+use Rattle.within.specs.Shown.{Near, offAt, nearBelow, fairly}
+use Rattle.within.specs.inner.Weighing.{siteAt, entryAt, pointFair, blockFair, fairFrom, allFrom, isUpTo, NearPair, ColoursInHand, Fills, Covers}
+use Rattle.within.proofs.Arrays.{same-test, one-asked}
 
 -- ---- filling
 module _ (g : Gradient) (ts : List Float) (base : ℕ) where
@@ -53,11 +55,39 @@ module _ (g : Gradient) (ts : List Float) (base : ℕ) where
       go (yes k) = let e : j ≡ i = omega (arith, h, k) in rw e (getD-set-same block i (channelsOf (x .colour)) [] l ∙ here)
       go (no k) = getD-set-other block i j (channelsOf (x .colour)) [] (λ e. k (omega arith)) ∙ w j (omega arith)
 
-  pub filled-hand : (count : ℕ) (block : List (List Float)) → count ≤ 1024 → base + count ≤ 10753 → Filled count block → ColoursInHand g ts (record { base = base; count = count }) block
-  filled-hand count block a b w = record { fits = a; within = b; each = w }
+  pub filled-hand : (i count : ℕ) (block : List (List Float)) → count ≤ i → length block ≡ 1024 → count ≤ 1024 → base + count ≤ 10753 → Filled i block → ColoursInHand g ts (record { base = base; count = count }) block
+  filled-hand i count block e l a b w = record { long = l; fits = a; within = b; each = λ j h. w j (omega arith) }
 
-pub nothing-in-hand : (g : Gradient) (ts : List Float) (block : List (List Float)) → ColoursInHand g ts (record { base = 0; count = 0 }) block
-nothing-in-hand g ts block = record { fits = omega arith; within = omega arith; each = λ i h. absurd (omega arith) }
+pub nothing-in-hand : (g : Gradient) (ts : List Float) (block : List (List Float)) → length block ≡ 1024 → ColoursInHand g ts (record { base = 0; count = 0 }) block
+nothing-in-hand g ts block l = record { long = l; fits = omega arith; within = omega arith; each = λ i h. absurd (omega arith) }
+
+-- ---- the test of one point
+pub off-sampled : (t h : Float) (m : ℕ) → m ≡ 0 → t ≡ offAt t h m
+off-sampled t h m e = rw (eq-eqb m 0 e)
+
+pub off-other : (t h : Float) (m : ℕ) → (m ≡ 0 → ⊥) → h ≡ offAt t h m
+off-other t h m e = rw (ne-eqb m 0 e)
+
+pub fair-by : (t h : Float) (m : ℕ) (a b x : Point) {y : Rgba} {o : Float} {r : Bool} → y ≡ linear (a .colour) (b .colour) ((x .t ⊖ a .t) ⊘ (b .t ⊖ a .t)) → o ≡ offAt t h m
+    → r ≡ le (squaresOf (clampedOf (x .colour)) (clampedOf y)) o → r ≡ pointFair (nearBelow t h) m a b x
+unfolding pointFair nearBelow
+fair-by t h m a b x p q e = e ∙ rw (p, q)
+
+-- ---- the points of a block, one after the other
+module _ (near : Near) (a b : Point) (ts : List Float) (ms : List ℕ) (block : List (List Float)) (base to i : ℕ) (h : i < to) (c : Rgba) (ec : c ≡ entryAt block (i - base)) (r : Bool)
+    (er : r ≡ pointFair near (getD ms i 0) a b (record { colour = c; t = getD ts i nan; pair = 0 })) where
+  one-more : allFrom (blockFair near a b ts ms block base) i (to - i) ≡ (r && allFrom (blockFair near a b ts ms block base) (i + 1) (to - (i + 1)))
+  one-more =
+      let n : to - i - 1 ≡ to - (i + 1) = omega arith in
+      let f : blockFair near a b ts ms block base i ≡ r = sym (er ∙ ap (λ (x : Rgba). pointFair near (getD ms i 0) a b (record { colour = x; t = getD ts i nan; pair = 0 })) ec) in
+      one-asked (blockFair near a b ts ms block base) i (to - i) (omega arith)
+      ∙ ap₂ (λ (x y : Bool). x && y) f (ap (allFrom (blockFair near a b ts ms block base) (i + 1)) n)
+
+  pub block-no : r ≡ false → allFrom (blockFair near a b ts ms block base) i (to - i) ≡ false
+  block-no e = one-more ∙ rw e
+
+  pub block-yes : r ≡ true → allFrom (blockFair near a b ts ms block base) i (to - i) ≡ allFrom (blockFair near a b ts ms block base) (i + 1) (to - (i + 1))
+  block-yes e = one-more ∙ rw e
 
 -- ---- the colour of a point in hand
 module _ (g : Gradient) (ts : List Float) (w : Window) (block : List (List Float)) (hand : ColoursInHand g ts w block) where
@@ -139,3 +169,7 @@ placed-point ramp base table w t k x e h q =
     ap (λ (y : Point). y .colour) q ∙ p .1 ∙ ap (colourIn (ramp .kind) (ramp .positions) (ramp .channels) t) (sym (found (ramp .positions) t k (v .rising) h)) in
     let at : x .t ≡ t = ap (λ (y : Point). y .t) q ∙ p .0 in
     (at, rw (e, at) c)
+
+-- ---- a window has an index
+pub holds-in : (b n i : ℕ) → b ≤ i → ltb (i - b) n ≡ true → (b ≤ i) × (i < b + n)
+holds-in b n i h e = let k = ltb-true (i - b) n e in (h, omega arith)

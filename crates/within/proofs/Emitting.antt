@@ -14,7 +14,7 @@ use Rattle.refusals.specs.Refusals.{notShown}
 use Rattle.blend.specs.Channels.{coloursOf}
 use Rattle.stops.specs.declared.Window.{Window}
 use Rattle.sampling.specs.Midpoints.{Gradient}
-use Rattle.sampling.specs.Inner.{Coloured}
+use Rattle.sampling.specs.inner.Steps.{Coloured}
 use Rattle.sampling.specs.declared.Point.{Point}
 use Rattle.thinning.specs.Kept.{stopRefusal, firstRefusal}
 use Rattle.thinning.specs.Walk.{Run, run, emitBy, emitRun, Outcome, comesTo}
@@ -23,7 +23,7 @@ use Rattle.thinning.proofs.Walks.{Emitted, emitted-as}
 use Rattle.weighed.specs.Points.{Site}
 use Rattle.within.specs.Shown.{Near, pointAfter, shownTo}
 use Rattle.within.specs.Kept.{Kept, keptAt, stepFrom, keptFrom, keptAll, positionsOf, keptRefusal, keptRefusals}
-use Rattle.within.specs.Inner.{sitesFrom, ColoursInHand, Ending, ending, EndsWith}
+use Rattle.within.specs.inner.Weighing.{sitesFrom, ColoursInHand, Ending, ending, EndsWith}
 use Rattle.within.proofs.Arrays.{sites-length, sites-drop}
 use Rattle.within.proofs.Reaching.{step-on}
 use Rattle.within.proofs.Questions.{step-most}
@@ -100,6 +100,13 @@ module _ (g : Gradient) (near : Near) (max : Float) (room count : ℕ) (ts : Lis
       go true e = let k = leb-true r (count - i) e in rw (le-leb (i + r) count (omega (arith, k, h)))
       go false e = let k = leb-false r (count - i) e in rw (lt-leb (i + r) count (omega (arith, k, h)))
 
+  -- one point on or more, and no further than max
+  pub steps-some : (a : Float) (i r : ℕ) → r ≡ stepFrom g near max a (rest i) → 1 ≤ r
+  steps-some a i r e = omega (arith, e, step-on g near max a (rest i))
+
+  pub steps-few : (a : Float) (i r : ℕ) → i ≤ count → r ≡ stepFrom g near max a (rest i) → i + r ≤ count + 1
+  steps-few a i r h e = omega (arith, e, h, step-most g near max a (rest i), sites-length ts ms i (count - i))
+
   -- ---- the loop
   module _ (s₀ : Progress) (ps₀ cs₀ : List Float) where
     abbrev all : Ending
@@ -135,7 +142,8 @@ module _ (g : Gradient) (near : Near) (max : Float) (room count : ℕ) (ts : Lis
       pub going-done : count < i → EndsWith all s ps cs
       unfolding ending keptRefusals coloursOf
       going-done h =
-          let o : ending g room (s .stops) ps cs [] ≡ all = ap (ending g room (s .stops) ps cs) (sym (rw (lt-leb i count h))) ∙ k .same in
+          let z : left (k .fuel) (s .last .t) i ≡ [] = rw (lt-leb i count h) in
+          let o : ending g room (s .stops) ps cs [] ≡ all = ap (ending g room (s .stops) ps cs) (sym z) ∙ k .same in
           record {
             refused = k .going ∙ ap (λ (x : Ending). x .refusal) o;
             same = λ z. (sym (add-zero (s .stops)) ∙ ap (λ (x : Ending). x .stops) o, (ap (λ (x : Ending). x .places) o, ap (λ (x : Ending). x .colours) o));
@@ -153,21 +161,14 @@ module _ (g : Gradient) (near : Near) (max : Float) (room count : ℕ) (ts : Lis
         pub going-unshown : s′ .refusal ≡ 0 → sh ≡ false → (m : ℕ) → EndsWith all (record { last = b; stops = m; tried = 0; refusal = notShown }) ps′ cs′
         going-unshown z f m = rw (← here) (stop-unshown g room (s .stops) ps cs b cb s′ ps′ cs′ e sh (left (k .fuel - 1) (b .t) (i + r)) z f m)
 
-        -- one point on or more, and no further than max
-        pub step-some : 1 ≤ r
-        step-some = omega (arith, er, step-on g near max (s .last .t) (rest i))
-
-        pub step-few : i + r ≤ count + 1
-        step-few = omega (arith, er, h, step-most g near max (s .last .t) (rest i), sites-length ts ms i (count - i))
-
         pub going-next : (v : Window) (block′ : List (List Float)) → ColoursInHand g ts v block′ → s′ .refusal ≡ 0 → sh ≡ true → length ps′ ≡ length ps → length cs′ ≡ length cs
             → Going (i + r) s′ v block′ ps′ cs′
         going-next v block′ hand z f lp lc =
             let l : s′ .last ≡ b = last-is g room (s .stops) ps cs b cb s′ ps′ cs′ e z in
             record {
               fuel = k .fuel - 1;
-              enough = omega (arith, k .enough, step-some);
-              most = step-few;
+              enough = omega (arith, k .enough, steps-some (s .last .t) i r er);
+              most = steps-few (s .last .t) i r h er;
               going = z;
               coloured = rw l cb;
               hand = hand;

@@ -4,14 +4,14 @@ use mathlib.Core.Bool.{Bool, true, false, cond, _&&_, true≢false}
 use mathlib.Core.List.{List, [], _∷_}
 use Prim.Native.Nat.{ℕ, zero, suc, _+_, _-_, _≤_, _<_}
 use native.Mathlib.Omega.{arith}
-use borrow.Author.Tests.{le-leb, lt-leb, leb-true, leb-false, eqb-true, eqb-false, eq-eqb}
+use borrow.Author.Tests.{le-leb, lt-leb, leb-true, leb-false, eqb-true, eqb-false, eq-eqb, ne-eqb}
 use lib.Dec.{leb, eqb}
 use lib.ListN.{length, getD}
 use lib.Ieee.{Float}
 use Rattle.float.proofs.Flags.{both-l, both-r}
 use Rattle.weighed.specs.Points.{Site, lentMark}
 use Rattle.within.specs.Shown.{lentLeft, toLent}
-use Rattle.within.specs.Inner.{siteAt, sitesFrom, pointsTo}
+use Rattle.within.specs.inner.Weighing.{siteAt, sitesFrom, pointsTo}
 use Rattle.within.proofs.Reaching.{lent-on}
 
 abbrev lentTo : List Site → ℕ → ℕ
@@ -76,17 +76,24 @@ none-at-all : (ss : List Site) → 0 ≡ lentTo ss 0
 unfolding pointsTo toLent
 none-at-all ss = go (leb 0 (lentLeft ss))
   where
-    go : (b : Bool) → 0 ≡ cond b 0 0
+    go : (b : Bool) → _≡_ {A = ℕ} 0 (cond b 0 0)
     go true = refl
     go false = refl
 
 at-end : lentTo [] 1 ≡ 1
 unfolding pointsTo lentLeft toLent
-at-end = rw (le-leb 1 1 (omega arith))
+at-end = refl
 
 past-end : (r : ℕ) → 1 < r → lentTo [] r ≡ 0
 unfolding pointsTo lentLeft
 past-end r h = rw (lt-leb r 1 h)
+
+-- ---- how many are left after a point
+pub after-lent : (m n : ℕ) → m ≡ 2 → n - 1 ≡ cond (eqb m lentMark) (n - 1) n
+after-lent m n e = rw (eq-eqb m 2 e)
+
+pub after-other : (m n : ℕ) → (m ≡ 2 → ⊥) → n ≡ cond (eqb m lentMark) (n - 1) n
+after-other m n e = rw (ne-eqb m 2 e)
 
 -- ---- the loop: what is sought from the start is what is left to seek, so many points further
 module _ (ms : List ℕ) (from count : ℕ) where

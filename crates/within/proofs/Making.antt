@@ -1,7 +1,15 @@
 -- A list within a hold is made: its answer and both outputs, from the stops written. Assumes nothing.
-use mathlib.Core.Path.{_≡_, refl, sym, ap, ap₂, _∙_}
+use mathlib.Core.Path.{_≡_, refl, sym, ap, ap₂, _∙_, subst}
+use mathlib.Core.Bool.{Bool, true, false, cond, _&&_}
+use lib.Dec.{T, leb, eqb}
+use borrow.Author.Tests.{leb-true, eqb-true}
+use Rattle.float.proofs.Flags.{both-l, both-r}
+use Rattle.refusals.specs.Refusals.{misshapen}
+use Rattle.refusals.specs.Limits.{mostStops}
+use Rattle.gradient.specs.Gimp.{segments, gimpShaped, allCarried, gimpCheck}
+use Rattle.gradient.proofs.Valid.{valid}
 use mathlib.Core.List.{List, [], _∷_, _++_}
-use Prim.Native.Nat.{ℕ, zero, suc, _+_, _≤_, min}
+use Prim.Native.Nat.{ℕ, zero, suc, _+_, _*_, _≤_, min}
 use native.Mathlib.Omega.{arith}
 use lib.ListN.{length, replicate, length-append}
 use lib.Seq.{sets, length-sets}
@@ -11,13 +19,13 @@ use Rattle.blend.specs.Channels.{coloursOf}
 use Rattle.sqrt.specs.Cutoff.{IsCutoff}
 use Rattle.stops.specs.declared.Checked.{Checked}
 use Rattle.stops.specs.declared.Checked.the-variants as checked
-use Rattle.stops.specs.Answers.{onFine}
+use Rattle.stops.specs.Answers.{onFine, numberOfChecked}
 use Rattle.stops.specs.Lent.{Ramp, Change, change}
-use Rattle.gradient.specs.Ramp.{minOf, maxOf, colourOf}
+use Rattle.gradient.specs.Ramp.{isGimp, checkOf, minOf, maxOf, colourOf}
 use Rattle.sampling.specs.Constants.{thresholdOf}
 use Rattle.sampling.specs.Lent.{Held}
 use Rattle.sampling.specs.Midpoints.{Gradient}
-use Rattle.sampling.specs.Sampling.{heldCheck, fresh, freshEvaluations, sampleHeld, sampleAnswer}
+use Rattle.sampling.specs.Sampling.{heldCheck, fresh, freshEvaluations, sampleHeld, sampleAnswer, numberOfSampled}
 use Rattle.sampling.specs.Promises.{Samples}
 use Rattle.sampling.specs.declared.Sampled.{Sampled}
 use Rattle.sampling.specs.declared.Sampled.the-variants as sampled
@@ -41,12 +49,39 @@ use Rattle.within.specs.Shown.{Near, nearWithin}
 use Rattle.within.specs.Kept.{Kept, keptAll, positionsOf, keptRefusals}
 use Rattle.within.specs.Lists.{holdOf, keptOf, listWithin, refusalWithin, evaluationsWithin, writtenWithin, withinOutput, freshPoints, flattenWithinOutput, flattenWithinEvaluations}
 use Rattle.within.specs.Promises.{ThinsWithin, FlattensWithin}
-use Rattle.within.specs.Inner.{nearBy, sitesFrom, ending, EndsWith, allStops, MakesWithin}
+use Rattle.within.specs.inner.Weighing.{nearBy, sitesFrom, ending, EndsWith, allStops, MakesWithin}
 use Rattle.within.specs.declared.fair.Allowed.{Allowed}
 use Rattle.within.proofs.Arrays.{sites-held}
 use Rattle.within.proofs.Counting.{evaluations-most}
 use Rattle.within.proofs.Cutoffs.{same-near}
 use Rattle.within.proofs.Limits.{threshold-number, hold-number, hold-in-force}
+
+-- ---- a checked ramp has at most 2,048 positions
+shaped-few : (n p c k : ℕ) → gimpShaped n p c k ≡ true → p ≤ 2048
+unfolding gimpShaped
+shaped-few n p c k h =
+    let a = both-l (leb 1 n && leb n 256 && eqb p (3 * n) && eqb c (8 * n)) (eqb k (2 * n)) h in
+    let b = both-l (leb 1 n && leb n 256 && eqb p (3 * n)) (eqb c (8 * n)) a in
+    let e = eqb-true p (3 * n) (both-r (leb 1 n && leb n 256) (eqb p (3 * n)) b) in
+    let l = leb-true n 256 (both-r (leb 1 n) (leb n 256) (both-l (leb 1 n && leb n 256) (eqb p (3 * n)) b)) in
+    omega arith
+
+passed-by : (b : Bool) (x : Checked) → cond b x (checked.Refused misshapen) ≡ checked.Fine → b ≡ true
+passed-by true x h = refl
+passed-by false x h = let z : _≡_ {A = ℕ} 0 1 = cc in absurd (omega arith)
+
+pub positions-few : (ramp : Ramp) → checkOf ramp ≡ checked.Fine → length (ramp .positions) ≤ 2048
+unfolding checkOf gimpCheck mostStops
+positions-few ramp h = go (isGimp (ramp .kind)) refl
+  where
+    ps : List Float
+    ps = ramp .positions
+
+    go : (b : Bool) → isGimp (ramp .kind) ≡ b → length ps ≤ 2048
+    go false e = valid ramp e h .sized .most
+    go true e =
+        let k = passed-by (gimpShaped (segments ps) (length ps) (length (ramp .channels)) (length (ramp .codes)) && allCarried (segments ps) 0 ps (ramp .codes)) _ (rw e at h) in
+        shaped-few (segments ps) (length ps) (length (ramp .channels)) (length (ramp .codes)) (both-l (gimpShaped (segments ps) (length ps) (length (ramp .channels)) (length (ramp .codes))) (allCarried (segments ps) 0 ps (ramp .codes)) k)
 
 -- ---- the points
 module _ (ramp : Ramp) (rows : List Float) (counts : List ℕ) (ok : Ready rows counts) (few : length (ramp .positions) ≤ 2048) where
@@ -76,8 +111,14 @@ module _ (ramp : Ramp) (rows : List Float) (counts : List ℕ) (ok : Ready rows 
     pub count-is : n ≡ length sites
     count-is = w .many ∙ ap length all
 
-    pub count-few : length ts ≡ 10753 → n ≤ 10753
-    count-few l = omega (arith, count-is, sites-most)
+    pub count-few : n ≤ 10752
+    unfolding mergedOf listOf
+    count-few =
+        let pts = pointsOf rows counts in
+        omega
+        (arith, w .many ∙ ap length (ap₂ (gathered (ramp .positions) rows counts) el eh ∙ gathered-ready (ramp .positions) rows counts (minOf ramp) (maxOf ramp) ok few),
+        merged-length (maxOf ramp) (length pts + length (ownOf (ramp .positions))) (minOf ramp) pts (ownOf (ramp .positions)), own-length (ramp .positions), few,
+        list-most rows counts (maxOf ramp) ok, length-append pts (maxOf ramp ∷ []))
 
     pub sites-there : length ts ≡ 10753 → length ms ≡ 10753 → sitesFrom ts′ ms′ 0 n ≡ sites
     sites-there l m =
@@ -144,8 +185,13 @@ module _ (ramp : Ramp) (asked hold : Float) (rows : List Float) (counts : List �
       let there = sites-there ramp rows counts ok few lo hi el eh ts ts′ ms ms′ n gs lt lm in
       let many = count-is ramp rows counts ok few lo hi el eh ts ts′ ms ms′ n gs in
       let kept : List Kept = keptAll (colourOf ramp) near (maxOf ramp) (minOf ramp) sites in
+      let q : keptAll (colourOf ramp) (nearBy offs) hi lo (sitesFrom ts′ ms′ 0 n) ≡ kept =
+      ap (λ (x : Near). keptAll (colourOf ramp) x hi lo (sitesFrom ts′ ms′ 0 n)) (near-is asked hold offs v w)
+      ∙ ap₂ (λ (x y : Float). keptAll (colourOf ramp) near x y (sitesFrom ts′ ms′ 0 n)) eh el
+      ∙ ap (keptAll (colourOf ramp) near (maxOf ramp) (minOf ramp)) there in
       let f : EndsWith (ending (colourOf ramp) (min (room (out .entry)) 4609) 0 (out .entry .positions) (out .entry .channels) kept) s ps′ cs′ =
-      rw (← er, ← near-is asked hold offs v w, ← el, ← eh, ← there) e in
+      subst (λ (m : ℕ). EndsWith (ending (colourOf ramp) m 0 (out .entry .positions) (out .entry .channels) kept) s ps′ cs′) er
+      (subst (λ (l : List Kept). EndsWith (ending (colourOf ramp) rm 0 (out .entry .positions) (out .entry .channels) l) s ps′ cs′) q e) in
       record {
         answer = a ∙ answer-is (colourOf ramp) (min (room (out .entry)) 4609) (out .entry .positions) (out .entry .channels) kept s ps′ cs′ f lp lc (n + 2) ∙ ap (λ (k : ℕ). listedOf (keptRefusals (colourOf ramp) (min (room (out .entry)) 4609) 0 kept) (length kept) (k + 2)) many;
         output =
@@ -163,6 +209,30 @@ module _ (ramp : Ramp) (asked hold : Float) (was : Held) where
   pub thin-done : (out : Change Output) (r : Listed) → thinCheck ramp asked was ≡ checked.Fine → MakesWithin ramp asked hold (pointsIn ramp was) out r → ThinsWithin ramp asked hold was out r
   unfolding withinOutput
   thin-done out r e w = record { told = tells _ _ _ _ _ (w .answer ∙ rw e); output = w .output ∙ rw e }
+
+abbrev isDone : Sampled → Bool
+isDone (sampled.Done n) = true
+isDone (sampled.Refused n) = false
+
+sampling-refused : (ramp : Ramp) (asked : Float) (held : Change Held) (k : ℕ) (r : Sampled) → r ≡ sampled.Refused k → Samples ramp asked held r → heldCheck ramp (held .entry) ≡ checked.Refused k
+unfolding sampleAnswer
+sampling-refused ramp asked held k r h w = go (heldCheck ramp (held .entry)) (sym h ∙ w .answer) (sym (ap numberOfSampled h) ∙ w .number)
+  where
+    go : (c : Checked) → sampled.Refused k ≡ onFine c (sampled.Done (freshEvaluations ramp asked)) sampled.Refused → k ≡ numberOfChecked c → c ≡ checked.Refused k
+    go checked.Fine e m = absurd (subst T (sym (ap isDone e)) tt)
+    go (checked.Refused n) e m = ap checked.Refused (sym m)
+
+-- as many evaluations as a count holds
+pub made-few : (ramp : Ramp) (asked hold : Float) (rows : List Float) (counts : List ℕ) → Ready rows counts → length (ramp .positions) ≤ 2048 → (out : Change Output) (r : Listed)
+    → MakesWithin ramp asked hold (listOf rows counts (maxOf ramp)) out r → evaluationsOfListed r ≤ 32146
+made-few ramp asked hold rows counts ok few out r w =
+    let ts = listOf rows counts (maxOf ramp) in
+    let m = evaluations-most ramp asked hold ts (list-most rows counts (maxOf ramp) ok) few in
+    rw (w .answer) (by (refusalWithin ramp asked hold (room (out .entry)) ts) (length (keptOf ramp asked hold ts)) (evaluationsWithin ramp asked hold ts) m)
+  where
+    by : (k s e : ℕ) → e ≤ 10755 → evaluationsOfListed (listedOf k s e) ≤ 32146
+    by zero s e h = omega arith
+    by (suc k) s e h = omega arith
 
 module _ (ramp : Ramp) (asked hold : Float) (held : Change Held) where
   pub flatten-refused : (out : Output) (k : ℕ) (r : Sampled) → r ≡ sampled.Refused k → Samples ramp asked held r → FlattensWithin ramp asked hold held (change out out) (listed.Refused k)

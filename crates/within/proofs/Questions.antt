@@ -8,16 +8,16 @@ use native.Mathlib.Nat.{pow-succ'}
 use native.Mathlib.Omega.{arith}
 use borrow.Author.Tests.{le-leb, lt-leb, leb-true, leb-false}
 use lib.Dec.{leb, eqb}
-use lib.ListN.{length, getD, take}
+use lib.ListN.{length, getD, take, List·getD-eq-default}
 use lib.Pow.{pow-pos}
-use lib.Ieee.{Float}
+use lib.Ieee.{Float, nan}
 use Rattle.float.proofs.Flags.{both-l, both-r}
 use Rattle.sampling.specs.Midpoints.{Gradient}
-use Rattle.weighed.specs.Points.{Site, lentMark}
+use Rattle.weighed.specs.Points.{Site, site, lentMark}
 use Rattle.within.specs.Shown.{Near, pointAfter, shownTo, lentLeft, toLent, further, reachFrom, reachOf}
 use Rattle.within.specs.Kept.{lentShown, anyShown, stepFrom}
-use Rattle.within.specs.Inner.{sitesFrom, allFrom, fairFrom, pointsTo}
-use Rattle.within.proofs.Arrays.{sites-length, shows-all}
+use Rattle.within.specs.inner.Weighing.{sitesFrom, allFrom, fairFrom, pointsTo}
+use Rattle.within.proofs.Arrays.{sites-length, sites-get, shows-all}
 use Rattle.within.proofs.Reaching.{Reached, reached, lent-on}
 
 -- ---- the marks alone count
@@ -42,11 +42,11 @@ lent-most : (r : ℕ) (ss : List Site) → toLent r ss ≤ suc (length ss)
 unfolding toLent
 lent-most zero ss = omega arith
 lent-most (suc r) [] = omega arith
-lent-most (suc r) (s ∷ ss) = go (eqb (s .mark) lentMark)
+lent-most (suc r) (s ∷ ss) = go (eqb (s .mark) lentMark) (lent-most r ss) (lent-most (suc r) ss)
   where
-    go : (b : Bool) → suc (cond b (toLent r ss) (toLent (suc r) ss)) ≤ suc (suc (length ss))
-    go true = omega (arith, lent-most r ss)
-    go false = omega (arith, lent-most (suc r) ss)
+    go : (b : Bool) → toLent r ss ≤ suc (length ss) → toLent (suc r) ss ≤ suc (length ss) → suc (cond b (toLent r ss) (toLent (suc r) ss)) ≤ suc (suc (length ss))
+    go true p q = omega (arith, p)
+    go false p q = omega (arith, q)
 
 pub points-most : (lent : Bool) (rest : List Site) (r : ℕ) → pointsTo lent rest r ≤ suc (length rest)
 unfolding pointsTo
@@ -60,6 +60,26 @@ points-most false rest r = go (leb r (suc (length rest))) refl
     go : (b : Bool) → leb r (suc (length rest)) ≡ b → cond b r 0 ≤ suc (length rest)
     go true e = leb-true r (suc (length rest)) e
     go false e = omega arith
+
+pub points-lent : (l : Bool) (ss : List Site) (r n : ℕ) → l ≡ true → n ≡ pointsTo true ss r → n ≡ pointsTo l ss r
+points-lent l ss r n h e = e ∙ ap (λ (b : Bool). pointsTo b ss r) (sym h)
+
+module _ (l : Bool) (ms : List ℕ) (from count r : ℕ) (h : l ≡ false) where
+  pub points-past : count - from + 1 < r → 0 ≡ pointsTo l (sitesFrom [] ms from (count - from)) r
+  unfolding pointsTo
+  points-past k = rw (h, sites-length [] ms from (count - from), lt-leb r (suc (count - from)) (omega arith))
+
+  pub points-all : r ≤ count - from + 1 → r ≡ pointsTo l (sitesFrom [] ms from (count - from)) r
+  unfolding pointsTo
+  points-all k = rw (h, sites-length [] ms from (count - from), le-leb r (suc (count - from)) (omega arith))
+
+-- ---- the r-th point
+module _ (max : Float) (ts : List Float) (ms : List ℕ) (from count r : ℕ) (h : from ≤ count) (some : 1 ≤ r) where
+  pub after-past : count ≤ from + r - 1 → max ≡ pointAfter max (sitesFrom ts ms from (count - from)) r
+  after-past k = sym (ap (λ (s : Site). s .t) (List·getD-eq-default (sitesFrom ts ms from (count - from)) (site max lentMark) {n = r - 1} (omega (arith, sites-length ts ms from (count - from)))))
+
+  pub after-in : from + r - 1 < count → getD ts (from + r - 1) nan ≡ pointAfter max (sitesFrom ts ms from (count - from)) r
+  after-in k = sym (ap (λ (s : Site). s .t) (sites-get ts ms from (count - from) (r - 1) (from + r - 1) (site max lentMark) (omega arith) (omega arith)))
 
 -- ---- an answer, by how many points it goes
 module _ (g : Gradient) (near : Near) (max a : Float) (rest : List Site) where
@@ -93,10 +113,10 @@ module _ (g : Gradient) (near : Near) (max a : Float) (rest : List Site) where
       go false d = absurd (n d)
 
   -- ---- a step
-  lents : ℕ
+  abbrev lents : ℕ
   lents = reachOf (lentShown g near max a rest)
 
-  anys : ℕ
+  abbrev anys : ℕ
   anys = reachOf (anyShown g near max a rest)
 
   module _ (h : lentShown g near max a rest 1 ≡ true) where
@@ -105,11 +125,11 @@ module _ (g : Gradient) (near : Near) (max a : Float) (rest : List Site) where
 
     pub lent-step : (r n : ℕ) → r ≡ reachOf (lentShown g near max a rest) → n ≡ pointsTo true rest r → n ≡ stepFrom g near max a rest
     unfolding stepFrom pointsTo lentShown
-    lent-step r n e d = d ∙ rw (e, both-l _ _ lent-asked, h)
+    lent-step r n e d = d ∙ rw (e, both-l (leb lents (lentLeft rest)) (shownTo g near max a rest (toLent lents rest)) lent-asked, h)
 
     pub lent-shown : true ≡ shownTo g near max a rest (stepFrom g near max a rest)
     unfolding stepFrom lentShown
-    lent-shown = rw h (sym (both-r _ _ lent-asked))
+    lent-shown = rw h (sym (both-r (leb lents (lentLeft rest)) (shownTo g near max a rest (toLent lents rest)) lent-asked))
 
   module _ (h : lentShown g near max a rest 1 ≡ false) where
     pub any-step : (r : ℕ) → r ≡ reachOf (anyShown g near max a rest) → r ≡ stepFrom g near max a rest
@@ -121,7 +141,7 @@ module _ (g : Gradient) (near : Near) (max a : Float) (rest : List Site) where
     any-shown r e l =
         elim (reached (anyShown g near max a rest) .asked) [
           | inl o ↦ absurd (omega (arith, e, o, l))
-          | inr y ↦ rw h (sym (both-r _ _ y))
+          | inr y ↦ rw h (sym (both-r (leb anys (suc (length rest))) (shownTo g near max a rest anys) y))
         ]
 
     pub one-step : (r : ℕ) → r ≡ reachOf (anyShown g near max a rest) → r ≤ 1 → 1 ≡ stepFrom g near max a rest
@@ -139,7 +159,7 @@ module _ (g : Gradient) (near : Near) (max a : Float) (rest : List Site) where
       any : reachOf (anyShown g near max a rest) ≤ suc (length rest)
       any = elim (reached (anyShown g near max a rest) .asked) [
         | inl o ↦ omega (arith, o)
-        | inr y ↦ leb-true _ _ (both-l _ _ y)
+        | inr y ↦ leb-true anys (suc (length rest)) (both-l (leb anys (suc (length rest))) (shownTo g near max a rest anys) y)
       ]
 
       go : (b : Bool) → cond b (toLent (reachOf (lentShown g near max a rest)) rest) (reachOf (anyShown g near max a rest)) ≤ suc (length rest)
@@ -211,3 +231,14 @@ half-reach (suc k) r n h = let d : suc k - 1 ≡ k = omega arith in rw d (by (2 
   where
     by : (m q : ℕ) → q ≡ 2 * m → r * q ≤ 16384 → 2 * r * m ≤ 16384
     by m q e l = let f : r * (2 * m) ≤ 16384 = rw (← e) l in omega arith
+
+pub reach-all : (f : ℕ → Bool) (r : ℕ) → r ≡ reachFrom f 14 1 → r ≡ reachOf f
+unfolding reachOf
+reach-all f r e = e
+
+pub reach-least : (k r : ℕ) → r * 2 ^ k ≤ 16384 → r ≤ 16384
+reach-least k r h = by (2 ^ k) (pow-pos k) h
+  where
+    by : (m : ℕ) → 1 ≤ m → r * m ≤ 16384 → r ≤ 16384
+    by zero a b = absurd (omega arith)
+    by (suc m) a b = omega arith

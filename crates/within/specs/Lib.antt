@@ -3,4 +3,4 @@ pub mod Shown
 pub mod Kept
 pub mod Lists
 pub mod Promises
-pub mod Inner
+pub mod inner

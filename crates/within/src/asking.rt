@@ -14,7 +14,7 @@ ghost use Prim.Native.Nat.{_+_, _-_, _*_, _^_, _≤_, min};
 ghost use lib.Dec.{eqb};
 ghost use Rattle.weighed.specs.Points.{lentMark};
 ghost use Rattle.stops.specs.Lent.{rampIn, lentRamp, old, new};
-ghost use Rattle.within.specs.Inner.{pointsTo, sitesFrom, aheadOf, Asking, Answers, Reaches, Steps, MayShow, ShowsTo};
+ghost use Rattle.within.specs.inner.Weighing.{pointsTo, sitesFrom, aheadOf, Asking, Answers, Reaches, Steps, MayShow, ShowsTo};
 
 // Of `left` lent positions that are to come those after a point.
 fn left_after(mark: u8, left: usize) -> usize

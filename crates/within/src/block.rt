@@ -9,14 +9,14 @@ use stops::Window;
 use stops::segments;
 use stops::segments::follow;
 ghost use mathlib.Core.Path.{_≡_};
-ghost use mathlib.Core.Bool.{true};
 ghost use Prim.Native.Nat.{_+_, _-_, _≤_, _<_, min};
+ghost use lib.ListN.{length};
 ghost use Rattle.gradient.specs.Ramp.{checkOf, colourOf};
-ghost use Rattle.sampling.specs.Inner.{Coloured, Prepared, PointAt};
+ghost use Rattle.sampling.specs.inner.Steps.{Coloured, Prepared, PointAt};
 ghost use Rattle.stops.specs.Lent.{rampIn, lentRamp, old, new};
 ghost use Rattle.stops.specs.declared.Checked.the-variants.{Fine};
 ghost use Rattle.within.specs.Shown.{pointAfter};
-ghost use Rattle.within.specs.Inner.{isUpTo, NearPair, ColoursInHand, Fills, Covers, sitesFrom};
+ghost use Rattle.within.specs.inner.Weighing.{isUpTo, NearPair, HoldsAt, ColoursInHand, Fills, Covers, sitesFrom};
 
 // The colours of a block.
 const BLOCK: usize = 1024;
@@ -98,6 +98,7 @@ fn fill_each(
     table: &mut [[[f32; 4]; 4]],
 )
     requires { ⌜ (checkOf (rampIn kind positions channels codes) ≡ Fine) × ((base + count ≤ 10753) × (count ≤ 1024)) ⌝ }
+    requires { ⌜ length (now block) ≡ 1024 ⌝ }
     ensures { λ _. ⌜ ColoursInHand (colourOf (lentRamp kind positions channels codes)) (old ts) (record { base = base; count = count }) (new block) ⌝ }
 {
     let n = positions.len();
@@ -145,6 +146,7 @@ fn fill(
     block: &mut [[f32; 4]; 1024],
 ) -> Window
     requires { ⌜ (checkOf (rampIn kind positions channels codes) ≡ Fine) × ((base ≤ to) × (to ≤ 10753)) ⌝ }
+    requires { ⌜ length (now block) ≡ 1024 ⌝ }
     ensures { λ r. ⌜ Fills (lentRamp kind positions channels codes) (old ts) base to (new block) r ⌝ }
 {
     let mut table = [[[0.0f32; 4]; 4]; segments::AHEAD];
@@ -166,7 +168,7 @@ fn fill(
 
 // A window has an index.
 fn holds(w: Window, i: usize) -> bool
-    ensures { λ r. ⌜ r ≡ true → (w .base ≤ i) × (i < w .base + w .count) ⌝ }
+    ensures { λ r. ⌜ HoldsAt w i r ⌝ }
 {
     if i < w.base {
         return false;
@@ -212,9 +214,8 @@ pub(crate) fn point_after(
     w: Window,
     block: &[[f32; 4]; 1024],
 ) -> Point
-    requires { ⌜ (checkOf (rampIn kind positions channels codes) ≡ Fine) × ((from ≤ count) × (count ≤ 10753)) ⌝ }
-    requires { ⌜ ColoursInHand (colourOf (rampIn kind positions channels codes)) (now ts) w (now block) ⌝ }
-    requires { ⌜ Coloured (colourOf (rampIn kind positions channels codes)) end × ((1 ≤ r) × (from + r ≤ count + 1)) ⌝ }
+    requires { ⌜ (checkOf (rampIn kind positions channels codes) ≡ Fine) × ((from ≤ count) × ((count ≤ 10753) × ((1 ≤ r) × (from + r ≤ count + 1)))) ⌝ }
+    requires { ⌜ ColoursInHand (colourOf (rampIn kind positions channels codes)) (now ts) w (now block) × Coloured (colourOf (rampIn kind positions channels codes)) end ⌝ }
     ensures { λ x. ⌜ PointAt (colourOf (lentRamp kind positions channels codes)) (pointAfter (end .t) (sitesFrom (old ts) (old marks) from (count - from)) r) x ⌝ }
 {
     let j = from + r - 1;

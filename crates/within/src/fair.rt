@@ -8,7 +8,7 @@ ghost use mathlib.Core.Path.{_≡_};
 ghost use Prim.Native.Nat.{_+_, _-_, _≤_, _<_};
 ghost use Rattle.stops.specs.Lent.{old};
 ghost use Rattle.within.specs.Shown.{offAt, nearBelow};
-ghost use Rattle.within.specs.Inner.{entryAt, pointFair, blockFair, allFrom};
+ghost use Rattle.within.specs.inner.Weighing.{entryAt, pointFair, blockFair, allFrom};
 
 // The cutoffs of the threshold and of the hold.
 pub(crate) struct Allowed {

@@ -21,7 +21,7 @@ ghost use Rattle.stops.specs.Lent.{rampIn, lentRamp, old};
 ghost use Rattle.stops.specs.declared.Checked.the-variants.{Fine};
 ghost use Rattle.linearize.specs.Lent.{lentOutput};
 ghost use Rattle.within.specs.Lists.{holdOf};
-ghost use Rattle.within.specs.Inner.{MakesWithin};
+ghost use Rattle.within.specs.inner.Weighing.{MakesWithin};
 ghost use Rattle.within.specs.Promises.{ThinsWithin, FlattensWithin};
 
 mod asking;

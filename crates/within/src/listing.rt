@@ -13,13 +13,14 @@ use thinning::Progress;
 use thinning::emit;
 ghost use mathlib.Core.Path.{_≡_};
 ghost use Prim.Native.Nat.{_≤_};
+ghost use lib.ListN.{length};
 ghost use Rattle.gradient.specs.Ramp.{checkOf, colourOf};
-ghost use Rattle.sampling.specs.Inner.{Coloured};
+ghost use Rattle.sampling.specs.inner.Steps.{Coloured};
 ghost use Rattle.thinning.specs.Kept.{writtenOf};
 ghost use Rattle.linearize.specs.Desk.{listedOf};
 ghost use Rattle.stops.specs.declared.Checked.the-variants.{Fine};
 ghost use Rattle.stops.specs.Lent.{rampIn, lentRamp, old, new};
-ghost use Rattle.within.specs.Inner.{stopsAfter, allStops, EndsWith};
+ghost use Rattle.within.specs.inner.Weighing.{stopsAfter, allStops, EndsWith};
 
 // The stops after the first. A stop is compared with itself: points rise, so there is no 9.
 fn thin_sites(
@@ -38,9 +39,8 @@ fn thin_sites(
     out_positions: &mut [f32],
     out_channels: &mut [f32],
 ) -> Progress
-    requires { ⌜ (checkOf (rampIn kind positions channels codes) ≡ Fine) × (count ≤ 10752) ⌝ }
+    requires { ⌜ (checkOf (rampIn kind positions channels codes) ≡ Fine) × ((count ≤ 10752) × ((start .refusal ≡ 0) × (length (now block) ≡ 1024))) ⌝ }
     requires { ⌜ Coloured (colourOf (rampIn kind positions channels codes)) (start .last) × Coloured (colourOf (rampIn kind positions channels codes)) end ⌝ }
-    requires { ⌜ start .refusal ≡ 0 ⌝ }
     ensures { λ r. ⌜ EndsWith (stopsAfter (lentRamp kind positions channels codes) offs room start count (end .t) (old ts) (old marks) (old «out_positions») (old «out_channels»)) r (new «out_positions») (new «out_channels») ⌝ }
 {
     let mut s = start;

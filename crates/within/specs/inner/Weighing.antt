@@ -17,7 +17,7 @@ use Rattle.stops.specs.declared.Window.{Window}
 use Rattle.stops.specs.declared.Checked.the-variants.{Fine}
 use Rattle.gradient.specs.Ramp.{checkOf, colourOf}
 use Rattle.sampling.specs.Midpoints.{Gradient}
-use Rattle.sampling.specs.Inner.{Coloured}
+use Rattle.sampling.specs.inner.Steps.{Coloured}
 use Rattle.sampling.specs.declared.Point.{Point}
 use Rattle.thinning.specs.declared.Progress.{Progress}
 use Rattle.linearize.specs.Lent.{Output}
@@ -72,9 +72,14 @@ NearPair ps t k = (k ≡ 0 → ⊥) → isUpTo ps t k ≡ true
 
 -- a block has the colours of the points from its base on
 pub record ColoursInHand (g : Gradient) (ts : List Float) (w : Window) (block : List (List Float)) : Type 0 where
+  pub long : length block ≡ 1024
   pub fits : w .count ≤ 1024
   pub within : w .base + w .count ≤ 10753
   pub each : (i : ℕ) → i < w .count → getD block i [] ≡ channelsOf (g (getD ts (w .base + i) nan))
+
+-- an answer that an index is in a window
+abbrev pub HoldsAt : Window → ℕ → Bool → Type 0
+HoldsAt w i r = r ≡ true → (w .base ≤ i) × (i < w .base + w .count)
 
 -- as many as there is room for, from `base` on up to `to`
 pub record Fills (ramp : Ramp) (ts : List Float) (base to : ℕ) (block′ : List (List Float)) (w : Window) : Type 0 where
