@@ -17,7 +17,7 @@ const MINOR: u32 = 2;
 
 const PATCH: u32 = 0;
 
-const REFUSALS: usize = 21;
+const REFUSALS: usize = 22;
 
 const VERDICTS: usize = 7;
 
@@ -94,6 +94,7 @@ pub extern "C" fn colorgrad_message_told(refusal: u32, out: &mut [u8]) -> usize
         the segments of the GIMP text do not run from 0 to 1, each joined to the next\n\
         a number of the list cannot be written, or it does not run from 0 to 1\n\
         the record was sampled with another threshold or on another domain\n\
+        two stops that follow each other do not show what lies between them: colours beyond 16,384\n\
         no such refusal\n",
         k,
         out,

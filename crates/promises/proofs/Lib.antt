@@ -22,6 +22,8 @@ pub mod Sampling
 pub mod Thinning
 pub mod Places
 pub mod Linearize
+pub mod Weighed
+pub mod Within
 pub mod NextStop
 pub mod Reach
 pub mod Editing

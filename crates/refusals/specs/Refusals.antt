@@ -82,6 +82,10 @@ unwritable = 19
 abbrev pub otherThreshold : ℕ
 otherThreshold = 20
 
+-- a list within a hold: two stops that follow each other do not show what lies between them
+abbrev pub notShown : ℕ
+notShown = 21
+
 -- asking which depths a list made one: the list is turned down by `judge` before it asks for colours
 abbrev pub badList : ℕ
 badList = 22

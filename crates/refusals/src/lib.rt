@@ -62,6 +62,9 @@ pub const UNWRITABLE: u8 = 19;
 // A record of another threshold in force, or of other ends of the domain.
 pub const OTHER_THRESHOLD: u8 = 20;
 
+// Two stops of a list that follow each other do not show what lies between them.
+pub const NOT_SHOWN: u8 = 21;
+
 // A list that a judge turns down before it asks for colours.
 pub const BAD_LIST: u8 = 22;
 
