@@ -2,7 +2,7 @@
 use contract.Lifetimes.{Lfts}
 use denote.Ref.{now}
 use Prim.Native.Nat.{ℕ}
-use mathlib.Core.Path.{_≡_, sym, _∙_, ap}
+use mathlib.Core.Path.{sym, _∙_, ap}
 use Rattle.sqrt.proofs.Theorems.{cutoff-unique}
 use Rattle.stops.specs.declared.Kind.{Kind}
 use Rattle.plain.specs.Kinds.{kindOf, onKind, Shows, ShowsOf}
