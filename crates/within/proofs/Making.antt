@@ -115,10 +115,15 @@ module _ (ramp : Ramp) (rows : List Float) (counts : List ℕ) (ok : Ready rows 
     unfolding mergedOf listOf
     count-few =
         let pts = pointsOf rows counts in
-        omega
-        (arith, w .many ∙ ap length (ap₂ (gathered (ramp .positions) rows counts) el eh ∙ gathered-ready (ramp .positions) rows counts (minOf ramp) (maxOf ramp) ok few),
-        merged-length (maxOf ramp) (length pts + length (ownOf (ramp .positions))) (minOf ramp) pts (ownOf (ramp .positions)), own-length (ramp .positions), few,
-        list-most rows counts (maxOf ramp) ok, length-append pts (maxOf ramp ∷ []))
+        omega (
+          arith,
+          w .many ∙ ap length (ap₂ (gathered (ramp .positions) rows counts) el eh ∙ gathered-ready (ramp .positions) rows counts (minOf ramp) (maxOf ramp) ok few),
+          merged-length (maxOf ramp) (length pts + length (ownOf (ramp .positions))) (minOf ramp) pts (ownOf (ramp .positions)),
+          own-length (ramp .positions),
+          few,
+          list-most rows counts (maxOf ramp) ok,
+          length-append pts (maxOf ramp ∷ []),
+        )
 
     pub sites-there : length ts ≡ 10753 → length ms ≡ 10753 → sitesFrom ts′ ms′ 0 n ≡ sites
     sites-there l m =

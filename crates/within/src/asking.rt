@@ -14,7 +14,7 @@ ghost use Prim.Native.Nat.{_+_, _-_, _*_, _^_, _≤_, min};
 ghost use lib.Dec.{eqb};
 ghost use Rattle.weighed.specs.Points.{lentMark};
 ghost use Rattle.stops.specs.Lent.{rampIn, lentRamp, old, new};
-ghost use Rattle.within.specs.inner.Weighing.{pointsTo, sitesFrom, aheadOf, Asking, Answers, Reaches, Steps, MayShow, ShowsTo};
+ghost use Rattle.within.specs.inner.Weighing.{pointsTo, sitesFrom, aheadOf, Asking, Answers, Reaches, StepsFrom, MayShow, ShowsTo};
 
 // Of `left` lent positions that are to come those after a point.
 fn left_after(mark: u8, left: usize) -> usize
@@ -289,7 +289,7 @@ pub(crate) fn step_from(
     end: Point,
 ) -> Step
     requires { ⌜ Asking (rampIn kind positions channels codes) (now ts) w (now block) a (aheadOf from count end) ⌝ }
-    ensures { λ x. ⌜ Steps (lentRamp kind positions channels codes) offs (end .t) (a .t) (old ts) (sitesFrom (old ts) (old marks) from (count - from)) (new block) x ⌝ }
+    ensures { λ x. ⌜ StepsFrom (lentRamp kind positions channels codes) offs a (old ts) (old marks) from count end (new block) x ⌝ }
 {
     let own = Ahead {
         from,

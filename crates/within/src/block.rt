@@ -12,11 +12,10 @@ ghost use mathlib.Core.Path.{_≡_};
 ghost use Prim.Native.Nat.{_+_, _-_, _≤_, _<_, min};
 ghost use lib.ListN.{length};
 ghost use Rattle.gradient.specs.Ramp.{checkOf, colourOf};
-ghost use Rattle.sampling.specs.inner.Steps.{Coloured, Prepared, PointAt};
+ghost use Rattle.sampling.specs.inner.Steps.{Prepared, PointAt};
 ghost use Rattle.stops.specs.Lent.{rampIn, lentRamp, old, new};
 ghost use Rattle.stops.specs.declared.Checked.the-variants.{Fine};
-ghost use Rattle.within.specs.Shown.{pointAfter};
-ghost use Rattle.within.specs.inner.Weighing.{isUpTo, NearPair, HoldsAt, ColoursInHand, Fills, Covers, sitesFrom};
+ghost use Rattle.within.specs.inner.Weighing.{isUpTo, NearPair, HoldsAt, ColoursInHand, InHandWith, AfterAt, Fills, Covers};
 
 // The colours of a block.
 const BLOCK: usize = 1024;
@@ -215,8 +214,8 @@ pub(crate) fn point_after(
     block: &[[f32; 4]; 1024],
 ) -> Point
     requires { ⌜ (checkOf (rampIn kind positions channels codes) ≡ Fine) × ((from ≤ count) × ((count ≤ 10753) × ((1 ≤ r) × (from + r ≤ count + 1)))) ⌝ }
-    requires { ⌜ ColoursInHand (colourOf (rampIn kind positions channels codes)) (now ts) w (now block) × Coloured (colourOf (rampIn kind positions channels codes)) end ⌝ }
-    ensures { λ x. ⌜ PointAt (colourOf (lentRamp kind positions channels codes)) (pointAfter (end .t) (sitesFrom (old ts) (old marks) from (count - from)) r) x ⌝ }
+    requires { ⌜ InHandWith (rampIn kind positions channels codes) (now ts) w (now block) end ⌝ }
+    ensures { λ x. ⌜ AfterAt (lentRamp kind positions channels codes) end (old ts) (old marks) from count r x ⌝ }
 {
     let j = from + r - 1;
     if count <= j {

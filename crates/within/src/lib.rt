@@ -14,14 +14,14 @@ use weighed::MOST;
 use weighed::gather;
 ghost use mathlib.Core.Path.{_≡_};
 ghost use Prim.Native.Nat.{min};
-ghost use Rattle.gradient.specs.Ramp.{maxIn, checkOf};
-ghost use Rattle.places.specs.Places.{listOf, Ready};
+ghost use Rattle.gradient.specs.Ramp.{checkOf};
+ghost use Rattle.places.specs.Places.{Ready};
 ghost use Rattle.sampling.specs.Lent.{lentHeld};
 ghost use Rattle.stops.specs.Lent.{rampIn, lentRamp, old};
 ghost use Rattle.stops.specs.declared.Checked.the-variants.{Fine};
 ghost use Rattle.linearize.specs.Lent.{lentOutput};
 ghost use Rattle.within.specs.Lists.{holdOf};
-ghost use Rattle.within.specs.inner.Weighing.{MakesWithin};
+ghost use Rattle.within.specs.inner.Weighing.{MakesOf};
 ghost use Rattle.within.specs.Promises.{ThinsWithin, FlattensWithin};
 
 mod asking;
@@ -72,7 +72,7 @@ fn list_within(
     out_channels: &mut [f32],
 ) -> Listed
     requires { ⌜ Ready (now rows) (now counts) × (checkOf (rampIn kind positions channels codes) ≡ Fine) ⌝ }
-    ensures { λ r. ⌜ MakesWithin (lentRamp kind positions channels codes) threshold hold (listOf (old rows) (old counts) (maxIn kind (old positions))) (lentOutput «out_positions» «out_channels») r ⌝ }
+    ensures { λ r. ⌜ MakesOf (lentRamp kind positions channels codes) threshold hold (old rows) (old counts) (lentOutput «out_positions» «out_channels») r ⌝ }
 {
     let offs = Allowed {
         threshold: cutoff_of(threshold),

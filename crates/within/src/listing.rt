@@ -18,9 +18,10 @@ ghost use Rattle.gradient.specs.Ramp.{checkOf, colourOf};
 ghost use Rattle.sampling.specs.inner.Steps.{Coloured};
 ghost use Rattle.thinning.specs.Kept.{writtenOf};
 ghost use Rattle.linearize.specs.Desk.{listedOf};
+ghost use Rattle.linearize.specs.Lent.{lentOutput};
 ghost use Rattle.stops.specs.declared.Checked.the-variants.{Fine};
 ghost use Rattle.stops.specs.Lent.{rampIn, lentRamp, old, new};
-ghost use Rattle.within.specs.inner.Weighing.{stopsAfter, allStops, EndsWith};
+ghost use Rattle.within.specs.inner.Weighing.{StopsAfter, AllStops};
 
 // The stops after the first. A stop is compared with itself: points rise, so there is no 9.
 fn thin_sites(
@@ -41,7 +42,7 @@ fn thin_sites(
 ) -> Progress
     requires { ⌜ (checkOf (rampIn kind positions channels codes) ≡ Fine) × ((count ≤ 10752) × ((start .refusal ≡ 0) × (length (now block) ≡ 1024))) ⌝ }
     requires { ⌜ Coloured (colourOf (rampIn kind positions channels codes)) (start .last) × Coloured (colourOf (rampIn kind positions channels codes)) end ⌝ }
-    ensures { λ r. ⌜ EndsWith (stopsAfter (lentRamp kind positions channels codes) offs room start count (end .t) (old ts) (old marks) (old «out_positions») (old «out_channels»)) r (new «out_positions») (new «out_channels») ⌝ }
+    ensures { λ r. ⌜ StopsAfter (lentRamp kind positions channels codes) offs room start count end (old ts) (old marks) (lentOutput «out_positions» «out_channels») r ⌝ }
 {
     let mut s = start;
     let mut i = 0;
@@ -120,7 +121,7 @@ pub(crate) fn thin_all(
     out_channels: &mut [f32],
 ) -> Progress
     requires { ⌜ (checkOf (rampIn kind positions channels codes) ≡ Fine) × (count ≤ 10752) ⌝ }
-    ensures { λ r. ⌜ EndsWith (allStops (lentRamp kind positions channels codes) offs room count min max (old ts) (old marks) (old «out_positions») (old «out_channels»)) r (new «out_positions») (new «out_channels») ⌝ }
+    ensures { λ r. ⌜ AllStops (lentRamp kind positions channels codes) offs room count min max (old ts) (old marks) (lentOutput «out_positions» «out_channels») r ⌝ }
 {
     let none: [[[f32; 4]; 4]; 1] = [[[0.0; 4]; 4]; 1];
     let end = evaluate(kind, positions, channels, codes, max, 1, 0, &none[..0]);

@@ -6,6 +6,7 @@ use mathlib.Core.List.{List}
 use Prim.Native.Nat.{ℕ, _≤_, min}
 use lib.ListN.{length, length-replicate}
 use lib.Ieee.{Float}
+use Rattle.float.specs.F32.{f0}
 use Rattle.sqrt.specs.Cutoff.{IsCutoff}
 use Rattle.stops.specs.Lent.{Ramp, rampIn}
 use Rattle.sampling.specs.Constants.{thresholdOf}
@@ -56,7 +57,7 @@ returns c =
     let f = at-finish .finish .ensures in
     let held = at-hold k in
     let cut = subst (λ (x : Float). IsCutoff (thresholdOf x) (at-min k .before .cutoff-of2 .result)) (held .hold-of .ensures) (at-min k .before .cutoff-of2 .ensures) in
-    made (ramp k) (a .threshold) (a .hold) (a .rows .now) (a .counts .now) (start k .pre .0) (positions k) _ (held .before .cutoff-of .ensures) cut _ _ (at-min k .min-of .ensures) (at-max k .max-of .ensures) _ _ _ _ _ (length-replicate 10753 _) (length-replicate 10753 _) (k .gather .ensures) _ (at-most .at-most .result) (at-most .at-most .ensures ∙ ap (λ (n : ℕ). min n 4609) (at-most .before .room-of .ensures)) (at-all .thin-all .result) (at-all .thin-all .last .1 .1 .1 .1 .1 .1 .1 .1 .1 .1 .1 .0) (at-all .thin-all .last .1 .1 .1 .1 .1 .1 .1 .1 .1 .1 .1 .1 .0) (at-all .thin-all .ensures) (at-all .thin-all .kept .1 .1 .1 .1 .1 .1 .1 .1 .1 .1 .1 .0) (at-all .thin-all .kept .1 .1 .1 .1 .1 .1 .1 .1 .1 .1 .1 .1 .0) _ (f .0) (f .1 .0) (f .1 .1)
+    made (ramp k) (a .threshold) (a .hold) (a .rows .now) (a .counts .now) (start k .pre .0) (positions k) _ (held .before .cutoff-of .ensures) cut _ _ (at-min k .min-of .ensures) (at-max k .max-of .ensures) _ _ _ _ _ (length-replicate 10753 f0) (length-replicate {A = ℕ} 10753 0) (k .gather .ensures) _ (at-most .at-most .result) (at-most .at-most .ensures ∙ ap (λ (n : ℕ). min n 4609) (at-most .before .room-of .ensures)) (at-all .thin-all .result) (at-all .thin-all .last .1 .1 .1 .1 .1 .1 .1 .1 .1 .1 .1 .0) (at-all .thin-all .last .1 .1 .1 .1 .1 .1 .1 .1 .1 .1 .1 .1 .0) (at-all .thin-all .ensures) (at-all .thin-all .kept .1 .1 .1 .1 .1 .1 .1 .1 .1 .1 .1 .0) (at-all .thin-all .kept .1 .1 .1 .1 .1 .1 .1 .1 .1 .1 .1 .1 .0) _ (f .0) (f .1 .0) (f .1 .1)
 
 pub list-within-spec : {M : Type 1} → statement M
 list-within-spec =

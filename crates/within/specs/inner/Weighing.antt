@@ -15,16 +15,17 @@ use Rattle.stops.specs.Lent.{Ramp, Change}
 use Rattle.stops.specs.Stops.{posAt}
 use Rattle.stops.specs.declared.Window.{Window}
 use Rattle.stops.specs.declared.Checked.the-variants.{Fine}
-use Rattle.gradient.specs.Ramp.{checkOf, colourOf}
+use Rattle.gradient.specs.Ramp.{maxOf, checkOf, colourOf}
+use Rattle.places.specs.Places.{listOf}
 use Rattle.sampling.specs.Midpoints.{Gradient}
-use Rattle.sampling.specs.inner.Steps.{Coloured}
+use Rattle.sampling.specs.inner.Steps.{Coloured, PointAt}
 use Rattle.sampling.specs.declared.Point.{Point}
 use Rattle.thinning.specs.declared.Progress.{Progress}
 use Rattle.linearize.specs.Lent.{Output}
 use Rattle.linearize.specs.Desk.{listedOf, room}
 use Rattle.linearize.specs.declared.Listed.{Listed}
 use Rattle.weighed.specs.Points.{Site, site}
-use Rattle.within.specs.Shown.{Near, nearBelow, fairly, shownTo, lentLeft, toLent, reachFrom}
+use Rattle.within.specs.Shown.{Near, nearBelow, fairly, pointAfter, shownTo, lentLeft, toLent, reachFrom}
 use Rattle.within.specs.Kept.{Kept, lentShown, anyShown, stepFrom, keptFrom, keptAll, positionsOf, keptRefusals}
 use Rattle.within.specs.Lists.{keptOf, refusalWithin, evaluationsWithin, writtenWithin}
 use Rattle.within.specs.declared.fair.Allowed.{Allowed}
@@ -93,6 +94,14 @@ pub record Covers (ramp : Ramp) (ts : List Float) (i : ℕ) (block′ : List (Li
   pub to : i < w .base + w .count
   pub hand : ColoursInHand (colourOf ramp) ts w block′
 
+-- the colours in hand, and max with its own
+abbrev pub InHandWith : Ramp → List Float → Window → List (List Float) → Point → Type 0
+InHandWith ramp ts w block end = ColoursInHand (colourOf ramp) ts w block × Coloured (colourOf ramp) end
+
+-- the r-th point of those from one on, with its colour
+abbrev pub AfterAt : Ramp → Point → List Float → List ℕ → ℕ → ℕ → ℕ → Point → Type 0
+AfterAt ramp end ts ms from count r x = PointAt (colourOf ramp) (pointAfter (end .t) (sitesFrom ts ms from (count - from)) r) x
+
 -- ---- the questions
 -- all points from one on
 abbrev pub aheadOf : ℕ → ℕ → Point → Ahead
@@ -153,6 +162,9 @@ pub record Steps (ramp : Ramp) (offs : Allowed) (max a : Float) (ts : List Float
   pub shown : r .shown ≡ shownTo (colourOf ramp) (nearBy offs) max a rest (stepFrom (colourOf ramp) (nearBy offs) max a rest)
   pub hand : ColoursInHand (colourOf ramp) ts (r .w) block′
 
+abbrev pub StepsFrom : Ramp → Allowed → Point → List Float → List ℕ → ℕ → ℕ → Point → List (List Float) → Step → Type 0
+StepsFrom ramp offs a ts ms from count end block′ r = Steps ramp offs (end .t) (a .t) ts (sitesFrom ts ms from (count - from)) block′ r
+
 -- ---- the stops
 -- what it comes to when the points ks follow n stops that are written
 pub record Ending : Type 0 where
@@ -175,15 +187,24 @@ pub record EndsWith (o : Ending) (s : Progress) (ps cs : List Float) : Type 0 wh
   pub refused : s .refusal ≡ o .refusal
   pub same : s .refusal ≡ 0 → (s .stops ≡ o .stops) × ((ps ≡ o .places) × (cs ≡ o .colours))
 
--- of the stops after one that stands, and of all
-abbrev pub stopsAfter : Ramp → Allowed → ℕ → Progress → ℕ → Float → List Float → List ℕ → List Float → List Float → Ending
-stopsAfter ramp offs room s count max ts ms ps cs =
-    ending (colourOf ramp) room (s .stops) ps cs (keptFrom (colourOf ramp) (nearBy offs) max (suc count) (s .last .t) (sitesFrom ts ms 0 count))
+-- of the stops after one that stands, and of all: from the outputs before to those after
+abbrev pub StopsAfter : Ramp → Allowed → ℕ → Progress → ℕ → Point → List Float → List ℕ → Change Output → Progress → Type 0
+StopsAfter ramp offs room s count end ts ms out r =
+    EndsWith
+    (ending (colourOf ramp) room (s .stops) (out .entry .positions) (out .entry .channels) (keptFrom (colourOf ramp) (nearBy offs) (end .t) (suc count) (s .last .t) (sitesFrom ts ms 0 count)))
+    r (out .exit .positions) (out .exit .channels)
 
 abbrev pub allStops : Ramp → Allowed → ℕ → ℕ → Float → Float → List Float → List ℕ → List Float → List Float → Ending
 allStops ramp offs room count lo max ts ms ps cs = ending (colourOf ramp) room 0 ps cs (keptAll (colourOf ramp) (nearBy offs) max lo (sitesFrom ts ms 0 count))
+
+abbrev pub AllStops : Ramp → Allowed → ℕ → ℕ → Float → Float → List Float → List ℕ → Change Output → Progress → Type 0
+AllStops ramp offs room count lo max ts ms out r =
+    EndsWith (allStops ramp offs room count lo max ts ms (out .entry .positions) (out .entry .channels)) r (out .exit .positions) (out .exit .channels)
 
 -- the list of the points ts is made: the answer and both outputs
 pub record MakesWithin (ramp : Ramp) (asked hold : Float) (ts : List Float) (out : Change Output) (r : Listed) : Type 0 where
   pub answer : r ≡ listedOf (refusalWithin ramp asked hold (room (out .entry)) ts) (length (keptOf ramp asked hold ts)) (evaluationsWithin ramp asked hold ts)
   pub output : out .exit ≡ writtenWithin ramp asked hold ts (out .entry)
+
+abbrev pub MakesOf : Ramp → Float → Float → List Float → List ℕ → Change Output → Listed → Type 0
+MakesOf ramp asked hold rows counts out r = MakesWithin ramp asked hold (listOf rows counts (maxOf ramp)) out r

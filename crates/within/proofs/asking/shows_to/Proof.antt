@@ -84,10 +84,13 @@ loop-again c =
     let r = at-block k .refill .ensures in
     let asked = shown-is g (a .ts .now) _ _ (r .hand) (nearBy (a .offs)) (a .a) (a .b) (s .pre .left) (s .pre .right) (a .marks .now) (l .i) (at-most k .at-most .result) (r .from) (omega (arith, e)) in (
       omega (arith, l .inv .0, e, r .to, at-test k .loop-test .taken),
-      (omega (arith, e), (
-        l .inv .1 .1 .0 ∙ first-yes _ (l .i) (at-most k .at-most .result - l .i) (a .to - at-most k .at-most .result) (at-most k .at-most .result) (a .to - l .i) (omega (arith, e, r .to, at-test k .loop-test .taken)) (omega (arith, e, r .to, at-test k .loop-test .taken)) (sym asked ∙ sym (k .shows .ensures) ∙ not-false _ (c .if1 .left)),
-        r .hand,
-      )),
+      (
+        omega (arith, e),
+        (
+          l .inv .1 .1 .0 ∙ first-yes _ (l .i) (at-most k .at-most .result - l .i) (a .to - at-most k .at-most .result) (at-most k .at-most .result) (a .to - l .i) (omega (arith, e, r .to, at-test k .loop-test .taken)) (omega (arith, e, r .to, at-test k .loop-test .taken)) (sym asked ∙ sym (k .shows .ensures) ∙ not-false _ (c .if1 .left)),
+          r .hand,
+        ),
+      ),
     )
 
 returns-2 : tie.Need-returns-2 Inv-loop μ-loop

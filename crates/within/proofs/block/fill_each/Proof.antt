@@ -48,10 +48,13 @@ loop-again c =
     let s = start-of at-loop in
     let a = s .args in (
       omega (arith, at-test .loop-test .taken),
-      (length-set (at-loop .loop .block) (at-loop .loop .i) _ ∙ k .1 .0, (
-        filled-next (colourOf (rampIn (a .kind) (a .positions) (a .channels) (a .codes))) (a .ts .now) (a .base) (at-loop .loop .i) (at-loop .loop .block) (at-point .point-in .result) (omega (arith, at-test .loop-test .taken, k .1 .0, s .pre .0 .1 .1)) (at-point .point-in .ensures) (k .1 .1 .0),
-        (followed _ _ _ _ _ _ _ _ (at-window .follow .ensures) (k .1 .1 .1 .0), at-window .follow .kept .1 .1 .1 .1 .1 .0 ∙ k .1 .1 .1 .1),
-      )),
+      (
+        length-set (at-loop .loop .block) (at-loop .loop .i) _ ∙ k .1 .0,
+        (
+          filled-next (colourOf (rampIn (a .kind) (a .positions) (a .channels) (a .codes))) (a .ts .now) (a .base) (at-loop .loop .i) (at-loop .loop .block) (at-point .point-in .result) (omega (arith, at-test .loop-test .taken, k .1 .0, s .pre .0 .1 .1)) (at-point .point-in .ensures) (k .1 .1 .0),
+          (followed _ _ _ _ _ _ _ _ (at-window .follow .ensures) (k .1 .1 .1 .0), at-window .follow .kept .1 .1 .1 .1 .1 .0 ∙ k .1 .1 .1 .1),
+        ),
+      ),
     )
 
 same-length : tie.Need-same-length Inv-loop μ-loop

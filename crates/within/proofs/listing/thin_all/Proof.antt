@@ -3,8 +3,9 @@ use mathlib.Core.Path.{_≡_, refl, sym, ap, _∙_, subst}
 use native.Mathlib.Omega.{arith}
 use borrow.Author.Needs.{needs}
 use mathlib.Core.List.{List}
-use lib.ListN.{length-replicate}
+use lib.ListN.{replicate, length-replicate}
 use lib.Ieee.{Float}
+use Rattle.float.specs.F32.{f0}
 use Rattle.stops.specs.Lent.{rampIn}
 use Rattle.gradient.specs.Ramp.{colourOf}
 use Rattle.sampling.specs.Midpoints.{Gradient}
@@ -48,7 +49,7 @@ thin-sites-requires c κs =
     let m = at-done .before .before .before .before .before in
     let a = start m .args in
     let l = last-is (g m) (a .room) 0 (a .out-positions .now) (a .out-channels .now) (at-first m .evaluate2 .result) (first m .1) (m .emit .result) (m .emit .last .1 .1 .1 .0) (m .emit .last .1 .1 .1 .1 .0) (m .emit .ensures) (at-done .if1 .left) in
-    ((start m .pre .0, (start m .pre .1, (at-done .if1 .left, length-replicate 1024 _))), (subst (λ (p : Point). p .colour ≡ g m (p .t)) (sym l) (first m .1), end m .1))
+    ((start m .pre .0, (start m .pre .1, (at-done .if1 .left, length-replicate 1024 (replicate 4 f0)))), (subst (λ (p : Point). p .colour ≡ g m (p .t)) (sym l) (first m .1), end m .1))
 
 returns-2 : tie.Need-returns-2
 returns-2 c =
