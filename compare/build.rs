@@ -1,4 +1,4 @@
-//! Links the library under test, out of the folder that `compare/library` made.
+//! Links the library under test, out of the folder that ./library made.
 fn main() {
     println!("cargo:rerun-if-env-changed=LIBRARY");
     let folder = std::env::var("LIBRARY").expect("compare/run names the library's folder");

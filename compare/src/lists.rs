@@ -151,7 +151,7 @@ fn check_linearize(tally: &mut Tally, case: u64, g: &oracle::Boxed, threshold: f
     }
 }
 
-fn same_stops(a: &[(f32, [f32; 4])], b: &[(f32, [f32; 4])]) -> bool {
+pub fn same_stops(a: &[(f32, [f32; 4])], b: &[(f32, [f32; 4])]) -> bool {
     a.len() == b.len() && a.iter().zip(b).all(|(x, y)| all_same(&[x.0], &[y.0]) && all_same(&x.1, &y.1))
 }
 

@@ -1,6 +1,10 @@
 //! Compares the library with the published Rust, and times both.
 
 mod bench;
+// the exports, declared once in the repository; not all of them are compared here
+#[allow(dead_code)]
+#[path = "../../bindings/rust/src/calls.rs"]
+mod calls;
 mod clock;
 mod colours;
 mod count;
@@ -31,6 +35,7 @@ mod sample;
 mod sharp;
 mod shown;
 mod sine;
+mod sine_lists;
 mod smallest;
 mod steps;
 mod texts;
@@ -45,12 +50,13 @@ use std::path::Path;
 use std::process::ExitCode;
 
 const USAGE: &str = "compare COMMAND [N] [--seed S] [--case I]
-  roots tokens colours sine sharp texts counts torn lists refresh edits marks many promise   one comparison, of N inputs
+  roots tokens colours sine waves hues sharp texts counts torn lists refresh edits marks many promise steps numerals written judge
+                     one comparison, of N inputs or at its full size
   all [PERCENT]      every comparison, at its full size or at that part of it
   differences        the smallest inputs of docs/DIFFERENCES.md, with the Rust's answers and ours
   gimp FOLDER [N]    N lists written there as .ggr files (200), for compare/gimp.py
   files FOLDER       the .ggr files in it, as compare/fetch gets them
-  bench [TABLE]      times beside the Rust's: root token paint files read flatten refresh
+  bench [TABLE]      times beside the Rust's: root token paint files read flatten growth refresh
   count [TABLE]      instructions in place of times, by valgrind's callgrind
   own [N] [FOLDER]   how many of our own lists are turned down, of N random ramps and of the .ggr files in FOLDER
   typing             request (x): how much of a fresh flattening a keystroke is, and whether its two figures hold
@@ -60,11 +66,12 @@ const USAGE: &str = "compare COMMAND [N] [--seed S] [--case I]
 type Comparison = (&'static str, fn(&Options) -> Vec<Tally>, u64);
 
 /// Each comparison with its full size.
-const COMPARISONS: [Comparison; 19] = [
+const COMPARISONS: [Comparison; 20] = [
     ("roots", roots::run, 1 << 32),
     ("tokens", tokens::run, 100_000_000),
     ("colours", colours::run, 2_000_000),
     ("sine", sine::run, 12_000_000),
+    ("waves", sine_lists::run, 100_000),
     ("hues", hues::run, 12_000_000),
     ("sharp", sharp::run, 1_000_000),
     ("texts", texts::run, 200_000),

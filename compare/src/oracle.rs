@@ -1,5 +1,6 @@
 //! The published crate, as assembled: what it keeps private is reached through its door.
 
+use crate::ours;
 use crate::ramps::{Kind, Ramp};
 use colorgrad::{door, Color, Gradient, GradientBuilder, LinearGradient};
 use std::cell::Cell;
@@ -20,6 +21,24 @@ pub fn gradient(ramp: &Ramp) -> Boxed {
         Kind::CatmullRom => Box::new(door::catmull_rom(&ramp.stops())),
         Kind::Gimp => Box::new(read(segments_text(ramp).as_bytes(), [0.0; 4], [0.0; 4]).expect("its own segments").0),
     }
+}
+
+/// The library's own colours, for the Rust's halving and thinning to go by.
+#[derive(Clone)]
+struct Ours(Ramp);
+
+impl Gradient for Ours {
+    fn at(&self, t: f32) -> Color {
+        Color::from(ours::at(&self.0, t).expect("a ramp that passes the check"))
+    }
+
+    fn domain(&self) -> (f32, f32) {
+        self.0.domain()
+    }
+}
+
+pub fn of_ours(ramp: &Ramp) -> Boxed {
+    Box::new(Ours(ramp.clone()))
 }
 
 /// A linear gradient by the Rust's builder, or what it says.

@@ -163,22 +163,29 @@ fn texts() {
 }
 
 fn lists() {
+    let wave = Ramp {
+        kind: Kind::Gimp,
+        positions: vec![0.0, 0.17554358, 1.0],
+        channels: vec![0.2544209, 0.20879914, 0.04214492, 1.0, 0.39924964, 0.00993409, 0.5032763, 1.0],
+        codes: vec![2, 0],
+    };
     let inputs = [
-        ("flattening -3e38..3e38", stops(Kind::Linear, &[-3.0e38, 3.0e38], &[0.0, 1.0])),
-        ("flattening 0..3e38", stops(Kind::Linear, &[0.0, 3.0e38], &[0.0, 1.0])),
-        ("flattening red -3e38, 3e38, -3e38", stops(Kind::Linear, &[0.0, 0.5, 1.0], &[-3.0e38, 3.0e38, -3.0e38])),
-        ("flattening two stops at -0", stops(Kind::Linear, &[-0.0, -0.0], &[0.0, 1.0])),
+        ("flattening -3e38..3e38", stops(Kind::Linear, &[-3.0e38, 3.0e38], &[0.0, 1.0]), 0.007),
+        ("flattening 0..3e38", stops(Kind::Linear, &[0.0, 3.0e38], &[0.0, 1.0]), 0.007),
+        ("flattening red -3e38, 3e38, -3e38", stops(Kind::Linear, &[0.0, 0.5, 1.0], &[-3.0e38, 3.0e38, -3.0e38]), 0.007),
+        ("flattening two stops at -0", stops(Kind::Linear, &[-0.0, -0.0], &[0.0, 1.0]), 0.007),
+        ("flattening one sinusoidal segment", wave, 0.001),
     ];
-    for (input, ramp) in inputs {
+    for (input, ramp, threshold) in inputs {
         let (mut p, mut c, mut record) = (vec![0.0; MOST_POINTS], vec![0.0; 4 * MOST_POINTS], Record::empty());
         let told = |stops: usize, evaluations: usize, first: f32, last: f32| {
             format!("{stops} stops from {} to {}, {evaluations} evaluations", bits(first), bits(last))
         };
-        let here = match ours::flatten(&ramp, 0.007, &mut record, &mut p, &mut c) {
+        let here = match ours::flatten(&ramp, threshold, &mut record, &mut p, &mut c) {
             Ok((n, evaluations)) => told(n, evaluations, p[0], p[n - 1]),
             Err(number) => refused(number),
         };
-        let rust = || match oracle::linearize(&oracle::gradient(&ramp), 0.007) {
+        let rust = || match oracle::linearize(&oracle::gradient(&ramp), threshold) {
             Some(list) => {
                 let n = list.stops.len();
                 told(n, list.evaluations, list.stops[0].0, list.stops[n - 1].0)

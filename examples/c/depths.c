@@ -13,11 +13,8 @@ static const float channels[4 * STOPS] = {
 
 /* A record, and the list made of it. */
 typedef struct {
-    float rows[COLORGRAD_ROWS];
-    uint8_t counts[COLORGRAD_CELLS];
-    uint32_t marks[COLORGRAD_MARKS];
-    float places[COLORGRAD_MOST_POINTS];
-    float colours[4 * COLORGRAD_MOST_POINTS];
+    ColorgradRecordRoom record;
+    ColorgradListRoom list;
 } Sheet;
 
 static Sheet sheet, fresh;
@@ -31,21 +28,34 @@ static void expect(bool is_so, const char *what)
     }
 }
 
+static ColorgradRamp linear(const float *places, const float *colours)
+{
+    return colorgrad_ramp(COLORGRAD_LINEAR, colorgrad_stops(places, colours, STOPS));
+}
+
+static ColorgradRamp depths(void)
+{
+    return linear(positions, channels);
+}
+
 static void print_stop(float place, const float *colour)
 {
     printf("  %-8g  %.4f %.4f %.4f %.4f\n", place, colour[0], colour[1], colour[2], colour[3]);
+}
+
+static void print_list(const ColorgradListRoom *list, size_t stops)
+{
+    for (size_t i = 0; i < stops; i++)
+        print_stop(list->places[i], list->colours + 4 * i);
 }
 
 static void colours(void)
 {
     const float ts[3] = {0.0f, 0.125f, 2.0f};
     float out[13] = {[12] = 7.0f};
-    ColorgradDomain domain =
-        colorgrad_domain(COLORGRAD_LINEAR, positions, STOPS, channels, 4 * STOPS, NULL, 0);
-    uint32_t refusal =
-        colorgrad_paint(COLORGRAD_LINEAR, positions, STOPS, channels, 4 * STOPS, NULL, 0, ts, 3, out, 13);
-    ColorgradColour last =
-        colorgrad_at(COLORGRAD_LINEAR, positions, STOPS, channels, 4 * STOPS, NULL, 0, 2.0f);
+    ColorgradDomain domain = colorgrad_ramp_domain(depths());
+    uint32_t refusal = colorgrad_ramp_paint(depths(), ts, 3, out, 13);
+    ColorgradColour last = colorgrad_ramp_at(depths(), 2.0f);
     printf("colours on %g..%g\n", domain.min, domain.max);
     for (int i = 0; i < 3; i++)
         print_stop(ts[i], out + 4 * i);
@@ -57,160 +67,154 @@ static void colours(void)
     expect(out[12] == 7.0f, "what lies past the colours stays");
 }
 
-static ColorgradListed flatten(const float *of, Sheet *into)
+static ColorgradListed flatten(ColorgradRamp ramp, Sheet *into)
 {
-    return colorgrad_flatten(COLORGRAD_LINEAR, positions, STOPS, of, 4 * STOPS, NULL, 0, COLORGRAD_THRESHOLD,
-                             into->rows, COLORGRAD_ROWS, into->counts, COLORGRAD_CELLS, into->marks, COLORGRAD_MARKS,
-                             into->places, COLORGRAD_MOST_POINTS, into->colours, 4 * COLORGRAD_MOST_POINTS);
+    return colorgrad_ramp_flatten(ramp, COLORGRAD_THRESHOLD, colorgrad_record(&into->record), colorgrad_list(&into->list));
+}
+
+/* The record of the sheet and its list follow an edit of the ramp. */
+static ColorgradListed edit(ColorgradEdit change, float threshold)
+{
+    return colorgrad_ramp_edit_list(depths(), change, threshold, colorgrad_record(&sheet.record),
+                                    colorgrad_list(&sheet.list));
 }
 
 /* Whether the two sheets have the same record, and the same list of so many stops. */
 static bool is_same(size_t stops)
 {
-    return memcmp(sheet.rows, fresh.rows, sizeof sheet.rows) == 0 &&
-           memcmp(sheet.counts, fresh.counts, sizeof sheet.counts) == 0 &&
-           memcmp(sheet.marks, fresh.marks, sizeof sheet.marks) == 0 &&
-           memcmp(sheet.places, fresh.places, stops * sizeof *sheet.places) == 0 &&
-           memcmp(sheet.colours, fresh.colours, 4 * stops * sizeof *sheet.colours) == 0;
-}
-
-/* Stop 2 gets another colour: the record and its list follow. */
-static ColorgradListed refresh(ColorgradRgba colour, float threshold)
-{
-    return colorgrad_refresh_list(COLORGRAD_LINEAR, positions, STOPS, channels, 4 * STOPS, NULL, 0, 2, colour, threshold,
-                                  sheet.rows, COLORGRAD_ROWS, sheet.counts, COLORGRAD_CELLS, sheet.marks,
-                                  COLORGRAD_MARKS, sheet.places, COLORGRAD_MOST_POINTS, sheet.colours,
-                                  4 * COLORGRAD_MOST_POINTS);
+    return memcmp(sheet.record.rows, fresh.record.rows, sizeof sheet.record.rows) == 0 &&
+           memcmp(sheet.record.counts, fresh.record.counts, sizeof sheet.record.counts) == 0 &&
+           memcmp(sheet.record.marks, fresh.record.marks, sizeof sheet.record.marks) == 0 &&
+           memcmp(sheet.list.places, fresh.list.places, stops * sizeof(float)) == 0 &&
+           memcmp(sheet.list.colours, fresh.list.colours, 4 * stops * sizeof(float)) == 0;
 }
 
 static void lists(void)
 {
     const ColorgradRgba brighter = {0.1f, 0.38f, 0.6f, 1.0f};
     float changed[4 * STOPS];
-    ColorgradListed made = flatten(channels, &sheet), redone, again;
+    ColorgradListed made = flatten(depths(), &sheet), redone, again;
     printf("flattened: %zu stops, %zu evaluations\n", made.stops, made.evaluations);
-    for (size_t i = 0; i < made.stops; i++)
-        print_stop(sheet.places[i], sheet.colours + 4 * i);
+    print_list(&sheet.list, made.stops);
     expect(made.refusal == COLORGRAD_FINE && made.stops == STOPS, "the list has the ramp's own stops");
 
-    redone = refresh(brighter, 0.01f);
+    redone = edit(colorgrad_recolour(2, brighter), 0.01f);
     printf("refreshed with another threshold: refused %u, %s\n", (unsigned)redone.refusal,
            colorgrad_message(redone.refusal));
     expect(redone.refusal == COLORGRAD_OTHER_THRESHOLD, "another threshold than the record's");
-    flatten(channels, &fresh);
+    flatten(depths(), &fresh);
     expect(is_same(made.stops), "20 changes nothing");
 
-    redone = refresh(brighter, COLORGRAD_THRESHOLD);
+    redone = edit(colorgrad_recolour(2, brighter), COLORGRAD_THRESHOLD);
     printf("stop 2 changed, refreshed: %zu stops, %zu evaluations\n", redone.stops, redone.evaluations);
-    for (size_t i = 0; i < redone.stops; i++)
-        print_stop(sheet.places[i], sheet.colours + 4 * i);
+    print_list(&sheet.list, redone.stops);
 
     memcpy(changed, channels, sizeof changed);
     memcpy(changed + 8, &brighter, sizeof brighter);
-    again = flatten(changed, &fresh);
+    again = flatten(linear(positions, changed), &fresh);
     expect(redone.refusal == COLORGRAD_FINE && redone.stops == again.stops, "as many stops as afresh");
     expect(is_same(again.stops), "the refreshed record and list are the fresh ones");
     expect(redone.evaluations < again.evaluations, "a refresh asks for fewer colours");
 }
 
 /* A list from elsewhere: whether it shows the ramp. */
-static ColorgradJudged judge(const float *places, size_t stops, const float *colours)
+static ColorgradJudged judge(ColorgradStops list)
 {
-    return colorgrad_judge(COLORGRAD_LINEAR, positions, STOPS, channels, 4 * STOPS, NULL, 0, COLORGRAD_THRESHOLD, places,
-                           stops, colours, 4 * stops);
+    return colorgrad_ramp_judge(depths(), COLORGRAD_THRESHOLD, list);
 }
 
 static void verdicts(void)
 {
-    const float ends[2] = {0.0f, 1.0f};
-    const float beyond[2] = {0.0f, 2.0f};
+    const float ends[2] = {0.0f, 1.0f}, beyond[2] = {0.0f, 2.0f};
+    const ColorgradRamp unknown = {(ColorgradKind)6, NULL, 0, NULL, 0, NULL, 0};
     float colours[8];
-    ColorgradListed made = flatten(channels, &sheet);
-    ColorgradJudged own = judge(sheet.places, made.stops, sheet.colours), told;
+    ColorgradListed made = flatten(depths(), &sheet);
+    ColorgradJudged own = judge(colorgrad_list_stops(colorgrad_list(&sheet.list), made.stops)), told;
     memcpy(colours, channels, 4 * sizeof *colours);
     memcpy(colours + 4, channels + 12, 4 * sizeof *colours);
-    told = judge(ends, 2, colours);
+    told = judge(colorgrad_stops(ends, colours, 2));
     printf("the list, judged: %s\n", colorgrad_verdict_message(own.verdict));
     printf("its ends alone: %s, first at %g\n", colorgrad_verdict_message(told.verdict), told.t);
     expect(own.refusal == COLORGRAD_FINE && own.verdict == COLORGRAD_YES, "the list of the ramp's own stops");
     expect(told.verdict == COLORGRAD_TOO_FAR && told.row < COLORGRAD_CELLS, "two stops for four");
-    expect(judge(beyond, 2, colours).verdict == COLORGRAD_WRONG_LAST, "a list that ends elsewhere");
-    expect(judge(NULL, 0, NULL).verdict == COLORGRAD_WRONG_LENGTH, "no list");
-    expect(colorgrad_judge(6, NULL, 0, NULL, 0, NULL, 0, 0.0f, NULL, 0, NULL, 0).refusal == COLORGRAD_MISSHAPEN,
+    expect(judge(colorgrad_stops(beyond, colours, 2)).verdict == COLORGRAD_WRONG_LAST, "a list that ends elsewhere");
+    expect(judge(colorgrad_stops(NULL, NULL, 0)).verdict == COLORGRAD_WRONG_LENGTH, "no list");
+    expect(colorgrad_ramp_judge(unknown, 0.0f, colorgrad_stops(NULL, NULL, 0)).refusal == COLORGRAD_MISSHAPEN,
            "a kind that there is not");
 }
 
-/* Stop 1 is dragged to another position: the record and its list follow. */
-static ColorgradListed drag(float to)
-{
-    const ColorgradRgba not_read = {0.0f, 0.0f, 0.0f, 0.0f};
-    return colorgrad_edit_list(COLORGRAD_LINEAR, positions, STOPS, channels, 4 * STOPS, NULL, 0, COLORGRAD_EDIT_MOVE, 1,
-                               to, not_read, COLORGRAD_THRESHOLD, sheet.rows, COLORGRAD_ROWS, sheet.counts,
-                               COLORGRAD_CELLS, sheet.marks, COLORGRAD_MARKS, sheet.places, COLORGRAD_MOST_POINTS,
-                               sheet.colours, 4 * COLORGRAD_MOST_POINTS);
-}
-
+/* Stop 1 is dragged to another position: the record and its list follow. Then a stop is added, and another one goes. */
 static void edits(void)
 {
     const float moved[STOPS] = {0.0f, 0.375f, 0.5f, 1.0f};
+    const ColorgradRgba foam = {0.9f, 0.9f, 0.9f, 1.0f};
     ColorgradListed redone, again;
-    flatten(channels, &sheet);
-    redone = drag(0.75f);
-    expect(redone.refusal == COLORGRAD_FALLING, "a stop dragged past the next one");
-    redone = drag(moved[1]);
+    flatten(depths(), &sheet);
+    expect(edit(colorgrad_move(1, 0.75f), COLORGRAD_THRESHOLD).refusal == COLORGRAD_FALLING,
+           "a stop dragged past the next one");
+    redone = edit(colorgrad_move(1, moved[1]), COLORGRAD_THRESHOLD);
     printf("stop 1 dragged: %zu stops, %zu evaluations\n", redone.stops, redone.evaluations);
-    again = colorgrad_flatten(COLORGRAD_LINEAR, moved, STOPS, channels, 4 * STOPS, NULL, 0, COLORGRAD_THRESHOLD,
-                              fresh.rows, COLORGRAD_ROWS, fresh.counts, COLORGRAD_CELLS, fresh.marks, COLORGRAD_MARKS,
-                              fresh.places, COLORGRAD_MOST_POINTS, fresh.colours, 4 * COLORGRAD_MOST_POINTS);
+    again = flatten(linear(moved, channels), &fresh);
     expect(redone.refusal == COLORGRAD_FINE && redone.stops == again.stops, "a stop dragged");
     expect(is_same(again.stops), "the record and the list after it are the fresh ones");
+
+    flatten(depths(), &sheet);
+    redone = edit(colorgrad_add(3, 0.75f, foam), COLORGRAD_THRESHOLD);
+    printf("a stop added: %zu stops, %zu evaluations\n", redone.stops, redone.evaluations);
+    expect(redone.refusal == COLORGRAD_FINE && redone.stops == STOPS + 1 && sheet.list.places[3] == 0.75f, "a stop more");
+    flatten(depths(), &sheet);
+    expect(edit(colorgrad_remove(1), COLORGRAD_THRESHOLD).stops == STOPS - 1, "a stop less");
+    expect(edit(colorgrad_remove(0), COLORGRAD_THRESHOLD).refusal == COLORGRAD_BAD_EDIT, "the first stop stays");
 }
 
 static void refusals(void)
 {
     const float falling[STOPS] = {0.0f, 0.5f, 0.25f, 1.0f};
+    const ColorgradRamp nothing = colorgrad_ramp(COLORGRAD_LINEAR, colorgrad_stops(NULL, NULL, 0));
+    const ColorgradRecord none = {NULL, 0, NULL, 0, NULL, 0};
     float few[4] = {7.0f, 7.0f, 7.0f, 7.0f};
+    ColorgradList room = {few, 1, few + 1, 3};
+    ColorgradRamp uneven = depths();
     uint8_t name[8];
-    uint32_t refusal = colorgrad_check(COLORGRAD_LINEAR, falling, STOPS, channels, 4 * STOPS, NULL, 0);
-    ColorgradListed short_of_room =
-        colorgrad_flatten(COLORGRAD_LINEAR, positions, STOPS, channels, 4 * STOPS, NULL, 0, COLORGRAD_THRESHOLD,
-                          sheet.rows, COLORGRAD_ROWS, sheet.counts, COLORGRAD_CELLS, sheet.marks, COLORGRAD_MARKS, few,
-                          1, few + 1, 3);
+    uint32_t refusal = colorgrad_ramp_check(linear(falling, channels));
+    ColorgradListed cramped =
+        colorgrad_ramp_flatten(depths(), COLORGRAD_THRESHOLD, colorgrad_record(&sheet.record), room);
     printf("stops out of order: refused %u, %s\n", (unsigned)refusal, colorgrad_message(refusal));
     expect(refusal == COLORGRAD_FALLING, "stops out of order");
-    expect(short_of_room.refusal == COLORGRAD_NO_ROOM && short_of_room.stops == 0, "no room for a list");
+    expect(cramped.refusal == COLORGRAD_NO_ROOM && cramped.stops == 0, "no room for a list");
     expect(few[0] == 0.0f && few[1] == 0.0f && few[2] == 0.0f && few[3] == 0.0f, "7 sets both outputs to zero");
-    expect(colorgrad_check(6, NULL, 0, NULL, 0, NULL, 0) == COLORGRAD_MISSHAPEN, "a kind that there is not");
-    expect(colorgrad_paint(COLORGRAD_LINEAR, NULL, 0, NULL, 0, NULL, 0, NULL, 0, NULL, 0) == COLORGRAD_MISSHAPEN,
-           "nothing but null pointers");
-    expect(colorgrad_flatten(COLORGRAD_BASIS, positions, STOPS, channels, 3, NULL, 0, 0.0f, NULL, 0, NULL, 0, NULL, 0,
-                             NULL, 0, NULL, 0).refusal == COLORGRAD_MISSHAPEN, "lengths that disagree");
-    expect(colorgrad_sample(COLORGRAD_LINEAR, positions, STOPS, channels, 4 * STOPS, NULL, 0, 0.0f, NULL, 0, NULL, 0,
-                            NULL, 0).refusal == COLORGRAD_BAD_RECORD, "no record");
+    expect(colorgrad_ramp_paint(nothing, NULL, 0, NULL, 0) == COLORGRAD_MISSHAPEN, "nothing but null pointers");
+    uneven.channels_length = 3;
+    expect(colorgrad_ramp_sample(uneven, 0.0f, none).refusal == COLORGRAD_MISSHAPEN, "lengths that disagree");
+    expect(colorgrad_ramp_sample(depths(), 0.0f, none).refusal == COLORGRAD_BAD_RECORD, "no record");
     expect(colorgrad_name(NULL, 0, name, sizeof name) == 0 && !colorgrad_token(NULL, 0).is_number, "empty texts");
+}
+
+static ColorgradRead read_text(const char *text, size_t length, ColorgradSegments room)
+{
+    const ColorgradRgba black = {0.0f, 0.0f, 0.0f, 1.0f}, white = {1.0f, 1.0f, 1.0f, 1.0f};
+    return colorgrad_read_segments((const uint8_t *)text, length, black, white, room);
 }
 
 static void gimp(void)
 {
     static const char text[] = "GIMP Gradient\nName: Shelf\n2\n"
                                "0 0.125 0.25 0 0 0 1 0 0.5 1 1 0 0\n0.25 0.5 1 0 0.5 1 1 1 1 1 1 0 0\n";
-    const ColorgradRgba black = {0.0f, 0.0f, 0.0f, 1.0f}, white = {1.0f, 1.0f, 1.0f, 1.0f};
-    const uint8_t *bytes = (const uint8_t *)text;
-    float places[3 * 2], colours[8 * 2];
-    uint8_t codes[2 * 2], name[16];
-    ColorgradRead read = colorgrad_read(bytes, strlen(text), black, white, places, 6, colours, 16, codes, 4);
-    size_t length = colorgrad_name(bytes, strlen(text), name, sizeof name);
-    ColorgradColour at = colorgrad_at(COLORGRAD_GIMP, places, 6, colours, 16, codes, 4, 0.125f);
-    size_t cut = (size_t)(strstr(text, "0.25 0.5 1") - text);
-    ColorgradRead few = colorgrad_read(bytes, cut, black, white, places, 6, colours, 16, codes, 4);
     static const char gap[] = "GIMP Gradient\nName: Gap\n2\n"
                               "0 0.125 0.25 0 0 0 1 0 0.5 1 1 0 0\n0.75 0.875 1 0 0.5 1 1 1 1 1 1 0 0\n";
-    ColorgradRead torn = colorgrad_read((const uint8_t *)gap, strlen(gap), black, white, places, 6, colours, 16, codes, 4);
+    float places[3 * 2], colours[8 * 2];
+    uint8_t codes[2 * 2], name[16];
+    ColorgradSegments room = {places, 6, colours, 16, codes, 4};
+    ColorgradRead read = read_text(text, strlen(text), room), few, torn;
+    size_t length = colorgrad_name((const uint8_t *)text, strlen(text), name, sizeof name);
+    ColorgradColour at = colorgrad_ramp_at(colorgrad_segments_ramp(room, read.segments), 0.125f);
     printf("GIMP file '%.*s': %zu segments\n", (int)length, (const char *)name, read.segments);
     expect(read.refusal == COLORGRAD_FINE && read.segments == 2, "a GIMP text");
     expect(length == 5 && memcmp(name, "Shelf", 5) == 0, "its name");
     expect(at.refusal == COLORGRAD_FINE && at.colour.g == 0.25f && at.colour.b == 0.5f, "its colour half-way");
+    few = read_text(text, (size_t)(strstr(text, "0.25 0.5 1") - text), room);
     expect(few.refusal == COLORGRAD_FEW_LINES && few.line == 3, "fewer lines than counted");
+    torn = read_text(gap, strlen(gap), room);
     printf("a torn file: refused %u, line %zu, %s\n", (unsigned)torn.refusal, torn.line,
            colorgrad_message(torn.refusal));
     expect(torn.refusal == COLORGRAD_TORN && torn.line == 5 && colours[2] == 0.0f, "a torn text, outputs zero");
@@ -223,19 +227,19 @@ static void written(void)
                                 "0 0.500000000 1.00000000 0 0 0 1.00000000 1.00000000 1.00000000 1.00000000 1.00000000 0 0\n";
     static const float grey[8] = {0.0f, 0.0f, 0.0f, 1.0f, 1.0f, 1.0f, 1.0f, 1.0f}, ends[2] = {0.0f, 1.0f};
     static uint8_t text[COLORGRAD_WRITTEN_BYTES(COLORGRAD_MOST_WRITTEN)];
-    const ColorgradRgba none = {0.0f, 0.0f, 0.0f, 0.0f};
     float places[3 * (STOPS - 1)], colours[8 * (STOPS - 1)], tiny[8];
     uint8_t codes[2 * (STOPS - 1)], number[COLORGRAD_MOST_NUMERAL];
-    ColorgradWritten n = colorgrad_write_ggr(ends, 2, grey, 8, text, sizeof text);
+    ColorgradSegments room = {places, 9, colours, 24, codes, 6};
+    ColorgradWritten n = colorgrad_write_stops(colorgrad_stops(ends, grey, 2), text, sizeof text);
     expect(n.refusal == COLORGRAD_FINE && n.bytes == strlen(white) && memcmp(text, white, n.bytes) == 0, "black to white");
-    n = colorgrad_write_ggr(positions, STOPS, channels, 4 * STOPS, text, sizeof text);
-    ColorgradRead read = colorgrad_read(text, n.bytes, none, none, places, 9, colours, 24, codes, 6);
+    n = colorgrad_write_stops(colorgrad_stops(positions, channels, STOPS), text, sizeof text);
+    ColorgradRead read = read_text((const char *)text, n.bytes, room);
     printf("written as a GIMP file: %zu bytes, read again as %zu segments\n", n.bytes, read.segments);
     expect(n.refusal == COLORGRAD_FINE && read.refusal == COLORGRAD_FINE && read.segments == STOPS - 1, "read again");
     expect(places[5] == positions[2] && memcmp(colours + 8, channels + 4, 8 * sizeof(float)) == 0, "bit for bit");
     memcpy(tiny, grey, sizeof tiny);
     tiny[2] = 2.98e-8f;
-    n = colorgrad_write_ggr(ends, 2, tiny, 8, text, sizeof text);
+    n = colorgrad_write_stops(colorgrad_stops(ends, tiny, 2), text, sizeof text);
     expect(n.refusal == COLORGRAD_UNWRITABLE && n.bytes == 0 && text[0] == 0, "a channel too small: zeros");
     expect(colorgrad_numeral(1.001953125f, number, sizeof number) == 10 && memcmp(number, "1.00195312", 10) == 0, "a tie");
 }
@@ -257,10 +261,13 @@ static void built_and_leaves(void)
 {
     const float two[8] = {0.0f, 0.0f, 0.0f, 1.0f, 1.0f, 1.0f, 1.0f, 1.0f};
     float places[4], colours[16];
-    ColorgradSharp built = colorgrad_sharp(two, 8, 0.0f, 1.0f, 0.5f, places, 4, colours, 16);
+    ColorgradList room = {places, 4, colours, 16};
+    ColorgradSharp built = colorgrad_build_sharp(two, 8, 0.0f, 1.0f, 0.5f, room);
+    ColorgradRamp sharp = colorgrad_ramp(COLORGRAD_SHARP, colorgrad_list_stops(room, built.stops));
     expect(built.refusal == COLORGRAD_FINE && built.stops == 4, "a sharp ramp");
     expect(places[1] == 0.4375f && places[2] == 0.5625f && places[3] == 1.0f, "its positions");
-    built = colorgrad_sharp(NULL, 0, 0.0f, 1.0f, 0.5f, places, 4, colours, 16);
+    expect(colorgrad_ramp_at(sharp, 0.3f).colour.r == 0.0f && colorgrad_ramp_check(sharp) == 0, "its colours");
+    built = colorgrad_build_sharp(NULL, 0, 0.0f, 1.0f, 0.5f, room);
     expect(built.refusal == COLORGRAD_NOT_BUILT && places[3] == 1.0f, "no colours: nothing is changed");
     expect(colorgrad_root(4.0f) == 2.0f && colorgrad_threshold(9.0f) == COLORGRAD_GREATEST_THRESHOLD, "leaves");
     expect(colorgrad_token((const uint8_t *)"0.1", 3).value == 0.1f, "a token");

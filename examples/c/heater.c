@@ -10,9 +10,7 @@ static const float channels[4 * STOPS] = {
     0.03f, 0.05f, 0.17f, 1.0f, 0.04f, 0.22f, 0.45f, 1.0f, 0.08f, 0.32f, 0.57f, 1.0f, 0.85f, 0.94f, 0.97f, 1.0f,
 };
 
-static float rows[COLORGRAD_ROWS];
-static uint8_t counts[COLORGRAD_CELLS];
-static uint32_t marks[COLORGRAD_MARKS];
+static ColorgradRecordRoom room;
 static int wrong;
 
 static void expect(bool is_so, const char *what)
@@ -23,10 +21,14 @@ static void expect(bool is_so, const char *what)
     }
 }
 
+static ColorgradRamp depths(void)
+{
+    return colorgrad_ramp(COLORGRAD_SMOOTHSTEP, colorgrad_stops(positions, channels, STOPS));
+}
+
 static ColorgradHanded next_stop(float threshold, ColorgradPlace place)
 {
-    return colorgrad_next_stop(COLORGRAD_SMOOTHSTEP, positions, STOPS, channels, 4 * STOPS, NULL, 0, threshold, rows,
-                               COLORGRAD_ROWS, counts, COLORGRAD_CELLS, marks, COLORGRAD_MARKS, place);
+    return colorgrad_ramp_next_stop(depths(), threshold, colorgrad_record(&room), place);
 }
 
 static bool is_at(ColorgradPlace place, uint32_t state, uint32_t row, uint32_t index)
@@ -50,17 +52,16 @@ static void heat(float position, ColorgradRgba colour)
 /* Drives the heater, and holds each stop against the whole list. */
 static void drive(void)
 {
-    static float places[COLORGRAD_MOST_POINTS], colours[4 * COLORGRAD_MOST_POINTS];
-    ColorgradListed whole = colorgrad_thin(
-        COLORGRAD_SMOOTHSTEP, positions, STOPS, channels, 4 * STOPS, NULL, 0, COLORGRAD_THRESHOLD, rows, COLORGRAD_ROWS,
-        counts, COLORGRAD_CELLS, marks, COLORGRAD_MARKS, places, COLORGRAD_MOST_POINTS, colours, 4 * COLORGRAD_MOST_POINTS);
+    static ColorgradListRoom list;
+    ColorgradListed whole =
+        colorgrad_ramp_thin(depths(), COLORGRAD_THRESHOLD, colorgrad_record(&room), colorgrad_list(&list));
     ColorgradPlace place = {COLORGRAD_START, 0, 0};
     ColorgradHanded handed = next_stop(COLORGRAD_THRESHOLD, place);
     size_t stops = 0, evaluations = 0;
     while (handed.has_stop) {
-        const float *colour = colours + 4 * stops;
+        const float *colour = list.colours + 4 * stops;
         heat(handed.position, handed.colour);
-        expect(stops < whole.stops && handed.position == places[stops] && handed.colour.r == colour[0] &&
+        expect(stops < whole.stops && handed.position == list.places[stops] && handed.colour.r == colour[0] &&
                    handed.colour.g == colour[1] && handed.colour.b == colour[2] && handed.colour.a == colour[3],
                "a stop is the list's");
         stops++;
@@ -81,27 +82,27 @@ static void drive(void)
 static void refusals(void)
 {
     ColorgradPlace start = {COLORGRAD_START, 0, 0}, inside = {COLORGRAD_AFTER, 35, 0}, ended = {COLORGRAD_ENDED, 0, 0};
-    ColorgradPlace past_rows = {COLORGRAD_AFTER, 36, 0}, past_count = {COLORGRAD_AFTER, 0, counts[0]};
+    ColorgradPlace past_rows = {COLORGRAD_AFTER, 36, 0}, past_count = {COLORGRAD_AFTER, 0, room.counts[0]};
+    ColorgradPlace unused = {COLORGRAD_ENDED + 7, 5, 6};
     ColorgradHanded first;
-    float kept = rows[0];
+    float kept = room.rows[0];
     expect(is_refused(next_stop(0.01f, inside), COLORGRAD_OTHER_THRESHOLD, inside), "another threshold leaves the place");
     expect(is_refused(next_stop(0.01f, ended), COLORGRAD_OTHER_THRESHOLD, ended), "the end is told after the checks");
+    expect(is_refused(next_stop(0.01f, unused), COLORGRAD_OTHER_THRESHOLD, ended), "what the end does not use is 0");
     expect(is_refused(next_stop(COLORGRAD_THRESHOLD, past_rows), COLORGRAD_BAD_RECORD, past_rows), "a row past the last");
     expect(is_refused(next_stop(0.01f, past_count), COLORGRAD_BAD_RECORD, past_count), "an index past its row's count");
     /* a record that falls: the stop before the faulty one, its refusal, and then nothing more */
-    rows[0] = 2.0f;
+    room.rows[0] = 2.0f;
     first = next_stop(COLORGRAD_THRESHOLD, start);
     expect(first.has_stop && first.position == 2.0f && is_at(first.place, COLORGRAD_AFTER, 0, 0), "the stop before");
     expect(is_refused(next_stop(COLORGRAD_THRESHOLD, first.place), COLORGRAD_LIST_FALLING, ended), "a stop that falls");
     printf("a record that falls: refused %u, %s\n", COLORGRAD_LIST_FALLING, colorgrad_message(COLORGRAD_LIST_FALLING));
-    rows[0] = kept;
+    room.rows[0] = kept;
 }
 
 int main(void)
 {
-    ColorgradSampled sampled =
-        colorgrad_sample(COLORGRAD_SMOOTHSTEP, positions, STOPS, channels, 4 * STOPS, NULL, 0, COLORGRAD_THRESHOLD, rows,
-                         COLORGRAD_ROWS, counts, COLORGRAD_CELLS, marks, COLORGRAD_MARKS);
+    ColorgradSampled sampled = colorgrad_ramp_sample(depths(), COLORGRAD_THRESHOLD, colorgrad_record(&room));
     expect(sampled.refusal == COLORGRAD_FINE, "sampling");
     drive();
     refusals();

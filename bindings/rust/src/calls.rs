@@ -1,303 +1,100 @@
-//! The calls of the static library, as include/colorgrad.h has them.
+//! The exports of the library, each declared once, as include/colorgrad_calls.h has them, and a safe call for it under its
+//! name without `colorgrad_` and `_told`. A slice goes over as its pointer and its length. The only unsafe code of this crate
+//! is here.
 
-use crate::Color;
+const _: () = assert!(usize::BITS == 64, "the library's lengths have 64 bits");
 
-#[repr(C)]
-pub(crate) struct Domain {
-    pub(crate) refusal: u32,
-    pub(crate) min: f32,
-    pub(crate) max: f32,
+/// Declares each export, and the function that calls it.
+macro_rules! exports {
+    ($($call:ident = $export:ident($($given:tt)*) -> $answer:ty;)*) => {
+        $(export!($call $export $answer; [$($given)*,] [] [] []);)*
+    };
 }
 
-#[repr(C)]
-pub(crate) struct Shown {
-    pub(crate) refusal: u32,
-    pub(crate) color: Color,
+/// Takes one parameter after the other: what is declared of it, what the call takes, and what it hands over.
+macro_rules! export {
+    ($call:ident $export:ident $answer:ty; [$(,)?] [$($declared:tt)*] [$($taken:tt)*] [$($handed:tt)*]) => {
+        #[allow(clippy::too_many_arguments)]
+        pub fn $call($($taken)*) -> $answer {
+            extern "C" {
+                fn $export($($declared)*) -> $answer;
+            }
+            // SAFETY: each pointer and length is a slice's own, exclusive where it is written, and alive until the call
+            // returns; the library is proved to touch nothing else, for any contents and lengths.
+            unsafe { $export($($handed)*) }
+        }
+    };
+    ($call:ident $export:ident $answer:ty; [$name:ident: &[$item:ty], $($rest:tt)*] [$($d:tt)*] [$($t:tt)*] [$($h:tt)*]) => {
+        export!($call $export $answer; [$($rest)*]
+            [$($d)* $name: *const $item, _: usize,] [$($t)* $name: &[$item],] [$($h)* $name.as_ptr(), $name.len(),]);
+    };
+    ($call:ident $export:ident $answer:ty; [$name:ident: &mut [$item:ty], $($rest:tt)*] [$($d:tt)*] [$($t:tt)*] [$($h:tt)*]) => {
+        export!($call $export $answer; [$($rest)*]
+            [$($d)* $name: *mut $item, _: usize,] [$($t)* $name: &mut [$item],] [$($h)* $name.as_mut_ptr(), $name.len(),]);
+    };
+    ($call:ident $export:ident $answer:ty; [$name:ident: $number:ty, $($rest:tt)*] [$($d:tt)*] [$($t:tt)*] [$($h:tt)*]) => {
+        export!($call $export $answer; [$($rest)*] [$($d)* $name: $number,] [$($t)* $name: $number,] [$($h)* $name,]);
+    };
 }
 
-#[repr(C)]
-pub(crate) struct SharpBuilt {
-    pub(crate) refusal: u32,
-    pub(crate) stops: usize,
-}
-
-#[repr(C)]
-pub(crate) struct GimpRead {
-    pub(crate) refusal: u32,
-    pub(crate) line: usize,
-    pub(crate) segments: usize,
-}
-
-#[repr(C)]
-pub(crate) struct GimpWritten {
-    pub(crate) refusal: u32,
-    pub(crate) bytes: usize,
-}
-
-#[repr(C)]
-pub(crate) struct SampleMade {
-    pub(crate) refusal: u32,
-    pub(crate) evaluations: usize,
-}
-
-#[repr(C)]
-pub(crate) struct PlainList {
-    pub(crate) refusal: u32,
-    pub(crate) stops: usize,
-    pub(crate) evaluations: usize,
-}
-
-#[derive(Clone, Copy)]
-#[repr(C)]
-pub(crate) struct PlainPlace {
-    pub(crate) state: u32,
-    pub(crate) row: u32,
-    pub(crate) index: u32,
-}
-
-#[repr(C)]
-pub(crate) struct StopHanded {
-    pub(crate) refusal: u32,
-    pub(crate) has_stop: bool,
-    pub(crate) position: f32,
-    pub(crate) color: Color,
-    pub(crate) evaluations: usize,
-    pub(crate) place: PlainPlace,
-}
-
-#[repr(C)]
-pub(crate) struct Judgement {
-    pub(crate) refusal: u32,
-    pub(crate) verdict: u32,
-    pub(crate) stop: usize,
-    pub(crate) row: usize,
-    pub(crate) index: usize,
-    pub(crate) t: f32,
-}
-
-#[repr(C)]
-pub(crate) struct TokenRead {
-    pub(crate) is_number: bool,
-    pub(crate) value: f32,
-}
-
-type Floats = *const f32;
-type Bytes = *const u8;
-type Words = *const u32;
-type FloatsOut = *mut f32;
-type BytesOut = *mut u8;
-type WordsOut = *mut u32;
-
-// Each slice is a pointer and its length.
-extern "C" {
-    pub(crate) fn colorgrad_check(
-        kind: u32,
-        positions: Floats,
-        _: usize,
-        channels: Floats,
-        _: usize,
-        codes: Bytes,
-        _: usize,
+exports! {
+    check = colorgrad_check(kind: u32, positions: &[f32], channels: &[f32], codes: &[u8]) -> u32;
+    domain = colorgrad_domain_told(
+        kind: u32, positions: &[f32], channels: &[f32], codes: &[u8], ends: &mut [f32]
     ) -> u32;
-    pub(crate) fn colorgrad_domain(
-        kind: u32,
-        positions: Floats,
-        _: usize,
-        channels: Floats,
-        _: usize,
-        codes: Bytes,
-        _: usize,
-    ) -> Domain;
-    pub(crate) fn colorgrad_at(
-        kind: u32,
-        positions: Floats,
-        _: usize,
-        channels: Floats,
-        _: usize,
-        codes: Bytes,
-        _: usize,
-        t: f32,
-    ) -> Shown;
-    pub(crate) fn colorgrad_paint(
-        kind: u32,
-        positions: Floats,
-        _: usize,
-        channels: Floats,
-        _: usize,
-        codes: Bytes,
-        _: usize,
-        ts: Floats,
-        _: usize,
-        out: FloatsOut,
-        _: usize,
+    at = colorgrad_at_told(
+        kind: u32, positions: &[f32], channels: &[f32], codes: &[u8], t: f32, colour: &mut [f32]
     ) -> u32;
-    pub(crate) fn colorgrad_sharp(
-        colors: Floats,
-        _: usize,
-        min: f32,
-        max: f32,
-        softness: f32,
-        positions: FloatsOut,
-        _: usize,
-        channels: FloatsOut,
-        _: usize,
-    ) -> SharpBuilt;
-    pub(crate) fn colorgrad_read(
-        text: Bytes,
-        _: usize,
-        foreground: Color,
-        background: Color,
-        positions: FloatsOut,
-        _: usize,
-        channels: FloatsOut,
-        _: usize,
-        codes: BytesOut,
-        _: usize,
-    ) -> GimpRead;
-    pub(crate) fn colorgrad_name(text: Bytes, _: usize, out: BytesOut, _: usize) -> usize;
-    pub(crate) fn colorgrad_write_ggr(
-        positions: Floats,
-        _: usize,
-        channels: Floats,
-        _: usize,
-        text: BytesOut,
-        _: usize,
-    ) -> GimpWritten;
-    pub(crate) fn colorgrad_numeral(x: f32, out: BytesOut, _: usize) -> usize;
-    pub(crate) fn colorgrad_sample(
-        kind: u32,
-        positions: Floats,
-        _: usize,
-        channels: Floats,
-        _: usize,
-        codes: Bytes,
-        _: usize,
-        threshold: f32,
-        rows: FloatsOut,
-        _: usize,
-        counts: BytesOut,
-        _: usize,
-        marks: WordsOut,
-        _: usize,
-    ) -> SampleMade;
-    pub(crate) fn colorgrad_thin(
-        kind: u32,
-        positions: Floats,
-        _: usize,
-        channels: Floats,
-        _: usize,
-        codes: Bytes,
-        _: usize,
-        threshold: f32,
-        rows: Floats,
-        _: usize,
-        counts: Bytes,
-        _: usize,
-        marks: Words,
-        _: usize,
-        places: FloatsOut,
-        _: usize,
-        colors: FloatsOut,
-        _: usize,
-    ) -> PlainList;
-    pub(crate) fn colorgrad_flatten(
-        kind: u32,
-        positions: Floats,
-        _: usize,
-        channels: Floats,
-        _: usize,
-        codes: Bytes,
-        _: usize,
-        threshold: f32,
-        rows: FloatsOut,
-        _: usize,
-        counts: BytesOut,
-        _: usize,
-        marks: WordsOut,
-        _: usize,
-        places: FloatsOut,
-        _: usize,
-        colors: FloatsOut,
-        _: usize,
-    ) -> PlainList;
-    pub(crate) fn colorgrad_next_stop(
-        kind: u32,
-        positions: Floats,
-        _: usize,
-        channels: Floats,
-        _: usize,
-        codes: Bytes,
-        _: usize,
-        threshold: f32,
-        rows: Floats,
-        _: usize,
-        counts: Bytes,
-        _: usize,
-        marks: Words,
-        _: usize,
-        place: PlainPlace,
-    ) -> StopHanded;
-    pub(crate) fn colorgrad_edit(
-        kind: u32,
-        positions: Floats,
-        _: usize,
-        channels: Floats,
-        _: usize,
-        codes: Bytes,
-        _: usize,
-        sort: u32,
-        stop: usize,
-        position: f32,
-        color: Color,
-        threshold: f32,
-        rows: FloatsOut,
-        _: usize,
-        counts: BytesOut,
-        _: usize,
-        marks: WordsOut,
-        _: usize,
-    ) -> SampleMade;
-    pub(crate) fn colorgrad_edit_list(
-        kind: u32,
-        positions: Floats,
-        _: usize,
-        channels: Floats,
-        _: usize,
-        codes: Bytes,
-        _: usize,
-        sort: u32,
-        stop: usize,
-        position: f32,
-        color: Color,
-        threshold: f32,
-        rows: FloatsOut,
-        _: usize,
-        counts: BytesOut,
-        _: usize,
-        marks: WordsOut,
-        _: usize,
-        places: FloatsOut,
-        _: usize,
-        colors: FloatsOut,
-        _: usize,
-    ) -> PlainList;
-    pub(crate) fn colorgrad_judge(
-        kind: u32,
-        positions: Floats,
-        _: usize,
-        channels: Floats,
-        _: usize,
-        codes: Bytes,
-        _: usize,
-        threshold: f32,
-        places: Floats,
-        _: usize,
-        colors: Floats,
-        _: usize,
-    ) -> Judgement;
-    pub(crate) fn colorgrad_desk(input: Bytes, _: usize, output: BytesOut, _: usize) -> usize;
-    pub(crate) fn colorgrad_threshold(asked: f32) -> f32;
-    pub(crate) fn colorgrad_root(x: f32) -> f32;
-    pub(crate) fn colorgrad_cutoff(t: f32) -> f32;
-    pub(crate) fn colorgrad_token(text: Bytes, _: usize) -> TokenRead;
+    paint = colorgrad_paint(
+        kind: u32, positions: &[f32], channels: &[f32], codes: &[u8], ts: &[f32], out: &mut [f32]
+    ) -> u32;
+    sharp = colorgrad_sharp_told(
+        colours: &[f32], min: f32, max: f32, softness: f32, positions: &mut [f32], channels: &mut [f32], told: &mut [usize]
+    ) -> u32;
+    read = colorgrad_read_told(
+        text: &[u8], foreground_r: f32, foreground_g: f32, foreground_b: f32, foreground_a: f32,
+        background_r: f32, background_g: f32, background_b: f32, background_a: f32,
+        positions: &mut [f32], channels: &mut [f32], codes: &mut [u8], told: &mut [usize]
+    ) -> u32;
+    name = colorgrad_name(text: &[u8], out: &mut [u8]) -> usize;
+    write_ggr = colorgrad_write_ggr_told(positions: &[f32], channels: &[f32], text: &mut [u8], told: &mut [usize]) -> u32;
+    numeral = colorgrad_numeral(x: f32, out: &mut [u8]) -> usize;
+    sample = colorgrad_sample_told(
+        kind: u32, positions: &[f32], channels: &[f32], codes: &[u8], threshold: f32,
+        rows: &mut [f32], counts: &mut [u8], marks: &mut [u32], told: &mut [usize]
+    ) -> u32;
+    thin = colorgrad_thin_told(
+        kind: u32, positions: &[f32], channels: &[f32], codes: &[u8], threshold: f32,
+        rows: &[f32], counts: &[u8], marks: &[u32], places: &mut [f32], colours: &mut [f32], told: &mut [usize]
+    ) -> u32;
+    flatten = colorgrad_flatten_told(
+        kind: u32, positions: &[f32], channels: &[f32], codes: &[u8], threshold: f32,
+        rows: &mut [f32], counts: &mut [u8], marks: &mut [u32], places: &mut [f32], colours: &mut [f32], told: &mut [usize]
+    ) -> u32;
+    next_stop = colorgrad_next_stop_told(
+        kind: u32, positions: &[f32], channels: &[f32], codes: &[u8], threshold: f32,
+        rows: &[f32], counts: &[u8], marks: &[u32], state: u32, row: u32, index: u32, told: &mut [usize], stop: &mut [f32]
+    ) -> u32;
+    judge = colorgrad_judge_told(
+        kind: u32, positions: &[f32], channels: &[f32], codes: &[u8], threshold: f32,
+        places: &[f32], colours: &[f32], told: &mut [usize], t: &mut [f32]
+    ) -> u32;
+    edit = colorgrad_edit_told(
+        kind: u32, positions: &[f32], channels: &[f32], codes: &[u8],
+        sort: u32, stop: usize, position: f32, r: f32, g: f32, b: f32, a: f32, threshold: f32,
+        rows: &mut [f32], counts: &mut [u8], marks: &mut [u32], told: &mut [usize]
+    ) -> u32;
+    edit_list = colorgrad_edit_list_told(
+        kind: u32, positions: &[f32], channels: &[f32], codes: &[u8],
+        sort: u32, stop: usize, position: f32, r: f32, g: f32, b: f32, a: f32, threshold: f32,
+        rows: &mut [f32], counts: &mut [u8], marks: &mut [u32], places: &mut [f32], colours: &mut [f32], told: &mut [usize]
+    ) -> u32;
+    desk = colorgrad_desk(input: &[u8], output: &mut [u8]) -> usize;
+    threshold = colorgrad_threshold(asked: f32) -> f32;
+    root = colorgrad_root(x: f32) -> f32;
+    cutoff = colorgrad_cutoff(t: f32) -> f32;
+    token = colorgrad_token_told(text: &[u8], value: &mut [f32]) -> u32;
+    message = colorgrad_message_told(refusal: u32, out: &mut [u8]) -> usize;
+    verdict_message = colorgrad_verdict_message_told(verdict: u32, out: &mut [u8]) -> usize;
+    version = colorgrad_version() -> u32;
 }

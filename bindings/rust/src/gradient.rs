@@ -94,7 +94,8 @@ pub trait Gradient {
     }
 
     /// The list of a record, at the record's threshold. Refused with 4, 8; 20 where the record is of a ramp on another
-    /// domain; 9 where it is of another ramp and falls.
+    /// domain, or its first word is no threshold in force (see [`Record::from_parts`]); 9 where it is of another ramp and
+    /// falls. The record of another ramp on the same domain is taken, and the list is then wrong.
     fn thin(&self, record: &Record) -> Result<List, Refusal> {
         List::made(|out| self.lent().thin(record.threshold(), record.lent(), out))
     }
@@ -143,8 +144,8 @@ pub trait Gradient {
 /// ```
 pub trait Refresh: Gradient {
     /// Gives a stop, counted from 0, another colour, and redoes those cells of the ramp's record that the edit touches: the
-    /// evaluations. The threshold is the record's own. Refused with 20 where the record is of a ramp on another domain, with
-    /// 6 where there is no such stop or the colour is not finite, or with 4: then neither the ramp nor the record is changed.
+    /// evaluations. The threshold is the record's own. Refused with 20 as [`thin`](Gradient::thin) is, with 6 where there is
+    /// no such stop or the colour is not finite, or with 4: then neither the ramp nor the record is changed.
     fn refresh(&mut self, stop: usize, color: Color, record: &mut Record) -> Result<usize, Refusal>;
 
     /// The same, and the list of the changed ramp; its evaluations are those of both. After 8 or 9 the ramp and the record
@@ -248,7 +249,8 @@ of_stops!(
 );
 
 of_stops!(
-    /// A basis spline through the colours of stops.
+    /// A basis spline: its curve starts and ends at the outer stops' colours, and is drawn towards the others without
+    /// running through them.
     BasisGradient,
     Kind::Basis
 );

@@ -123,109 +123,71 @@ pub(crate) fn answer<T>(number: u32, value: T) -> Result<T, Refusal> {
     }
 }
 
-fn listed(made: calls::PlainList) -> Result<Listed, Refusal> {
-    answer(made.refusal, Listed { stops: made.stops, evaluations: made.evaluations })
-}
-
-/// Calls the library with a ramp's four arguments before the others. Each slice passes as its pointer and length.
-// SAFETY of every use: a slice's own pointer and length, exclusive where it is written, alive until the call returns; the
-// library is proved to touch nothing else for any contents and lengths.
+/// Calls the library with a ramp's four arguments before the others.
 macro_rules! with_ramp {
     ($call:ident, $ramp:expr $(, $argument:expr)*) => {
-        unsafe {
-            calls::$call(
-                $ramp.kind as u32,
-                $ramp.positions.as_ptr(),
-                $ramp.positions.len(),
-                $ramp.channels.as_ptr(),
-                $ramp.channels.len(),
-                $ramp.codes.as_ptr(),
-                $ramp.codes.len()
-                $(, $argument)*
-            )
-        }
+        $crate::calls::$call($ramp.kind as u32, $ramp.positions, $ramp.channels, $ramp.codes $(, $argument)*)
     };
+}
+pub(crate) use with_ramp;
+
+/// Of the stops and the evaluations that were told.
+fn listed(refusal: u32, [stops, evaluations]: [usize; 2]) -> Result<Listed, Refusal> {
+    answer(refusal, Listed { stops, evaluations })
 }
 
 impl Ramp<'_> {
     /// Whether other calls take the ramp: refusals 1, 2, 3.
     pub fn check(&self) -> Result<(), Refusal> {
-        answer(with_ramp!(colorgrad_check, self), ())
+        answer(with_ramp!(check, self), ())
     }
 
     /// The ends of the domain; 0 and 1 for GIMP segments. Refusals 1, 2, 3.
     pub fn domain(&self) -> Result<(f32, f32), Refusal> {
-        let domain = with_ramp!(colorgrad_domain, self);
-        answer(domain.refusal, (domain.min, domain.max))
+        let mut ends = [0.0; 2];
+        let refusal = with_ramp!(domain, self, &mut ends);
+        answer(refusal, (ends[0], ends[1]))
     }
 
     /// The colour at t. Refusals 1, 2, 3.
     pub fn at(&self, t: f32) -> Result<Color, Refusal> {
-        let shown = with_ramp!(colorgrad_at, self, t);
-        answer(shown.refusal, shown.color)
+        let mut channels = [0.0; 4];
+        let refusal = with_ramp!(at, self, t, &mut channels);
+        answer(refusal, channels.into())
     }
 
     /// Writes the colours at `ts`, four channels each; what lies past them stays. Refusals 1, 2, 3 leave `out` as it was,
     /// 7 sets it to zero.
     pub fn paint(&self, ts: &[f32], out: &mut [f32]) -> Result<(), Refusal> {
-        answer(with_ramp!(colorgrad_paint, self, ts.as_ptr(), ts.len(), out.as_mut_ptr(), out.len()), ())
+        answer(with_ramp!(paint, self, ts, out), ())
     }
 
     /// Fills a record, whatever was in it: the evaluations. Refusals 1 to 5 leave it as it was.
     pub fn sample(&self, threshold: f32, record: RecordMut<'_>) -> Result<usize, Refusal> {
         let RecordMut { rows, counts, marks } = record;
-        let made = with_ramp!(
-            colorgrad_sample,
-            self,
-            threshold,
-            rows.as_mut_ptr(),
-            rows.len(),
-            counts.as_mut_ptr(),
-            counts.len(),
-            marks.as_mut_ptr(),
-            marks.len()
-        );
-        answer(made.refusal, made.evaluations)
+        let mut told = [0];
+        let refusal = with_ramp!(sample, self, threshold, rows, counts, marks, &mut told);
+        answer(refusal, told[0])
     }
 
     /// Makes the list of a record. Refusals 1 to 5 and 20 leave `out` as it was, 7, 8, 9 set it to zero.
     pub fn thin(&self, threshold: f32, record: Record<'_>, out: StopsMut<'_>) -> Result<Listed, Refusal> {
-        listed(with_ramp!(
-            colorgrad_thin,
-            self,
-            threshold,
-            record.rows.as_ptr(),
-            record.rows.len(),
-            record.counts.as_ptr(),
-            record.counts.len(),
-            record.marks.as_ptr(),
-            record.marks.len(),
-            out.positions.as_mut_ptr(),
-            out.positions.len(),
-            out.channels.as_mut_ptr(),
-            out.channels.len()
-        ))
+        let Record { rows, counts, marks } = record;
+        let StopsMut { positions, channels } = out;
+        let mut told = [0; 2];
+        let refusal = with_ramp!(thin, self, threshold, rows, counts, marks, positions, channels, &mut told);
+        listed(refusal, told)
     }
 
     /// Fills a record and makes its list. Refusals 1 to 5 change nothing; after 7, 8, 9 the record is filled and `out` is
     /// zero. With room for [`MOST_POINTS`] there is no 7; 9 is never given; 8 is not for linear ramps with channels below
     /// 2^127 in size, nor for smoothstep and sharp ones with channels up to a sixth of `f32::MAX`.
     pub fn flatten(&self, threshold: f32, record: RecordMut<'_>, out: StopsMut<'_>) -> Result<Listed, Refusal> {
-        listed(with_ramp!(
-            colorgrad_flatten,
-            self,
-            threshold,
-            record.rows.as_mut_ptr(),
-            record.rows.len(),
-            record.counts.as_mut_ptr(),
-            record.counts.len(),
-            record.marks.as_mut_ptr(),
-            record.marks.len(),
-            out.positions.as_mut_ptr(),
-            out.positions.len(),
-            out.channels.as_mut_ptr(),
-            out.channels.len()
-        ))
+        let RecordMut { rows, counts, marks } = record;
+        let StopsMut { positions, channels } = out;
+        let mut told = [0; 2];
+        let refusal = with_ramp!(flatten, self, threshold, rows, counts, marks, positions, channels, &mut told);
+        listed(refusal, told)
     }
 
     /// Refreshes the record of this ramp for an edit: it then equals the record of the changed ramp. The evaluations; refusals
@@ -233,23 +195,11 @@ impl Ramp<'_> {
     /// finite), 1 (a stop too many) and 3 (a position out of order).
     pub fn refresh(&self, edit: Edit, threshold: f32, record: RecordMut<'_>) -> Result<usize, Refusal> {
         let RecordMut { rows, counts, marks } = record;
-        let (sort, stop, position, color) = edit.parts();
-        let made = with_ramp!(
-            colorgrad_edit,
-            self,
-            sort,
-            stop,
-            position,
-            color,
-            threshold,
-            rows.as_mut_ptr(),
-            rows.len(),
-            counts.as_mut_ptr(),
-            counts.len(),
-            marks.as_mut_ptr(),
-            marks.len()
-        );
-        answer(made.refusal, made.evaluations)
+        let (sort, stop, position, Color { r, g, b, a }) = edit.parts();
+        let mut told = [0];
+        let refusal =
+            with_ramp!(edit, self, sort, stop, position, r, g, b, a, threshold, rows, counts, marks, &mut told);
+        answer(refusal, told[0])
     }
 
     /// Refreshes a record and makes the list of the changed ramp. Refusals 1 to 6 and 20 change nothing; after 7, 8, 9 the record
@@ -261,41 +211,23 @@ impl Ramp<'_> {
         record: RecordMut<'_>,
         out: StopsMut<'_>,
     ) -> Result<Listed, Refusal> {
-        let (sort, stop, position, color) = edit.parts();
-        listed(with_ramp!(
-            colorgrad_edit_list,
-            self,
-            sort,
-            stop,
-            position,
-            color,
-            threshold,
-            record.rows.as_mut_ptr(),
-            record.rows.len(),
-            record.counts.as_mut_ptr(),
-            record.counts.len(),
-            record.marks.as_mut_ptr(),
-            record.marks.len(),
-            out.positions.as_mut_ptr(),
-            out.positions.len(),
-            out.channels.as_mut_ptr(),
-            out.channels.len()
-        ))
+        let RecordMut { rows, counts, marks } = record;
+        let StopsMut { positions, channels } = out;
+        let (sort, stop, position, Color { r, g, b, a }) = edit.parts();
+        let mut told = [0; 2];
+        let refusal = with_ramp!(
+            edit_list, self, sort, stop, position, r, g, b, a, threshold, rows, counts, marks, positions, channels,
+            &mut told
+        );
+        listed(refusal, told)
     }
 
     /// What is to be said of a list of stops, one position and four channels each, that was made elsewhere. Lengths that
     /// disagree are a wrong length. Refused with 1 to 4, of the ramp alone.
     pub fn judge(&self, threshold: f32, positions: &[f32], channels: &[f32]) -> Result<Verdict, Refusal> {
-        let told = with_ramp!(
-            colorgrad_judge,
-            self,
-            threshold,
-            positions.as_ptr(),
-            positions.len(),
-            channels.as_ptr(),
-            channels.len()
-        );
-        answer(told.refusal, ()).map(|()| Verdict::told(told))
+        let (mut told, mut t) = ([0; 4], [0.0]);
+        let refusal = with_ramp!(judge, self, threshold, positions, channels, &mut told, &mut t);
+        answer(refusal, ()).map(|()| Verdict::told(told, t[0]))
     }
 }
 
@@ -303,21 +235,10 @@ impl Ramp<'_> {
 /// small) and 2 leave `out` as it was.
 pub fn sharp(colors: &[f32], domain: (f32, f32), softness: f32, out: StopsMut<'_>) -> Result<usize, Refusal> {
     let StopsMut { positions, channels } = out;
-    // SAFETY: as for a ramp's calls.
-    let built = unsafe {
-        calls::colorgrad_sharp(
-            colors.as_ptr(),
-            colors.len(),
-            domain.0,
-            domain.1,
-            softness,
-            positions.as_mut_ptr(),
-            positions.len(),
-            channels.as_mut_ptr(),
-            channels.len(),
-        )
-    };
-    answer(built.refusal, built.stops)
+    let (min, max) = domain;
+    let mut told = [0];
+    let refusal = calls::sharp(colors, min, max, softness, positions, channels, &mut told);
+    answer(refusal, told[0])
 }
 
 /// Where the segments of a GIMP text go; what lies past the last one stays.
@@ -331,32 +252,21 @@ pub struct SegmentsMut<'a> {
     pub codes: &'a mut [u8],
 }
 
-/// Reads a GIMP text: how many segments. Any refusal (2, 10 to 16) sets all of `out` to zero.
+/// Reads a GIMP text: how many segments. Any refusal (2, 10 to 16, 18) sets all of `out` to zero.
 pub fn read(text: &[u8], foreground: Color, background: Color, out: SegmentsMut<'_>) -> Result<usize, ParseGgrError> {
     let SegmentsMut { positions, channels, codes } = out;
-    // SAFETY: as for a ramp's calls.
-    let read = unsafe {
-        calls::colorgrad_read(
-            text.as_ptr(),
-            text.len(),
-            foreground,
-            background,
-            positions.as_mut_ptr(),
-            positions.len(),
-            channels.as_mut_ptr(),
-            channels.len(),
-            codes.as_mut_ptr(),
-            codes.len(),
-        )
-    };
-    answer(read.refusal, read.segments).map_err(|refusal| ParseGgrError { refusal, line: read.line })
+    let Color { r, g, b, a } = foreground;
+    let Color { r: br, g: bg, b: bb, a: ba } = background;
+    let mut told = [0; 2];
+    let refusal = calls::read(text, r, g, b, a, br, bg, bb, ba, positions, channels, codes, &mut told);
+    let [line, segments] = told;
+    answer(refusal, segments).map_err(|refusal| ParseGgrError { refusal, line })
 }
 
 /// How long the name in a GIMP text is. Its bytes are written where `out` holds them all, else it stays as it was. 0 where
 /// the text would be refused with room for 256 segments.
 pub fn name(text: &[u8], out: &mut [u8]) -> usize {
-    // SAFETY: as for a ramp's calls.
-    unsafe { calls::colorgrad_name(text.as_ptr(), text.len(), out.as_mut_ptr(), out.len()) }
+    calls::name(text, out)
 }
 
 /// Bytes that are enough for a GIMP text of so many stops: with this room, 7 is never given.
@@ -368,55 +278,46 @@ pub const fn written_bytes(stops: usize) -> usize {
 /// past them stays. Refused with 1 (fewer than 2 stops, more than [`MOST_WRITTEN`], or lengths that disagree) or 3: `text`
 /// stays as it was; with 19 or 7: all of it is set to zero.
 pub fn write_ggr(positions: &[f32], channels: &[f32], text: &mut [u8]) -> Result<usize, Refusal> {
-    // SAFETY: as for a ramp's calls.
-    let written = unsafe {
-        calls::colorgrad_write_ggr(
-            positions.as_ptr(),
-            positions.len(),
-            channels.as_ptr(),
-            channels.len(),
-            text.as_mut_ptr(),
-            text.len(),
-        )
-    };
-    answer(written.refusal, written.bytes)
+    let mut told = [0];
+    let refusal = calls::write_ggr(positions, channels, text, &mut told);
+    answer(refusal, told[0])
 }
 
 /// How long the text of a number is in a GIMP text, 0 where it cannot be written. Its bytes are written where `out` holds
 /// them all, else it stays as it was; [`MOST_NUMERAL`] always suffice.
 pub fn numeral(x: f32, out: &mut [u8]) -> usize {
-    // SAFETY: as for a ramp's calls.
-    unsafe { calls::colorgrad_numeral(x, out.as_mut_ptr(), out.len()) }
+    calls::numeral(x, out)
 }
 
 /// How many bytes the tool `flatten` prints for an input. They are written where `output` holds them all, else it is set to
 /// zero. [`MOST_PRINTED`] bytes always suffice.
 pub fn desk(input: &[u8], output: &mut [u8]) -> usize {
-    // SAFETY: as for a ramp's calls.
-    unsafe { calls::colorgrad_desk(input.as_ptr(), input.len(), output.as_mut_ptr(), output.len()) }
+    calls::desk(input, output)
 }
 
 /// The number that the bytes are: a sign or none, digits with a point or none, 1 to 18 of them.
 pub fn token(text: &[u8]) -> Option<f32> {
-    // SAFETY: as for a ramp's calls.
-    let read = unsafe { calls::colorgrad_token(text.as_ptr(), text.len()) };
-    read.is_number.then_some(read.value)
+    let mut value = [0.0];
+    let is_number = calls::token(text, &mut value) != 0;
+    is_number.then_some(value[0])
 }
 
 /// The threshold that calls take where this one is asked for: 0.001 to 0.035, and 0.007 for one that is not finite.
 pub fn threshold(asked: f32) -> f32 {
-    // SAFETY: numbers alone.
-    unsafe { calls::colorgrad_threshold(asked) }
+    calls::threshold(asked)
 }
 
 /// The correctly rounded square root of any number.
 pub fn root(x: f32) -> f32 {
-    // SAFETY: numbers alone.
-    unsafe { calls::colorgrad_root(x) }
+    calls::root(x)
 }
 
 /// The number such that, for every s, half the root of s is above t exactly when s is above it.
 pub fn cutoff(t: f32) -> f32 {
-    // SAFETY: numbers alone.
-    unsafe { calls::colorgrad_cutoff(t) }
+    calls::cutoff(t)
+}
+
+/// The version of the library that is linked, 1000 * (1000 * major + minor) + patch: this crate's own.
+pub fn version() -> u32 {
+    calls::version()
 }

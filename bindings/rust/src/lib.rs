@@ -17,7 +17,8 @@
 //! let list = ramp.refresh_list(1, Color::new(0.1, 0.38, 0.6, 1.0), &mut record)?;
 //! assert_eq!(list.colors()[1], ramp.at(0.5));
 //!
-//! // the record remembers its threshold and its ramp's domain: another ramp's is refused
+//! // the record remembers its threshold and the ends of its ramp: a ramp on another domain is refused. Nothing else ties
+//! // the two: another ramp on the same domain is taken, and its list is then wrong
 //! let deeper = LinearGradient::new(&[0.0, 1.0, 2.0], &sea)?;
 //! assert_eq!(deeper.thin(&record), Err(Refusal::OtherThreshold));
 //! # Ok::<(), Refusal>(())

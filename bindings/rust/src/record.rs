@@ -19,7 +19,9 @@ pub struct Record {
 }
 
 impl Record {
-    /// A record that was kept elsewhere. Refused with 5 where it is not 4,608 numbers, 36 counts of 1 to 128 and 3 words.
+    /// A record that was kept elsewhere. Refused with 5 where it is not 4,608 numbers, 36 counts of 1 to 128 and 3 words. The
+    /// words are taken as they are: where the first is not the bits of a threshold in force, one that
+    /// [`lent::threshold`](crate::lent::threshold) leaves as it is, every call on the record is refused with 20.
     pub fn from_parts(rows: Vec<f32>, counts: Vec<u8>, marks: Vec<u32>) -> Result<Record, Refusal> {
         let is_shaped = rows.len() == ROWS && counts.len() == CELLS && marks.len() == MARKS;
         if !is_shaped || !counts.iter().all(|count| (1..=128).contains(count)) {
@@ -132,7 +134,8 @@ impl List {
     /// The list as the text of a GIMP gradient, named `flattened`: linear RGB segments, 9 significant digits. Reading it
     /// gives the segments back, bit for bit. Refused with 1 where it has more than 257 stops, and with 19 where it does not
     /// run from 0 to 1 or a number other than zero, a half-way point too, has a magnitude below 1e-6 or above 1e6: so a
-    /// list of a smooth ramp, whose channel came out as 3e-8, is refused.
+    /// list of a smooth ramp, whose channel came out as 3e-8, is refused, and one in metres must be taken to 0..1 first. A
+    /// channel of a basis ramp's list may be 1.00000012: it is written so, and Inkscape refuses to read it.
     ///
     /// ```
     /// use guineaplume::{Color, GimpGradient, Gradient, LinearGradient};

@@ -1,5 +1,6 @@
 //! Why an answer was refused.
 
+use crate::calls;
 use std::error::Error;
 use std::fmt;
 
@@ -12,7 +13,7 @@ use std::fmt;
 /// let refusal = LinearGradient::new(&[1.0, 0.0], &colors).unwrap_err();
 /// assert_eq!(refusal, Refusal::Falling);
 /// assert_eq!(refusal.number(), 3);
-/// assert_eq!(refusal.to_string(), "a stop lies before the one ahead of it");
+/// assert_eq!(refusal.to_string(), "a stop's position is below that of the stop before it");
 /// ```
 #[derive(Clone, Copy, PartialEq, Eq, Hash, Debug)]
 #[repr(u8)]
@@ -21,11 +22,11 @@ pub enum Refusal {
     Misshapen = 1,
     /// 2: a position or a channel is not finite.
     NotFinite = 2,
-    /// 3: a stop's position is below the one before.
+    /// 3: a stop's position is below that of the stop before it.
     Falling = 3,
     /// 4: an end of the domain is beyond plus or minus 1e38.
     FarDomain = 4,
-    /// 5: a record that is not 4,608 numbers, 36 counts of 1 to 128 and 3 words.
+    /// 5: a record that is not 4,608 numbers, 36 counts of 1 to 128 and 3 words; or a place that lies outside it.
     BadRecord = 5,
     /// 6: an edit of no stop that may be edited so, with a number that is not finite, or of a ramp that cannot be edited so.
     BadEdit = 6,
@@ -33,7 +34,7 @@ pub enum Refusal {
     NoRoom = 7,
     /// 8: a stop of the list would not be finite.
     ListNotFinite = 8,
-    /// 9: a stop of the list would lie below the one before.
+    /// 9: a stop of the list would lie below the stop before it.
     ListFalling = 9,
     /// 10: a GIMP text of more than 65,536 bytes, or with a byte above 127.
     NotAText = 10,
@@ -93,38 +94,19 @@ impl Refusal {
     pub fn from_number(number: u32) -> Option<Refusal> {
         ALL.into_iter().find(|refusal| refusal.number() == number)
     }
-
-    fn message(self) -> &'static str {
-        match self {
-            Refusal::Misshapen => "too few or too many stops or segments, an unknown kind, or lengths that disagree",
-            Refusal::NotFinite => "a position or a channel is not a finite number",
-            Refusal::Falling => "a stop lies before the one ahead of it",
-            Refusal::FarDomain => "the domain reaches beyond 1e38",
-            Refusal::BadRecord => "the record is not 4,608 numbers, 36 counts of 1 to 128 and 3 words",
-            Refusal::BadEdit => "the edit names no stop that it can be made of, has a number that is not finite, or the ramp is of a kind that cannot be edited so",
-            Refusal::NoRoom => "the output has no room for all of it",
-            Refusal::ListNotFinite => "a stop of the list would not be finite",
-            Refusal::ListFalling => "a stop of the list would lie before the one ahead of it",
-            Refusal::NotAText => "the GIMP text is too long or not ASCII",
-            Refusal::BadHeader => "line 1, 2 or 3 of the GIMP text is not as it must be",
-            Refusal::BadSegment => "a segment of the GIMP text is not valid",
-            Refusal::FewLines => "the GIMP text has fewer segments than it counts",
-            Refusal::NoSegment => "the GIMP text has no segment",
-            Refusal::TooManySegments => "the GIMP text counts more segments than there is room for",
-            Refusal::NotCarried => {
-                "a segment is curved, or sinusoidal with its middle outside its ends"
-            }
-            Refusal::NotBuilt => "no sharp ramp can be built of so many colours on this domain",
-            Refusal::Torn => "the segments of the GIMP text do not run from 0 to 1, each joined to the next",
-            Refusal::Unwritable => "a number of the list cannot be written, or it does not run from 0 to 1",
-            Refusal::OtherThreshold => "the record was sampled with another threshold or on another domain",
-        }
-    }
 }
 
+/// The text that a call of the library writes, which is asked first how long it is.
+pub(crate) fn text(write: impl Fn(&mut [u8]) -> usize) -> String {
+    let mut bytes = vec![0; write(&mut [])];
+    write(&mut bytes);
+    String::from_utf8(bytes).expect("the library's words are ASCII")
+}
+
+/// The library's words.
 impl fmt::Display for Refusal {
     fn fmt(&self, f: &mut fmt::Formatter<'_>) -> fmt::Result {
-        f.write_str(self.message())
+        f.write_str(&text(|out| calls::message(self.number(), out)))
     }
 }
 

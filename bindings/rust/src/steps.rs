@@ -2,8 +2,7 @@
 
 use std::iter::FusedIterator;
 
-use crate::calls::{self, PlainPlace};
-use crate::lent::{answer, Ramp, Record};
+use crate::lent::{answer, with_ramp, Ramp, Record};
 use crate::{Color, Refusal};
 
 /// Where a caller is in a list: all that is kept between two steps.
@@ -24,18 +23,20 @@ pub enum ListPlace {
 }
 
 impl ListPlace {
-    fn plain(self) -> PlainPlace {
+    /// Its state, row and index; what a state does not use is 0.
+    fn plain(self) -> (u32, u32, u32) {
         match self {
-            ListPlace::Start => PlainPlace { state: 0, row: 0, index: 0 },
-            ListPlace::After { row, index } => PlainPlace { state: 1, row, index },
-            ListPlace::Ended => PlainPlace { state: 2, row: 0, index: 0 },
+            ListPlace::Start => (0, 0, 0),
+            ListPlace::After { row, index } => (1, row, index),
+            ListPlace::Ended => (2, 0, 0),
         }
     }
 
-    fn from_plain(place: PlainPlace) -> ListPlace {
-        match place.state {
+    /// Of the numbers that were told, which are of 32 bits.
+    fn told(state: usize, row: usize, index: usize) -> ListPlace {
+        match state {
             0 => ListPlace::Start,
-            1 => ListPlace::After { row: place.row, index: place.index },
+            1 => ListPlace::After { row: row as u32, index: index as u32 },
             _ => ListPlace::Ended,
         }
     }
@@ -56,32 +57,15 @@ impl Ramp<'_> {
     /// The next stop after a place. Refusals 1 to 5 and 20, a place outside the record among them (5), leave the place as it
     /// was; after 8 and 9 it is the end. There is no 7.
     pub fn next_stop(&self, threshold: f32, record: Record<'_>, place: ListPlace) -> Handed {
-        // SAFETY: a slice's own pointer and length, alive until the call returns, and none is written.
-        let handed = unsafe {
-            calls::colorgrad_next_stop(
-                self.kind as u32,
-                self.positions.as_ptr(),
-                self.positions.len(),
-                self.channels.as_ptr(),
-                self.channels.len(),
-                self.codes.as_ptr(),
-                self.codes.len(),
-                threshold,
-                record.rows.as_ptr(),
-                record.rows.len(),
-                record.counts.as_ptr(),
-                record.counts.len(),
-                record.marks.as_ptr(),
-                record.marks.len(),
-                place.plain(),
-            )
-        };
-        let stop = handed.has_stop.then_some((handed.position, handed.color));
-        Handed {
-            told: answer(handed.refusal, stop),
-            evaluations: handed.evaluations,
-            place: ListPlace::from_plain(handed.place),
-        }
+        let Record { rows, counts, marks } = record;
+        let (state, row, index) = place.plain();
+        let (mut told, mut stop) = ([0; 5], [0.0; 5]);
+        let refusal =
+            with_ramp!(next_stop, self, threshold, rows, counts, marks, state, row, index, &mut told, &mut stop);
+        let [has_stop, evaluations, state, row, index] = told;
+        let [position, r, g, b, a] = stop;
+        let stop = (has_stop != 0).then_some((position, Color { r, g, b, a }));
+        Handed { told: answer(refusal, stop), evaluations, place: ListPlace::told(state, row, index) }
     }
 }
 

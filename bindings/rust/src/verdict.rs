@@ -2,6 +2,7 @@
 
 use crate::calls;
 use crate::lent::CELLS;
+use crate::refusal::text;
 use std::fmt;
 
 /// What is said of a list of stops that was made elsewhere: yes, or no with the first thing that is wrong.
@@ -31,7 +32,7 @@ pub enum Verdict {
     Yes,
     /// It does not have 2 to 4,609 stops, or not four channels for each.
     WrongLength,
-    /// This stop, the first such, is not finite, or lies before the one ahead of it.
+    /// This stop, the first such, is not finite, or its position is below that of the stop before it.
     BadStop {
         /// Which, counted from 0.
         stop: usize,
@@ -52,16 +53,28 @@ pub enum Verdict {
 }
 
 impl Verdict {
-    /// Of the library's answer for a ramp that is not refused.
-    pub(crate) fn told(told: calls::Judgement) -> Verdict {
-        match told.verdict {
+    /// Of what the library told of a ramp that is not refused.
+    pub(crate) fn told([verdict, stop, row, index]: [usize; 4], t: f32) -> Verdict {
+        match verdict {
             1 => Verdict::Yes,
             2 => Verdict::WrongLength,
-            3 => Verdict::BadStop { stop: told.stop },
+            3 => Verdict::BadStop { stop },
             4 => Verdict::WrongFirst,
             5 => Verdict::WrongLast,
-            6 => Verdict::TooFar { row: told.row, index: told.index, t: told.t },
+            6 => Verdict::TooFar { row, index, t },
             _ => unreachable!("every verdict has a number"),
+        }
+    }
+
+    /// Its number, the same in every face of the library.
+    fn number(self) -> u32 {
+        match self {
+            Verdict::Yes => 1,
+            Verdict::WrongLength => 2,
+            Verdict::BadStop { .. } => 3,
+            Verdict::WrongFirst => 4,
+            Verdict::WrongLast => 5,
+            Verdict::TooFar { .. } => 6,
         }
     }
 
@@ -71,24 +84,15 @@ impl Verdict {
     }
 }
 
+/// The library's words, with the stop or the point that is named.
 impl fmt::Display for Verdict {
     fn fmt(&self, f: &mut fmt::Formatter<'_>) -> fmt::Result {
+        let said = text(|out| calls::verdict_message(self.number(), out));
         match *self {
-            Verdict::Yes => f.write_str("the list shows the ramp within the threshold"),
-            Verdict::WrongLength => {
-                f.write_str("the list is not 2 to 4,609 stops of a position and four channels each")
-            }
-            Verdict::BadStop { stop } => {
-                write!(f, "stop {stop} of the list is not finite, or lies before the one ahead of it")
-            }
-            Verdict::WrongFirst => f.write_str("the list does not start where the ramp does"),
-            Verdict::WrongLast => f.write_str("the list does not end where the ramp does"),
-            Verdict::TooFar { row: CELLS, t, .. } => {
-                write!(f, "the list's colour is too far from the ramp's at {t} (the end of the ramp)")
-            }
-            Verdict::TooFar { row, index, t } => {
-                write!(f, "the list's colour is too far from the ramp's at {t} (point {index} of row {row})")
-            }
+            Verdict::BadStop { stop } => f.write_str(&said.replacen("a stop", &format!("stop {stop}"), 1)),
+            Verdict::TooFar { row: CELLS, t, .. } => write!(f, "{said} at {t} (the end of the ramp)"),
+            Verdict::TooFar { row, index, t } => write!(f, "{said} at {t} (point {index} of row {row})"),
+            _ => f.write_str(&said),
         }
     }
 }

@@ -127,6 +127,35 @@ fn bad_record() {
     assert!(of(128, MARKS).is_ok());
 }
 
+/// A record from elsewhere may have any words; one whose first is no threshold in force is refused by every call.
+#[test]
+fn words_from_elsewhere() {
+    let mut ramp = LinearGradient::new(&[0.0, 1.0], &[BLACK, WHITE]).expect("a ramp");
+    let record = ramp.sample(0.007).expect("its record");
+    let with = |first: u32| {
+        let mut marks = record.marks().to_vec();
+        marks[0] = first;
+        guineaplume::Record::from_parts(record.rows().to_vec(), record.counts().to_vec(), marks).expect("a record")
+    };
+    for first in [0.0f32, -0.0, 0.0009, 0.04, 1.0, f32::INFINITY, f32::NAN] {
+        let mut record = with(first.to_bits());
+        assert_eq!(ramp.thin(&record), Err(Refusal::OtherThreshold));
+        assert_eq!(ramp.stops_of(&record).next(), Some(Err(Refusal::OtherThreshold)));
+        assert_eq!(ramp.refresh(0, WHITE, &mut record), Err(Refusal::OtherThreshold));
+    }
+    assert!(ramp.thin(&with(0.007f32.to_bits())).is_ok());
+}
+
+/// Nothing but the words ties a record to its ramp.
+#[test]
+fn the_record_of_another_ramp() {
+    let one = LinearGradient::new(&[0.0, 0.5, 1.0], &[BLACK, WHITE, BLACK]).expect("a ramp");
+    let other = LinearGradient::new(&[0.0, 1.0], &[BLACK, WHITE]).expect("a ramp");
+    let record = other.sample(0.007).expect("its record");
+    let (wrong, right) = (one.thin(&record).expect("a list"), one.linearize(0.007).expect("a list"));
+    assert_ne!((wrong.positions(), wrong.evaluations()), (right.positions(), right.evaluations()));
+}
+
 /// 20 after 5 and before 6, for each word by itself.
 #[test]
 fn other_threshold() {

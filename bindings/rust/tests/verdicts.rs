@@ -121,7 +121,7 @@ fn a_verdict_says_where_in_the_headers_words() {
     }
     assert_eq!(
         told(Verdict::BadStop { stop: 3 }),
-        "stop 3 of the list is not finite, or lies before the one ahead of it"
+        "stop 3 of the list is not finite, or its position is below that of the stop before it"
     );
     let far = Verdict::TooFar { row: 2, index: 5, t: 0.0625 };
     assert_eq!(told(far), "the list's colour is too far from the ramp's at 0.0625 (point 5 of row 2)");

@@ -3,3 +3,5 @@ pub mod Writing
 pub mod Sorted
 pub mod Printing
 pub mod Stepping
+pub mod Ends
+pub mod Messages

@@ -6,7 +6,7 @@ use lib.Dec.{ltb}
 use Rattle.desk.specs.Tool.{deskAnswer}
 use Rattle.desk.specs.declared.Desked.{Desked}
 use Rattle.desk.specs.declared.Desked.the-variants.{Printed, Short}
-use Rattle.colorgrad_c.specs.Tool.{bytesOf}
+use Rattle.colorgrad_c.specs.inner.Tool.{bytesOf}
 
 either-way : (n : ℕ) (t : Bool) → bytesOf (cond t (Short n) (Printed n)) ≡ n
 either-way n true = refl

@@ -1,26 +1,27 @@
--- An answer of the writer shown, and a number's bytes. Assumes nothing.
-use mathlib.Core.Path.{_≡_, ap, subst, _∙_}
-use mathlib.Core.List.{List}
+-- An answer of the writer told, and a name written. Assumes nothing.
+use mathlib.Core.Path.{_≡_, ap, _∙_}
+use mathlib.Core.List.{List, [], _∷_}
 use Prim.Native.Nat.{ℕ}
-use lib.ListN.{length, take}
-use lib.Ieee.{Float}
+use lib.ListN.{length}
 use Rattle.stops.specs.Lent.{Change}
+use Rattle.plain.specs.Telling.{telling, Reply}
 use Rattle.plain.specs.Name.{named}
-use Rattle.numerals.specs.Written.{textOf, TextIs}
-use Rattle.numerals.proofs.Theorems.{bytes-are}
-use Rattle.ggr_writing.specs.File.{Writes}
+use Rattle.plain.proofs.Stored.{tells-same}
+use Rattle.ggr_writing.specs.File.{FileWritten, WritesAs, numberOfWriteAnswer, bytesOfWriteAnswer}
 use Rattle.ggr_writing.specs.declared.WriteAnswer.{WriteAnswer}
-use Rattle.colorgrad_c.specs.Writer.{writtenShown, ShowsWritten}
-use Rattle.colorgrad_c.specs.declared.writer.GimpWritten.{GimpWritten}
+use Rattle.colorgrad_c.specs.Writer.{ShowsText}
 
--- what `ggr_writing` promises of its answer, of the answer shown
-pub shows-written : {ps cs : List Float} {out : Change (List ℕ)} {a : WriteAnswer} {r : GimpWritten} → r ≡ writtenShown a → Writes ps cs out a → ShowsWritten ps cs out r
-shows-written {ps} {cs} {out} {a} {r} h d =
-    record { shown = h ∙ ap writtenShown (d .answer); done = subst (λ (x : WriteAnswer). Writes ps cs out x) (d .answer) d }
+-- what `ggr_writing` promises of its answer, of the number and the bytes told
+pub shows-written : {o : FileWritten} {out : Change (List ℕ)} {a : WriteAnswer} {r : Reply (List ℕ)} → WritesAs o out a
+    → (r .number ≡ numberOfWriteAnswer a) × (r .told .exit ≡ telling (bytesOfWriteAnswer a ∷ []) (r .told .entry))
+    → ShowsText o out r
+shows-written d h =
+    record {
+      number = h .0 ∙ ap numberOfWriteAnswer (d .answer);
+      told = tells-same _ (h .1) (ap (λ (x : WriteAnswer). bytesOfWriteAnswer x ∷ []) (d .answer));
+      left = d .left;
+    }
 
--- the bytes that are handed over
-pub numeral-put : (x : Float) (out : List ℕ) {bytes out′ : List ℕ} {len r : ℕ} → TextIs (textOf x) bytes len → r ≡ length (take len bytes) → out′ ≡ named (take len bytes) out
-    → (r ≡ length (textOf x)) × (out′ ≡ named (textOf x) out)
-numeral-put x out {bytes} {out′} {len} {r} t e f =
-    let b = bytes-are (textOf x) bytes len t in
-    (e ∙ ap length b, f ∙ ap (λ (l : List ℕ). named l out) b)
+-- what is written of a name is written of one that equals it
+pub written-same : (out : List ℕ) {out′ name name′ : List ℕ} {r : ℕ} → (r ≡ length name) × (out′ ≡ named name out) → name ≡ name′ → (r ≡ length name′) × (out′ ≡ named name′ out)
+written-same out h e = (h .0 ∙ ap length e, h .1 ∙ ap (λ (l : List ℕ). named l out) e)

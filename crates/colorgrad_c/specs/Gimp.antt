@@ -1,18 +1,22 @@
--- The answers of the reader as a struct of plain fields.
+-- What the reader answers and tells, and what it leaves.
 use Prim.Native.Nat.{ℕ}
 use mathlib.Core.Path.{_≡_}
-use mathlib.Core.List.{List}
+use mathlib.Core.List.{List, [], _∷_}
 use Rattle.blend.specs.declared.Rgba.{Rgba}
 use Rattle.stops.specs.Lent.{Change}
 use Rattle.segment.specs.Store.{Store}
-use Rattle.ggr.specs.File.{fileOf, roomIn, Reading, answerOf, numberOfAnswer, lineOfAnswer, segmentsOfAnswer}
-use Rattle.ggr.specs.declared.Answer.{Answer}
-use Rattle.colorgrad_c.specs.declared.gimp.GimpRead.{GimpRead}
+use Rattle.ggr.specs.File.{FileRead, fileOf, roomIn, numberIn, lineIn, segmentsIn, storeLeft}
+use Rattle.plain.specs.Telling.{telling, Reply}
 
-abbrev pub readShown : Answer → GimpRead
-readShown r = record { refusal = numberOfAnswer r; line = lineOfAnswer r; segments = segmentsOfAnswer r }
+-- the line of a refusal, and how many segments were read
+abbrev pub readTold : FileRead → List ℕ
+readTold o = lineIn o ∷ segmentsIn o ∷ []
 
--- the promise of `ggr`'s reading, and its answer shown
-pub record ShowsRead (fg bg : Rgba) (s : List ℕ) (store : Change Store) (r : GimpRead) : Type 0 where
-  pub shown : r ≡ readShown (answerOf (fileOf (roomIn (store .entry)) fg bg s))
-  pub done : Reading fg bg s store (answerOf (fileOf (roomIn (store .entry)) fg bg s))
+-- of what a file holds, and of a text
+pub record ShowsFile (o : FileRead) (store : Change Store) (r : Reply (List ℕ)) : Type 0 where
+  pub number : r .number ≡ numberIn o
+  pub told : r .told .exit ≡ telling (readTold o) (r .told .entry)
+  pub left : store .exit ≡ storeLeft o (store .entry)
+
+abbrev pub ShowsRead : Rgba → Rgba → List ℕ → Change Store → Reply (List ℕ) → Type 0
+ShowsRead fg bg s store = ShowsFile (fileOf (roomIn (store .entry)) fg bg s) store

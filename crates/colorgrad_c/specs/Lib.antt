@@ -1,3 +1,4 @@
+pub mod About
 pub mod Leaves
 pub mod Ramps
 pub mod Steps
@@ -5,5 +6,5 @@ pub mod Gimp
 pub mod Lists
 pub mod Judging
 pub mod Edits
-pub mod Tool
+pub mod inner
 pub mod Writer

@@ -1,39 +1,42 @@
 -- The calls on records and lists, for a kind given by its code.
-use Prim.Native.Nat.{ℕ}
 use mathlib.Core.Path.{_≡_}
+use mathlib.Core.List.{List}
+use Prim.Native.Nat.{ℕ}
 use lib.Ieee.{Float}
 use Rattle.refusals.specs.Refusals.{misshapen}
-use Rattle.stops.specs.Lent.{Ramp, Change}
+use Rattle.stops.specs.Lent.{Change}
 use Rattle.stops.specs.declared.Kind.{Kind}
 use Rattle.sampling.specs.Lent.{Held}
 use Rattle.linearize.specs.Lent.{Output}
 use Rattle.sampling.specs.Promises.{Samples}
+use Rattle.sampling.specs.Sampling.{numberOfSampled}
 use Rattle.linearize.specs.Promises.{Thins, Flattens}
+use Rattle.linearize.specs.Desk.{numberOfListed}
 use Rattle.sampling.specs.declared.Sampled.{Sampled}
 use Rattle.sampling.specs.declared.Sampled.the-variants as sampled
 use Rattle.linearize.specs.declared.Listed.{Listed}
 use Rattle.linearize.specs.declared.Listed.the-variants as listed
-use Rattle.plain.specs.Kinds.{Shows}
-use Rattle.plain.specs.Lists.{sampledShown, listedShown}
-use Rattle.plain.specs.declared.lists.SampleMade.{SampleMade}
-use Rattle.plain.specs.declared.lists.PlainList.{PlainList}
+use Rattle.plain.specs.Telling.{Reply}
+use Rattle.plain.specs.Kinds.{CodedRamp, Tells}
+use Rattle.plain.specs.Lists.{sampledTold, listedTold}
 
 -- the promises of `linearize`, of a ramp of any kind; a code that names no kind is 1 and changes nothing
-module _ (code : ℕ) (ramp : Kind → Ramp) (asked : Float) where
-  abbrev pub CodedSamples : Change Held → SampleMade → Type 0
-  CodedSamples held =
-      Shows code (λ (kind : Kind). Samples (ramp kind) asked held)
+module _ (by : CodedRamp) (asked : Float) (held : Change Held) where
+  abbrev pub CodedSamples : Reply (List ℕ) → Type 0
+  CodedSamples =
+      Tells (by .code) (λ (kind : Kind). Samples (by .ramp kind) asked held)
       (λ (a : Sampled). (a ≡ sampled.Refused misshapen) × (held .exit ≡ held .entry))
-      sampledShown
+      numberOfSampled sampledTold
 
-  abbrev pub CodedThins : Held → Change Output → PlainList → Type 0
-  CodedThins was out =
-      Shows code (λ (kind : Kind). Thins (ramp kind) asked was out)
+  -- the record is only read
+  abbrev pub CodedThins : Change Output → Reply (List ℕ) → Type 0
+  CodedThins out =
+      Tells (by .code) (λ (kind : Kind). Thins (by .ramp kind) asked (held .entry) out)
       (λ (a : Listed). (a ≡ listed.Refused misshapen) × (out .exit ≡ out .entry))
-      listedShown
+      numberOfListed listedTold
 
-  abbrev pub CodedFlattens : Change Held → Change Output → PlainList → Type 0
-  CodedFlattens held out =
-      Shows code (λ (kind : Kind). Flattens (ramp kind) asked held out)
+  abbrev pub CodedFlattens : Change Output → Reply (List ℕ) → Type 0
+  CodedFlattens out =
+      Tells (by .code) (λ (kind : Kind). Flattens (by .ramp kind) asked held out)
       (λ (a : Listed). (a ≡ listed.Refused misshapen) × ((held .exit ≡ held .entry) × (out .exit ≡ out .entry)))
-      listedShown
+      numberOfListed listedTold

@@ -1,18 +1,18 @@
--- The answers of the writer as a struct of plain fields.
+-- What the writer answers and tells, and what it leaves.
 use Prim.Native.Nat.{ℕ}
 use mathlib.Core.Path.{_≡_}
-use mathlib.Core.List.{List}
+use mathlib.Core.List.{List, [], _∷_}
 use lib.ListN.{length}
 use lib.Ieee.{Float}
 use Rattle.stops.specs.Lent.{Change}
-use Rattle.ggr_writing.specs.File.{fileWrittenOf, writeAnswerOf, numberOfWriteAnswer, bytesOfWriteAnswer, Writes}
-use Rattle.ggr_writing.specs.declared.WriteAnswer.{WriteAnswer}
-use Rattle.colorgrad_c.specs.declared.writer.GimpWritten.{GimpWritten}
+use Rattle.ggr_writing.specs.File.{FileWritten, fileWrittenOf, writeAnswerOf, numberOfWriteAnswer, bytesOfWriteAnswer, leftIn}
+use Rattle.plain.specs.Telling.{telling, Reply}
 
-abbrev pub writtenShown : WriteAnswer → GimpWritten
-writtenShown r = record { refusal = numberOfWriteAnswer r; bytes = bytesOfWriteAnswer r }
+-- of what is written, how many bytes; and of a list
+pub record ShowsText (o : FileWritten) (out : Change (List ℕ)) (r : Reply (List ℕ)) : Type 0 where
+  pub number : r .number ≡ numberOfWriteAnswer (writeAnswerOf o)
+  pub told : r .told .exit ≡ telling (bytesOfWriteAnswer (writeAnswerOf o) ∷ []) (r .told .entry)
+  pub left : out .exit ≡ leftIn o (out .entry)
 
--- the promise of `ggr_writing`, and its answer shown
-pub record ShowsWritten (ps cs : List Float) (out : Change (List ℕ)) (r : GimpWritten) : Type 0 where
-  pub shown : r ≡ writtenShown (writeAnswerOf (fileWrittenOf (length (out .entry)) ps cs))
-  pub done : Writes ps cs out (writeAnswerOf (fileWrittenOf (length (out .entry)) ps cs))
+abbrev pub ShowsWritten : List Float → List Float → Change (List ℕ) → Reply (List ℕ) → Type 0
+ShowsWritten ps cs out = ShowsText (fileWrittenOf (length (out .entry)) ps cs) out

@@ -1,77 +1,98 @@
-// A record refreshed after one stop's colour is changed, and the list made of it: the edit of that sort.
-use crate::sorts::colorgrad_edit;
-use crate::sorts::colorgrad_edit_list;
-use blend::Rgba;
-use plain::edits::COLOUR;
-use plain::lists::PlainList;
-use plain::lists::SampleMade;
+// A record refreshed after an edit of any sort, which is given by its code and its parts, and the list made of it.
+use linearize::Listed;
+use plain::edits::edit_of;
+use plain::kinds;
+use plain::kinds::Coded;
+use plain::lists::tell_listed;
+use plain::lists::tell_refreshed;
+use refresh::Refreshed;
+use refusals::MISSHAPEN;
 ghost use Rattle.sampling.specs.Lent.{lentHeld};
-ghost use Rattle.editing.specs.declared.Edit.the-variants.{Colour};
-ghost use Rattle.plain.specs.Kinds.{codedRamp};
-ghost use Rattle.colorgrad_c.specs.Edits.{CodedRefreshes, CodedRelists, lentBoth};
+ghost use Rattle.plain.specs.Telling.{reply};
+ghost use Rattle.plain.specs.Kinds.{rampBy};
+ghost use Rattle.plain.specs.Edits.{editOf};
+ghost use Rattle.colorgrad_c.specs.Edits.{CodedRefreshes, CodedRelists, lent};
 
+// Tells the evaluations.
 #[no_mangle]
-pub extern "C" fn colorgrad_refresh(
+pub extern "C" fn colorgrad_edit_told(
     kind: u32,
     positions: &[f32],
     channels: &[f32],
     codes: &[u8],
+    sort: u32,
     stop: usize,
-    colour: Rgba,
+    at: f32,
+    r: f32,
+    g: f32,
+    b: f32,
+    a: f32,
     asked: f32,
     rows: &mut [f32],
     counts: &mut [u8],
     marks: &mut [u32],
-) -> SampleMade
-    ensures { λ r. ⌜ CodedRefreshes kind (codedRamp positions channels codes) (Colour stop colour) asked (lentHeld rows counts marks) r ⌝ }
+    told: &mut [usize],
+) -> u32
+    ensures { λ n. ⌜ CodedRefreshes (rampBy kind positions channels codes) (editOf sort stop at r g b a) asked (lentHeld rows counts marks) (reply n told) ⌝ }
 {
-    colorgrad_edit(
-        kind,
+    let Coded::Of(known) = kinds::kind_of(kind) else {
+        return tell_refreshed(Refreshed::Refused(MISSHAPEN), told);
+    };
+    let edit = edit_of(sort, stop, at, r, g, b, a);
+    let refreshed = refresh::refresh(
+        known,
         positions,
         channels,
         codes,
-        COLOUR,
-        stop,
-        0.0,
-        colour,
+        edit,
         asked,
         rows,
         counts,
         marks,
-    )
+    );
+    tell_refreshed(refreshed, told)
 }
 
+// Tells how many stops were written, and the evaluations.
 #[no_mangle]
-pub extern "C" fn colorgrad_refresh_list(
+pub extern "C" fn colorgrad_edit_list_told(
     kind: u32,
     positions: &[f32],
     channels: &[f32],
     codes: &[u8],
+    sort: u32,
     stop: usize,
-    colour: Rgba,
+    at: f32,
+    r: f32,
+    g: f32,
+    b: f32,
+    a: f32,
     asked: f32,
     rows: &mut [f32],
     counts: &mut [u8],
     marks: &mut [u32],
     places: &mut [f32],
     colours: &mut [f32],
-) -> PlainList
-    ensures { λ r. ⌜ CodedRelists kind (codedRamp positions channels codes) (Colour stop colour) asked (lentBoth rows counts marks places colours) r ⌝ }
+    told: &mut [usize],
+) -> u32
+    ensures { λ n. ⌜ CodedRelists (rampBy kind positions channels codes) (editOf sort stop at r g b a) asked (lent rows counts marks places colours told) n ⌝ }
 {
-    colorgrad_edit_list(
-        kind,
+    let Coded::Of(known) = kinds::kind_of(kind) else {
+        return tell_listed(Listed::Refused(MISSHAPEN), told);
+    };
+    let edit = edit_of(sort, stop, at, r, g, b, a);
+    let listed = refresh::refresh_list(
+        known,
         positions,
         channels,
         codes,
-        COLOUR,
-        stop,
-        0.0,
-        colour,
+        edit,
         asked,
         rows,
         counts,
         marks,
         places,
         colours,
-    )
+    );
+    tell_listed(listed, told)
 }

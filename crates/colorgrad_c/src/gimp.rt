@@ -2,57 +2,70 @@
 use blend::Rgba;
 use ggr::Answer;
 use plain::name::write_name;
+use plain::telling::tell_numbers;
 ghost use mathlib.Core.Path.{_≡_};
+ghost use mathlib.Core.List.{[], _∷_};
 ghost use lib.ListN.{length};
+ghost use Rattle.stops.specs.Lent.{old, new};
 ghost use Rattle.segment.specs.Store.{lentStore};
-ghost use Rattle.ggr.specs.File.{nameOf};
-ghost use Rattle.colorgrad_c.specs.Gimp.{readShown, ShowsRead};
+ghost use Rattle.ggr.specs.File.{nameOf, numberOfAnswer, lineOfAnswer, segmentsOfAnswer};
+ghost use Rattle.plain.specs.Telling.{telling, reply};
+ghost use Rattle.plain.specs.Edits.{rgbaOf};
 ghost use Rattle.plain.specs.Name.{named};
+ghost use Rattle.colorgrad_c.specs.Gimp.{ShowsRead};
 
-// The refusal and its line, or 0 and how many segments were read.
-#[repr(C)]
-pub struct GimpRead {
-    pub refusal: u32,
-    pub line: usize,
-    pub segments: usize,
-}
-
-fn read_shown(answer: Answer) -> GimpRead
-    ensures { λ r. ⌜ r ≡ readShown answer ⌝ }
+// The refusal; tells its line, 0 if none, and how many segments were read.
+fn tell_read(answer: Answer, told: &mut [usize]) -> u32
+    ensures { λ r. ⌜ r ≡ numberOfAnswer answer ⌝ }
+    ensures { λ _. ⌜ new told ≡ telling (lineOfAnswer answer ∷ segmentsOfAnswer answer ∷ []) (old told) ⌝ }
 {
     match answer {
-        Answer::Read(segments) => GimpRead {
-            refusal: 0,
-            line: 0,
-            segments,
-        },
-        Answer::Refused(n, line) => GimpRead {
-            refusal: n as u32,
-            line,
-            segments: 0,
-        },
+        Answer::Read(segments) => {
+            tell_numbers(told, &[0, segments]);
+            0
+        }
+        Answer::Refused(n, line) => {
+            tell_numbers(told, &[line, 0]);
+            n as u32
+        }
     }
 }
 
+// The foreground is r, g, b, a, the background br, bg, bb, ba.
 #[no_mangle]
-pub extern "C" fn colorgrad_read(
+pub extern "C" fn colorgrad_read_told(
     text: &[u8],
-    foreground: Rgba,
-    background: Rgba,
+    r: f32,
+    g: f32,
+    b: f32,
+    a: f32,
+    br: f32,
+    bg: f32,
+    bb: f32,
+    ba: f32,
     positions: &mut [f32],
     channels: &mut [f32],
     codes: &mut [u8],
-) -> GimpRead
-    ensures { λ r. ⌜ ShowsRead foreground background (now (text .entry)) (lentStore positions channels codes) r ⌝ }
+    told: &mut [usize],
+) -> u32
+    ensures { λ n. ⌜ ShowsRead (rgbaOf r g b a) (rgbaOf br bg bb ba) (old text) (lentStore positions channels codes) (reply n told) ⌝ }
 {
-    read_shown(ggr::read(text, foreground, background, positions, channels, codes))
+    let foreground = Rgba { r, g, b, a };
+    let background = Rgba {
+        r: br,
+        g: bg,
+        b: bb,
+        a: ba,
+    };
+    let answer = ggr::read(text, foreground, background, positions, channels, codes);
+    tell_read(answer, told)
 }
 
 // The length of the name. Its bytes are written where the output has room for all of them; else it stays as it is.
 #[no_mangle]
 pub extern "C" fn colorgrad_name(text: &[u8], out: &mut [u8]) -> usize
-    ensures { λ r. ⌜ r ≡ length (nameOf (now (text .entry))) ⌝ }
-    ensures { λ _. ⌜ now (out .exit) ≡ named (nameOf (now (text .entry))) (now (out .entry)) ⌝ }
+    ensures { λ r. ⌜ r ≡ length (nameOf (old text)) ⌝ }
+    ensures { λ _. ⌜ new out ≡ named (nameOf (old text)) (old out) ⌝ }
 {
     write_name(ggr::name(text), out)
 }

@@ -2,15 +2,16 @@
 use judge::Verdict;
 use plain::kinds;
 use plain::kinds::Coded;
-use plain::verdicts::Judgement;
-use plain::verdicts::verdict_shown;
+use plain::verdicts::tell_verdict;
 use refusals::MISSHAPEN;
 ghost use Rattle.judge.specs.Lists.{lentOffer};
-ghost use Rattle.plain.specs.Kinds.{codedRamp};
+ghost use Rattle.plain.specs.Telling.{replies};
+ghost use Rattle.plain.specs.Kinds.{rampBy};
 ghost use Rattle.colorgrad_c.specs.Judging.{CodedJudges};
 
+// Tells the verdict, and the stop, the row and the index that it names; and the t of the point.
 #[no_mangle]
-pub extern "C" fn colorgrad_judge(
+pub extern "C" fn colorgrad_judge_told(
     kind: u32,
     positions: &[f32],
     channels: &[f32],
@@ -18,13 +19,15 @@ pub extern "C" fn colorgrad_judge(
     threshold: f32,
     places: &[f32],
     colours: &[f32],
-) -> Judgement
-    ensures { λ r. ⌜ CodedJudges kind (codedRamp positions channels codes) threshold (lentOffer places colours) r ⌝ }
+    told: &mut [usize],
+    t: &mut [f32],
+) -> u32
+    ensures { λ r. ⌜ CodedJudges (rampBy kind positions channels codes) threshold (lentOffer places colours) (replies r told t) ⌝ }
 {
     let Coded::Of(known) = kinds::kind_of(kind) else {
-        return verdict_shown(Verdict::Refused(MISSHAPEN));
+        return tell_verdict(Verdict::Refused(MISSHAPEN), told, t);
     };
-    verdict_shown(judge::judge(
+    let verdict = judge::judge(
         known,
         positions,
         channels,
@@ -32,5 +35,6 @@ pub extern "C" fn colorgrad_judge(
         threshold,
         places,
         colours,
-    ))
+    );
+    tell_verdict(verdict, told, t)
 }

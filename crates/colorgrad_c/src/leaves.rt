@@ -1,32 +1,29 @@
 // The leaves that a host compares by themselves: the square root, a cutoff, a threshold, and a token as a number.
 ghost use mathlib.Core.Path.{_≡_};
+ghost use Rattle.stops.specs.Lent.{old, new};
 ghost use Rattle.sqrt.specs.Root.{rootOf};
 ghost use Rattle.sqrt.specs.Cutoff.{IsCutoff};
 ghost use Rattle.decimal.specs.Decimal.{readOf};
 ghost use Rattle.sampling.specs.Constants.{thresholdOf};
-ghost use Rattle.colorgrad_c.specs.Leaves.{tokenShown};
+ghost use Rattle.plain.specs.Telling.{telling};
+ghost use Rattle.colorgrad_c.specs.Leaves.{isNumber, valueTold};
 use decimal::Token;
 use linearize::Sampler;
+use plain::telling::tell_floats;
 
-// value is 0 where the token is no number.
-#[repr(C)]
-pub struct TokenRead {
-    pub is_number: bool,
-    pub value: f32,
-}
-
-fn shown(token: Token) -> TokenRead
-    ensures { λ r. ⌜ r ≡ tokenShown token ⌝ }
+fn tell_token(token: Token, value: &mut [f32]) -> u32
+    ensures { λ r. ⌜ r ≡ isNumber token ⌝ }
+    ensures { λ _. ⌜ new value ≡ telling (valueTold token) (old value) ⌝ }
 {
     match token {
-        Token::Number(value) => TokenRead {
-            is_number: true,
-            value,
-        },
-        Token::NoNumber => TokenRead {
-            is_number: false,
-            value: 0.0,
-        },
+        Token::Number(x) => {
+            tell_floats(value, &[x]);
+            1
+        }
+        Token::NoNumber => {
+            tell_floats(value, &[0.0]);
+            0
+        }
     }
 }
 
@@ -54,9 +51,11 @@ pub extern "C" fn colorgrad_threshold(asked: f32) -> f32
     sampler.threshold
 }
 
+// 1 where the token is a number, else 0; tells the number, 0 if none.
 #[no_mangle]
-pub extern "C" fn colorgrad_token(text: &[u8]) -> TokenRead
-    ensures { λ r. ⌜ r ≡ tokenShown (readOf (now (text .entry))) ⌝ }
+pub extern "C" fn colorgrad_token_told(text: &[u8], value: &mut [f32]) -> u32
+    ensures { λ r. ⌜ r ≡ isNumber (readOf (old text)) ⌝ }
+    ensures { λ _. ⌜ new value ≡ telling (valueTold (readOf (old text))) (old value) ⌝ }
 {
-    shown(decimal::read(text))
+    tell_token(decimal::read(text), value)
 }

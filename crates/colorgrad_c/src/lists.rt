@@ -3,18 +3,18 @@ use linearize::Listed;
 use linearize::Sampled;
 use plain::kinds;
 use plain::kinds::Coded;
-use plain::lists::PlainList;
-use plain::lists::SampleMade;
-use plain::lists::listed_shown;
-use plain::lists::sampled_shown;
+use plain::lists::tell_listed;
+use plain::lists::tell_sampled;
 use refusals::MISSHAPEN;
 ghost use Rattle.sampling.specs.Lent.{lentHeld};
 ghost use Rattle.linearize.specs.Lent.{lentOutput};
-ghost use Rattle.plain.specs.Kinds.{codedRamp};
+ghost use Rattle.plain.specs.Telling.{reply};
+ghost use Rattle.plain.specs.Kinds.{rampBy};
 ghost use Rattle.colorgrad_c.specs.Lists.{CodedSamples, CodedThins, CodedFlattens};
 
+// Tells the evaluations.
 #[no_mangle]
-pub extern "C" fn colorgrad_sample(
+pub extern "C" fn colorgrad_sample_told(
     kind: u32,
     positions: &[f32],
     channels: &[f32],
@@ -23,13 +23,14 @@ pub extern "C" fn colorgrad_sample(
     rows: &mut [f32],
     counts: &mut [u8],
     marks: &mut [u32],
-) -> SampleMade
-    ensures { λ r. ⌜ CodedSamples kind (codedRamp positions channels codes) threshold (lentHeld rows counts marks) r ⌝ }
+    told: &mut [usize],
+) -> u32
+    ensures { λ r. ⌜ CodedSamples (rampBy kind positions channels codes) threshold (lentHeld rows counts marks) (reply r told) ⌝ }
 {
     let Coded::Of(known) = kinds::kind_of(kind) else {
-        return sampled_shown(Sampled::Refused(MISSHAPEN));
+        return tell_sampled(Sampled::Refused(MISSHAPEN), told);
     };
-    sampled_shown(linearize::sample(
+    let sampled = linearize::sample(
         known,
         positions,
         channels,
@@ -38,11 +39,13 @@ pub extern "C" fn colorgrad_sample(
         rows,
         counts,
         marks,
-    ))
+    );
+    tell_sampled(sampled, told)
 }
 
+// Tells how many stops were written, and the evaluations.
 #[no_mangle]
-pub extern "C" fn colorgrad_thin(
+pub extern "C" fn colorgrad_thin_told(
     kind: u32,
     positions: &[f32],
     channels: &[f32],
@@ -53,13 +56,14 @@ pub extern "C" fn colorgrad_thin(
     marks: &[u32],
     places: &mut [f32],
     colours: &mut [f32],
-) -> PlainList
-    ensures { λ r. ⌜ CodedThins kind (codedRamp positions channels codes) threshold (lentHeld rows counts marks .entry) (lentOutput places colours) r ⌝ }
+    told: &mut [usize],
+) -> u32
+    ensures { λ r. ⌜ CodedThins (rampBy kind positions channels codes) threshold (lentHeld rows counts marks) (lentOutput places colours) (reply r told) ⌝ }
 {
     let Coded::Of(known) = kinds::kind_of(kind) else {
-        return listed_shown(Listed::Refused(MISSHAPEN));
+        return tell_listed(Listed::Refused(MISSHAPEN), told);
     };
-    listed_shown(linearize::thin(
+    let listed = linearize::thin(
         known,
         positions,
         channels,
@@ -70,11 +74,13 @@ pub extern "C" fn colorgrad_thin(
         marks,
         places,
         colours,
-    ))
+    );
+    tell_listed(listed, told)
 }
 
+// Tells how many stops were written, and the evaluations.
 #[no_mangle]
-pub extern "C" fn colorgrad_flatten(
+pub extern "C" fn colorgrad_flatten_told(
     kind: u32,
     positions: &[f32],
     channels: &[f32],
@@ -85,13 +91,14 @@ pub extern "C" fn colorgrad_flatten(
     marks: &mut [u32],
     places: &mut [f32],
     colours: &mut [f32],
-) -> PlainList
-    ensures { λ r. ⌜ CodedFlattens kind (codedRamp positions channels codes) threshold (lentHeld rows counts marks) (lentOutput places colours) r ⌝ }
+    told: &mut [usize],
+) -> u32
+    ensures { λ r. ⌜ CodedFlattens (rampBy kind positions channels codes) threshold (lentHeld rows counts marks) (lentOutput places colours) (reply r told) ⌝ }
 {
     let Coded::Of(known) = kinds::kind_of(kind) else {
-        return listed_shown(Listed::Refused(MISSHAPEN));
+        return tell_listed(Listed::Refused(MISSHAPEN), told);
     };
-    listed_shown(linearize::flatten(
+    let listed = linearize::flatten(
         known,
         positions,
         channels,
@@ -102,5 +109,6 @@ pub extern "C" fn colorgrad_flatten(
         marks,
         places,
         colours,
-    ))
+    );
+    tell_listed(listed, told)
 }

@@ -2,21 +2,18 @@
 use paint::ColourAnswer;
 use plain::kinds;
 use plain::kinds::Coded;
-use plain::ramps::Domain;
-use plain::ramps::SharpBuilt;
-use plain::ramps::Shown;
-use plain::ramps::answer_shown;
-use plain::ramps::built_shown;
 use plain::ramps::checked_number;
-use plain::ramps::domain_by;
 use plain::ramps::painted_number;
+use plain::ramps::tell_built;
+use plain::ramps::tell_colour;
+use plain::ramps::tell_domain;
 use refusals::MISSHAPEN;
 use stops::Checked;
-ghost use Rattle.stops.specs.Lent.{old, new};
-ghost use Rattle.sharp_ramp.specs.Sharp.{Builds};
-ghost use Rattle.plain.specs.Kinds.{ShowsOf, codedRamp};
-ghost use Rattle.plain.specs.Ramps.{builtShown};
-ghost use Rattle.colorgrad_c.specs.Ramps.{CodedChecks, CodedDomain, CodedAt, CodedPaints};
+ghost use Rattle.stops.specs.Lent.{old, new, change};
+ghost use Rattle.linearize.specs.Lent.{lentOutput};
+ghost use Rattle.plain.specs.Telling.{reply};
+ghost use Rattle.plain.specs.Kinds.{rampBy};
+ghost use Rattle.colorgrad_c.specs.Ramps.{CodedChecks, CodedDomain, CodedAt, CodedPaints, ShowsBuilt};
 
 // 0, or the refusal.
 #[no_mangle]
@@ -26,7 +23,7 @@ pub extern "C" fn colorgrad_check(
     channels: &[f32],
     codes: &[u8],
 ) -> u32
-    ensures { λ r. ⌜ CodedChecks kind (codedRamp positions channels codes) r ⌝ }
+    ensures { λ r. ⌜ CodedChecks (rampBy kind positions channels codes) r ⌝ }
 {
     let Coded::Of(known) = kinds::kind_of(kind) else {
         return MISSHAPEN as u32;
@@ -34,39 +31,42 @@ pub extern "C" fn colorgrad_check(
     checked_number(gradient::check(known, positions, channels, codes))
 }
 
+// Tells the ends of the domain.
 #[no_mangle]
-pub extern "C" fn colorgrad_domain(
+pub extern "C" fn colorgrad_domain_told(
     kind: u32,
     positions: &[f32],
     channels: &[f32],
     codes: &[u8],
-) -> Domain
-    ensures { λ r. ⌜ CodedDomain kind (codedRamp positions channels codes) r ⌝ }
+    ends: &mut [f32],
+) -> u32
+    ensures { λ r. ⌜ CodedDomain (rampBy kind positions channels codes) (reply r ends) ⌝ }
 {
     let Coded::Of(known) = kinds::kind_of(kind) else {
-        return domain_by(Checked::Refused(MISSHAPEN), 0.0, 0.0);
+        return tell_domain(Checked::Refused(MISSHAPEN), 0.0, 0.0, ends);
     };
-    domain_by(
-        gradient::check(known, positions, channels, codes),
-        gradient::min_of(known, positions),
-        gradient::max_of(known, positions),
-    )
+    let checked = gradient::check(known, positions, channels, codes);
+    let min = gradient::min_of(known, positions);
+    let max = gradient::max_of(known, positions);
+    tell_domain(checked, min, max, ends)
 }
 
+// Tells the four channels of the colour.
 #[no_mangle]
-pub extern "C" fn colorgrad_at(
+pub extern "C" fn colorgrad_at_told(
     kind: u32,
     positions: &[f32],
     channels: &[f32],
     codes: &[u8],
     t: f32,
-) -> Shown
-    ensures { λ r. ⌜ CodedAt kind (codedRamp positions channels codes) t r ⌝ }
+    colour: &mut [f32],
+) -> u32
+    ensures { λ r. ⌜ CodedAt (rampBy kind positions channels codes) t (reply r colour) ⌝ }
 {
     let Coded::Of(known) = kinds::kind_of(kind) else {
-        return answer_shown(ColourAnswer::Refused(MISSHAPEN));
+        return tell_colour(ColourAnswer::Refused(MISSHAPEN), colour);
     };
-    answer_shown(paint::at(known, positions, channels, codes, t))
+    tell_colour(paint::at(known, positions, channels, codes, t), colour)
 }
 
 // 0, or the refusal.
@@ -79,7 +79,7 @@ pub extern "C" fn colorgrad_paint(
     ts: &[f32],
     out: &mut [f32],
 ) -> u32
-    ensures { λ r. ⌜ CodedPaints kind (codedRamp positions channels codes) (old ts) (old out) (new out) r ⌝ }
+    ensures { λ r. ⌜ CodedPaints (rampBy kind positions channels codes) (old ts) (change (old out) (new out)) r ⌝ }
 {
     let Coded::Of(known) = kinds::kind_of(kind) else {
         return MISSHAPEN as u32;
@@ -87,16 +87,19 @@ pub extern "C" fn colorgrad_paint(
     painted_number(paint::paint(known, positions, channels, codes, ts, out))
 }
 
+// Tells how many stops were written.
 #[no_mangle]
-pub extern "C" fn colorgrad_sharp(
+pub extern "C" fn colorgrad_sharp_told(
     colours: &[f32],
     min: f32,
     max: f32,
     softness: f32,
     positions: &mut [f32],
     channels: &mut [f32],
-) -> SharpBuilt
-    ensures { λ r. ⌜ ShowsOf (Builds (old colours) min max softness (old positions) (new positions) (old channels) (new channels)) builtShown r ⌝ }
+    told: &mut [usize],
+) -> u32
+    ensures { λ r. ⌜ ShowsBuilt (old colours) min max softness (lentOutput positions channels) (reply r told) ⌝ }
 {
-    built_shown(sharp_ramp::build(colours, min, max, softness, positions, channels))
+    let built = sharp_ramp::build(colours, min, max, softness, positions, channels);
+    tell_built(built, told)
 }

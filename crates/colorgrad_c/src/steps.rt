@@ -3,46 +3,52 @@ use next_stop::Handed;
 use next_stop::Told;
 use plain::kinds;
 use plain::kinds::Coded;
-use plain::steps::PlainPlace;
-use plain::steps::StopHanded;
-use plain::steps::handed_shown;
 use plain::steps::place_from;
+use plain::steps::tell_handed;
 use refusals::MISSHAPEN;
 ghost use Rattle.sampling.specs.Lent.{lentHeld};
-ghost use Rattle.plain.specs.Kinds.{codedRamp};
+ghost use Rattle.plain.specs.Telling.{replies};
+ghost use Rattle.plain.specs.Kinds.{rampBy};
 ghost use Rattle.colorgrad_c.specs.Steps.{CodedHandsOut};
 
+// Tells whether there is a stop, the evaluations, and the state, the row and the index to go on from; and the stop.
 #[no_mangle]
-pub extern "C" fn colorgrad_next_stop(
+pub extern "C" fn colorgrad_next_stop_told(
     kind: u32,
     positions: &[f32],
     channels: &[f32],
     codes: &[u8],
-    threshold: f32,
+    asked: f32,
     rows: &[f32],
     counts: &[u8],
     marks: &[u32],
-    place: PlainPlace,
-) -> StopHanded
-    ensures { λ r. ⌜ CodedHandsOut kind (codedRamp positions channels codes) threshold (lentHeld rows counts marks .entry) place r ⌝ }
+    state: u32,
+    row: u32,
+    index: u32,
+    told: &mut [usize],
+    stop: &mut [f32],
+) -> u32
+    ensures { λ r. ⌜ CodedHandsOut (rampBy kind positions channels codes) asked (lentHeld rows counts marks) state row index (replies r told stop) ⌝ }
 {
-    let from = place_from(place);
+    let place = place_from(state, row, index);
     let Coded::Of(known) = kinds::kind_of(kind) else {
-        return handed_shown(Handed {
+        let refused = Handed {
             told: Told::Refused(MISSHAPEN),
             evaluations: 0,
-            place: from,
-        });
+            place,
+        };
+        return tell_handed(refused, told, stop);
     };
-    handed_shown(next_stop::next_stop(
+    let handed = next_stop::next_stop(
         known,
         positions,
         channels,
         codes,
-        threshold,
+        asked,
         rows,
         counts,
         marks,
-        from,
-    ))
+        place,
+    );
+    tell_handed(handed, told, stop)
 }

@@ -3,7 +3,7 @@ use desk::Desked;
 ghost use mathlib.Core.Path.{_≡_};
 ghost use lib.ListN.{length};
 ghost use Rattle.desk.specs.Tool.{deskOf, deskOutput};
-ghost use Rattle.colorgrad_c.specs.Tool.{bytesOf};
+ghost use Rattle.colorgrad_c.specs.inner.Tool.{bytesOf};
 
 fn bytes_of(desked: Desked) -> usize
     ensures { λ r. ⌜ r ≡ bytesOf desked ⌝ }

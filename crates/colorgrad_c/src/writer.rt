@@ -1,41 +1,45 @@
 // Lists as GIMP texts, and numbers as they are written there.
 use ggr_writing::WriteAnswer;
 use plain::name::write_name;
+use plain::telling::tell_numbers;
 ghost use mathlib.Core.Path.{_≡_};
+ghost use mathlib.Core.List.{[], _∷_};
 ghost use lib.ListN.{length};
 ghost use Rattle.stops.specs.Lent.{old, new, change};
 ghost use Rattle.numerals.specs.Written.{textOf};
-ghost use Rattle.colorgrad_c.specs.Writer.{writtenShown, ShowsWritten};
+ghost use Rattle.ggr_writing.specs.File.{numberOfWriteAnswer, bytesOfWriteAnswer};
+ghost use Rattle.plain.specs.Telling.{telling, reply};
 ghost use Rattle.plain.specs.Name.{named};
+ghost use Rattle.colorgrad_c.specs.Writer.{ShowsWritten};
 
-// The refusal, or 0 and how many bytes were written.
-#[repr(C)]
-pub struct GimpWritten {
-    pub refusal: u32,
-    pub bytes: usize,
-}
-
-fn written_shown(answer: WriteAnswer) -> GimpWritten
-    ensures { λ r. ⌜ r ≡ writtenShown answer ⌝ }
+fn tell_written(answer: WriteAnswer, told: &mut [usize]) -> u32
+    ensures { λ r. ⌜ r ≡ numberOfWriteAnswer answer ⌝ }
+    ensures { λ _. ⌜ new told ≡ telling (bytesOfWriteAnswer answer ∷ []) (old told) ⌝ }
 {
     match answer {
-        WriteAnswer::Written(bytes) => GimpWritten { refusal: 0, bytes },
-        WriteAnswer::Refused(n) => GimpWritten {
-            refusal: n as u32,
-            bytes: 0,
-        },
+        WriteAnswer::Written(bytes) => {
+            tell_numbers(told, &[bytes]);
+            0
+        }
+        WriteAnswer::Refused(n) => {
+            tell_numbers(told, &[0]);
+            n as u32
+        }
     }
 }
 
+// Tells how many bytes were written.
 #[no_mangle]
-pub extern "C" fn colorgrad_write_ggr(
+pub extern "C" fn colorgrad_write_ggr_told(
     positions: &[f32],
     channels: &[f32],
     text: &mut [u8],
-) -> GimpWritten
-    ensures { λ r. ⌜ ShowsWritten (old positions) (old channels) (change (old text) (new text)) r ⌝ }
+    told: &mut [usize],
+) -> u32
+    ensures { λ r. ⌜ ShowsWritten (old positions) (old channels) (change (old text) (new text)) (reply r told) ⌝ }
 {
-    written_shown(ggr_writing::write(positions, channels, text))
+    let answer = ggr_writing::write(positions, channels, text);
+    tell_written(answer, told)
 }
 
 // The length of the number's text, 0 where it cannot be written. Its bytes are written where the output has room for all

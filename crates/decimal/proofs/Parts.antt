@@ -12,7 +12,7 @@ use borrow.Author.Tests.{leb-true, le-leb, lt-leb, ne-eqb}
 use Rattle.decimal.specs.declared.Token.{Token}
 use Rattle.decimal.specs.declared.Token.the-variants.{Number, NoNumber}
 use Rattle.decimal.specs.Decimal.{mostDigits, isDigit, areDigits, valueAfter, beforePoint, afterPoint, numberOf, unsignedOf}
-use Rattle.decimal.specs.Steps.{DigitRun}
+use Rattle.decimal.specs.inner.Steps.{DigitRun}
 
 -- ---- a byte
 pub digit : (b : ℕ) → 48 ≤ b → b ≤ 57 → isDigit b ≡ true

@@ -12,7 +12,7 @@ use lib.Seq.{drop-cons, drop-length, take-all}
 use borrow.Author.Tests.{eq-eqb, ne-eqb}
 use Rattle.decimal.specs.declared.Token.the-variants.{NoNumber}
 use Rattle.decimal.specs.Decimal.{isDigit, valueAfter, numberOf, unsignedOf, readOf}
-use Rattle.decimal.specs.Steps.{DigitRun, RunsTo}
+use Rattle.decimal.specs.inner.Steps.{DigitRun, RunsTo}
 use Rattle.decimal.proofs.Parts.{digit, digits-none, digits-more, value-split, whole-number, point-number, other-byte, after-byte}
 
 -- ---- a place in the token

@@ -6,7 +6,7 @@ use native.Mathlib.Omega.{arith}
 use lib.Count.{leadingZeros, leading-top}
 use lib.Dec.{lit<}
 use lib.Pow.{pow-add, pow-mono, shl-lt}
-use Rattle.decimal.specs.Steps.{DoublesTo, ScalesTo}
+use Rattle.decimal.specs.inner.Steps.{DoublesTo, ScalesTo}
 
 -- ---- powers keep order
 pub five-le : (n k : ℕ) → n ≤ k → 5 ^ n ≤ 5 ^ k

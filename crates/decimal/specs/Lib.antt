@@ -3,4 +3,4 @@ pub mod Decimal
 pub mod Form
 pub mod Means
 pub mod Nearest
-pub mod Steps
+pub mod inner

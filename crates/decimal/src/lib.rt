@@ -5,7 +5,7 @@ ghost use lib.ListN.{length};
 ghost use lib.Ieee as Ieee;
 ghost use lib.Ieee.{binary32};
 ghost use Rattle.decimal.specs.Decimal.{mostDigits, readOf, unsignedOf, numberOf};
-ghost use Rattle.decimal.specs.Steps.{RunsTo, DoublesTo, ScalesTo, DividesTo, BitsOf};
+ghost use Rattle.decimal.specs.inner.Steps.{RunsTo, DoublesTo, ScalesTo, DividesTo, BitsOf};
 
 pub enum Token {
     Number(f32),

@@ -19,7 +19,7 @@ use Rattle.entries.specs.declared.reading.Asked.{Asked}
 use Rattle.entries.specs.declared.reading.Asked.the-variants as asked
 use Rattle.entries.proofs.Inputs.{length-positions, length-channels}
 use Rattle.entries.proofs.Stored.{stops-are}
-use Rattle.desk.specs.Steps.{Says}
+use Rattle.desk.specs.inner.Steps.{Says}
 use Rattle.desk.specs.Tool.{rampText, inputText, deskOf}
 use Rattle.desk.proofs.Making.{take-front}
 

@@ -39,7 +39,7 @@ use Rattle.entries.specs.declared.fields.Recolour.{Recolour}
 use Rattle.writing.specs.Printed.{countText, stopText, rowsText, stopsWord, evaluationsWord, listText, replyText, Puts}
 use Rattle.writing.specs.declared.Reply.{Reply}
 use Rattle.writing.specs.declared.Reply.the-variants as reply
-use Rattle.desk.specs.Steps.{replyOf, Says, Room}
+use Rattle.desk.specs.inner.Steps.{replyOf, Says, Room}
 use Rattle.desk.specs.Tool.{listRoom, listedText, keptIn, madeText, freshText, newPoints, relistText, editText, blank, rampText, deskOf, deskAnswer, deskOutput, Desks}
 use Rattle.entries.specs.declared.reading.Edited.{Edited}
 use Rattle.entries.specs.declared.reading.Edited.the-variants as edit

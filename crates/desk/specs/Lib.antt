@@ -1,4 +1,4 @@
 -- The tool: its calls, and what it prints of them.
 pub mod Recoloured
-pub mod Steps
+pub mod inner
 pub mod Tool

@@ -11,7 +11,7 @@ ghost use Prim.Native.Nat.{_≤_};
 ghost use Rattle.stops.specs.Lent.{new};
 ghost use Rattle.linearize.specs.Desk.{stopsOfListed};
 ghost use Rattle.desk.specs.Tool.{listRoom, freshText, editText, rampText, blank};
-ghost use Rattle.desk.specs.Steps.{stopRamp, replyOf, Says, Room};
+ghost use Rattle.desk.specs.inner.Steps.{stopRamp, replyOf, Says, Room};
 
 // The stops that a list has room for.
 pub(crate) const ROOM: usize = 1000;

@@ -11,7 +11,7 @@ use writing::write;
 ghost use Rattle.stops.specs.Lent.{old, new};
 ghost use Rattle.writing.specs.Printed.{Puts};
 ghost use Rattle.desk.specs.Tool.{deskOf, Desks, Prints};
-ghost use Rattle.desk.specs.Steps.{Says, Room};
+ghost use Rattle.desk.specs.inner.Steps.{Says, Room};
 
 mod calls;
 

@@ -20,7 +20,7 @@ use Rattle.sampling.specs.Constants.{defaultThreshold}
 use Rattle.linearize.specs.Lent.{outputOf}
 use Rattle.entries.specs.Entries.{entryOf}
 use Rattle.entries.specs.Input.{unread, ifThreshold, ifStop, ifChange, fromEnd, fromEdit, stopsOf, afterStops, fromStops, fromThreshold, afterThreshold}
-use Rattle.entries.specs.Steps.{StepAt, StartAt, BlockAt, endingOf, EndsAs}
+use Rattle.entries.specs.inner.Steps.{StepAt, StartAt, BlockAt, endingOf, EndsAs}
 use Rattle.entries.specs.declared.fields.Recolour.{Recolour}
 use Rattle.entries.specs.declared.fields.Entry.{Entry}
 use Rattle.entries.specs.declared.fields.Entry.the-variants as entry

@@ -22,7 +22,7 @@ use Rattle.linearize.specs.Lent.{Output}
 use Rattle.entries.specs.declared.fields.Recolour.{Recolour}
 use Rattle.entries.specs.Entries.{entryOf}
 use Rattle.entries.specs.Input.{Input, unread, input, mostBytes, ifRamp, ifThreshold, ifChange, fromEnd, fromEdit, stopsOf, afterStops, fromStops, fromThreshold, fromKind, inputOf, afterThreshold, stopsFrom, stopsIn, askedOf, Reads}
-use Rattle.entries.specs.Steps.{StepAt, StartAt, BlockAt, endingOf, EndsAs}
+use Rattle.entries.specs.inner.Steps.{StepAt, StartAt, BlockAt, endingOf, EndsAs}
 use Rattle.entries.specs.declared.fields.Entry.{Entry}
 use Rattle.entries.specs.declared.fields.Entry.the-variants as entry
 use Rattle.entries.proofs.fields.Entry.{the-type}

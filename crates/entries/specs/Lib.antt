@@ -1,4 +1,4 @@
 -- What the tool reads.
 pub mod Entries
 pub mod Input
-pub mod Steps
+pub mod inner

@@ -13,7 +13,7 @@ ghost use lib.ListN.{length};
 ghost use Rattle.stops.specs.Lent.{old};
 ghost use Rattle.linearize.specs.Lent.{lentOutput};
 ghost use Rattle.entries.specs.Input.{mostBytes, Reads};
-ghost use Rattle.entries.specs.Steps.{StepAt, StartAt, BlockAt, EndsAs};
+ghost use Rattle.entries.specs.inner.Steps.{StepAt, StartAt, BlockAt, EndsAs};
 
 const MOST_BYTES: usize = 16384;
 

@@ -23,7 +23,7 @@ use Rattle.segment.specs.Store.{Store, storeOf, segmentPositions, segmentChanne
 use Rattle.ggr.specs.declared.Answer.{Answer}
 use Rattle.ggr.specs.declared.Answer.the-variants.{Read, Refused}
 use Rattle.ggr.specs.File.{FileRead, found, refused, joinedTo, before, addSegment, segmentLines, answerOf, flat, atFront, storeLeft}
-use Rattle.ggr.specs.Steps.{Filled, closedBy}
+use Rattle.ggr.specs.inner.Steps.{Filled, closedBy}
 use Rattle.ggr.proofs.Weighing.{weighs}
 
 -- ---- items one after the other

@@ -24,7 +24,7 @@ use Rattle.header.specs.Leads.{headBy, leadFits, Leads}
 use Rattle.ggr.specs.declared.Answer.{Answer}
 use Rattle.ggr.specs.declared.Answer.the-variants.{Read, Refused}
 use Rattle.ggr.specs.File.{FileRead, found, refused, segmentLines, fromHead, fitText, fileOf, answerOf, numberOfAnswer, lineOfAnswer, segmentsOfAnswer, numberIn, lineIn, segmentsIn, storeLeft, segmentRoom, Done, transparent, whenRead, nameOf}
-use Rattle.ggr.specs.Steps.{Filled}
+use Rattle.ggr.specs.inner.Steps.{Filled}
 
 -- ---- the order of the refusals
 module _ (room : ℕ) (fg bg : Rgba) (s : List ℕ) where

@@ -20,7 +20,7 @@ ghost use lib.ListN.{length};
 ghost use Rattle.refusals.specs.Limits.{mostSegments};
 ghost use Rattle.segment.specs.Store.{lentStore};
 ghost use Rattle.ggr.specs.File.{fitText, joins, segmentRoom, joinedTo};
-ghost use Rattle.ggr.specs.Steps.{Fills, ReadsInto, closedBy};
+ghost use Rattle.ggr.specs.inner.Steps.{Fills, ReadsInto, closedBy};
 
 fn is_fit_text(s: &[u8]) -> bool
     ensures { λ r. ⌜ r ≡ fitText (now (s .entry)) ⌝ }

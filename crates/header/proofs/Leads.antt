@@ -17,7 +17,7 @@ use Rattle.header.specs.declared.Lead.{Lead}
 use Rattle.header.specs.declared.Lead.the-variants.{Counted, Refuse}
 use Rattle.header.specs.Head.{orEmpty, textLines, segmentCount, Head, counts, fails, fromCount, counted, fromThird, fromSecond, fromLines, title, nameTag}
 use Rattle.header.specs.Leads.{nextAt, leadOf, headBy, leadFits, LeadsTo, Leads}
-use Rattle.header.specs.Steps.{SecondLeads, ThirdLeads}
+use Rattle.header.specs.inner.Steps.{SecondLeads, ThirdLeads}
 
 -- ---- an answer of each kind
 module _ (room fourth : ℕ) (s : List ℕ) (h : Head) where

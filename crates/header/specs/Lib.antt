@@ -1,4 +1,4 @@
 -- What the header of a GIMP file says.
 pub mod Head
 pub mod Leads
-pub mod Steps
+pub mod inner

@@ -13,7 +13,7 @@ use text::trimmed;
 ghost use mathlib.Core.Path.{_≡_};
 ghost use Rattle.header.specs.Head.{nameIn};
 ghost use Rattle.header.specs.Leads.{Leads};
-ghost use Rattle.header.specs.Steps.{SecondLeads, ThirdLeads};
+ghost use Rattle.header.specs.inner.Steps.{SecondLeads, ThirdLeads};
 
 // Where the header leads: to so many segments, whose first line starts at a place, or to a refusal with its line.
 pub enum Lead {

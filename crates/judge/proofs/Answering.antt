@@ -26,7 +26,7 @@ use Rattle.sampling.proofs.Checks.{ramp-fine}
 use Rattle.difference.specs.Difference.{distanceOf}
 use Rattle.judge.specs.Lists.{Offer, sized, firstBad, offeredRamp}
 use Rattle.judge.specs.Verdicts.{numberOfVerdict, rampCheck, close, farIn, rowsVerdict, allVerdict, pointCount, freshPoint, closeAt, pointsVerdict, endsVerdict, listVerdict, verdictOf}
-use Rattle.judge.specs.Inner.{Sound, Readable, anyClose, farFrom, recordVerdict}
+use Rattle.judge.specs.inner.Steps.{Sound, Readable, anyClose, farFrom, recordVerdict}
 use Rattle.judge.specs.declared.Verdict.{Verdict}
 use Rattle.judge.specs.declared.Verdict.the-variants.{Yes, WrongLength, BadStop, WrongFirst, WrongLast, TooFar, Refused}
 use Rattle.judge.specs.Promises.{Judges}

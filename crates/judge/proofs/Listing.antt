@@ -18,7 +18,7 @@ use Rattle.stops.proofs.Same.{same-place}
 use Rattle.stops.proofs.Valid.{finite-number, rises}
 use Rattle.gradient.specs.Ramp.{colourOf, anyColour}
 use Rattle.judge.specs.Lists.{Offer, offerOf, mostListed, sized, goodStop, firstFailing, firstBad, offeredRamp}
-use Rattle.judge.specs.Inner.{Sound}
+use Rattle.judge.specs.inner.Steps.{Sound}
 use Rattle.judge.proofs.Failing.{from-start, all-pass, passes-all}
 
 -- ---- the length

@@ -22,7 +22,7 @@ use Rattle.sampling.specs.declared.Sampled.{Sampled}
 use Rattle.sampling.proofs.Rows.{cell-length, cell-count-most}
 use Rattle.sampling.proofs.Filling.{rows-length, counts-length, count-at}
 use Rattle.judge.specs.Verdicts.{rampCheck, allVerdict, pointCount, freshPoint}
-use Rattle.judge.specs.Inner.{Readable, recordVerdict}
+use Rattle.judge.specs.inner.Steps.{Readable, recordVerdict}
 use Rattle.judge.proofs.Walking.{same-all}
 
 summed-rows : (n : ℕ) → summed (λ i. 128) n ≡ n * 128

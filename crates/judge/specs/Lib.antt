@@ -2,4 +2,4 @@ pub mod Lists
 pub mod Verdicts
 pub mod Conditions
 pub mod Promises
-pub mod Inner
+pub mod inner

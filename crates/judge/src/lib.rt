@@ -8,7 +8,7 @@ ghost use Rattle.stops.specs.Lent.{rampIn, lentRamp};
 ghost use Rattle.stops.specs.declared.Checked.the-variants.{Fine};
 ghost use Rattle.judge.specs.Lists.{offerIn, lentOffer};
 ghost use Rattle.judge.specs.Verdicts.{rampCheck, pointsVerdict, listVerdict};
-ghost use Rattle.judge.specs.Inner.{Sound};
+ghost use Rattle.judge.specs.inner.Steps.{Sound};
 ghost use Rattle.judge.specs.Promises.{Judges};
 
 mod checks;

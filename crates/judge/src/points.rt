@@ -8,7 +8,7 @@ ghost use Prim.Native.Nat.{_+_, _≤_};
 ghost use lib.ListN.{length};
 ghost use Rattle.stops.specs.Lent.{lentRamp, old};
 ghost use Rattle.judge.specs.Lists.{lentOffer};
-ghost use Rattle.judge.specs.Inner.{Readable, anyClose, farFrom, recordVerdict};
+ghost use Rattle.judge.specs.inner.Steps.{Readable, anyClose, farFrom, recordVerdict};
 
 // Whether the two colours at t differ by no more than the threshold. A difference that is not a number fails.
 fn is_close(

@@ -14,7 +14,7 @@ use Rattle.places.specs.Places.{listOf}
 use Rattle.linearize.specs.Desk.{listedOf, listAnswer, answerBy, withSampling, pointsIn, room, thinOutput}
 use Rattle.sampling.specs.Sampling.{farOf}
 use Rattle.records.specs.Fitness.{thinCheck}
-use Rattle.linearize.specs.Inner.{ListMade}
+use Rattle.linearize.specs.inner.Steps.{ListMade}
 use Rattle.linearize.specs.Promises.{Tells, Thins}
 use Rattle.linearize.specs.declared.Listed.{Listed}
 use Rattle.linearize.specs.declared.Listed.the-variants as listed

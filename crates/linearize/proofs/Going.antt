@@ -10,8 +10,8 @@ use lib.Ieee.{Float, nan}
 use Rattle.sampling.specs.Midpoints.{Gradient, Far}
 use Rattle.places.specs.Places.{listOf, firstPlace, nextPlace, pointAt, pointsBefore, InRecord, Ready}
 use Rattle.thinning.specs.Walk.{Run, run, emitRun, stepRun, Outcome, outcome}
-use Rattle.sampling.specs.Inner.{Coloured}
-use Rattle.linearize.specs.Inner.{Started, Thinned}
+use Rattle.sampling.specs.inner.Steps.{Coloured}
+use Rattle.linearize.specs.inner.Steps.{Started, Thinned}
 use Rattle.places.specs.declared.RowPlace.{RowPlace}
 use Rattle.sampling.specs.declared.Point.{Point}
 use Rattle.thinning.specs.declared.Progress.{Progress}

@@ -12,7 +12,7 @@ use Rattle.thinning.specs.Counts.{sumOf}
 use Rattle.thinning.specs.Kept.{thinned, weighed, keptOf, weighedOf, refusalOf, writtenOf, positionsWritten, channelsWritten, listEvaluations}
 use Rattle.thinning.specs.Walk.{Run, run, Outcome, comesTo, outcome, Ends}
 use Rattle.linearize.specs.Desk.{evaluationsOfListed, listedOf, listAnswer, withSampling, afterSpending}
-use Rattle.linearize.specs.Inner.{starting, comesToAll, ListMade}
+use Rattle.linearize.specs.inner.Steps.{starting, comesToAll, ListMade}
 use Rattle.sampling.specs.declared.Point.{Point}
 use Rattle.linearize.specs.declared.Listed.{Listed}
 use Rattle.linearize.specs.declared.Listed.the-variants as listed

@@ -35,7 +35,7 @@ use Rattle.linearize.specs.Lent.{Output}
 use Rattle.places.specs.Places.{listOf, Ready}
 use Rattle.thinning.specs.Kept.{keptOf, refusalOf, listEvaluations}
 use Rattle.linearize.specs.Desk.{evaluationsOfListed, answerBy, withSampling, listAnswer, pointsIn, room, written, flattenEvaluations, flattenOutput}
-use Rattle.linearize.specs.Inner.{ListMade}
+use Rattle.linearize.specs.inner.Steps.{ListMade}
 use Rattle.linearize.specs.Promises.{Flattens}
 use Rattle.linearize.specs.Relist.{countFits, countsFit, keptGood, relistCheck, relistPoints, relistHeld, relistOutput, Relists}
 use Rattle.linearize.specs.declared.Listed.{Listed}

@@ -1,5 +1,5 @@
 pub mod Lent
 pub mod Desk
-pub mod Inner
+pub mod inner
 pub mod Promises
 pub mod Relist

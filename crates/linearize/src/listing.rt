@@ -23,7 +23,7 @@ ghost use Rattle.places.specs.Places.{Ready};
 ghost use Rattle.thinning.specs.Kept.{writtenOf};
 ghost use Rattle.linearize.specs.Desk.{listedOf};
 ghost use Rattle.stops.specs.declared.Checked.the-variants.{Fine};
-ghost use Rattle.linearize.specs.Inner.{windowRoom, Started, points, MakesList, ThinsAll, ThinsRest};
+ghost use Rattle.linearize.specs.inner.Steps.{windowRoom, Started, points, MakesList, ThinsAll, ThinsRest};
 ghost use Rattle.linearize.specs.Lent.{lentOutput};
 ghost use Rattle.stops.specs.Lent.{rampIn, lentRamp, old, new};
 

@@ -18,14 +18,14 @@ use Rattle.gradient.specs.Ramp.{maxOf, colourOf}
 use Rattle.sampling.specs.Lent.{Held}
 use Rattle.sampling.specs.Midpoints.{Gradient, Far}
 use Rattle.sampling.specs.Sampling.{farOf}
-use Rattle.sampling.specs.Inner.{PointAt}
+use Rattle.sampling.specs.inner.Steps.{PointAt}
 use Rattle.sampling.specs.declared.Point.{Point}
 use Rattle.records.specs.Fitness.{thinCheck}
 use Rattle.thinning.specs.Kept.{stopRefusal}
 use Rattle.places.specs.Places.{pointAt, InRecord}
 use Rattle.places.specs.declared.RowPlace.{RowPlace}
 use Rattle.next_stop.specs.Step.{isWithin, placedCheck, numberOfTold, stopWith, listPlaceOf, handedBy, ended, refusedAt, Next, next, firstNext, handedAt, handedFrom, faultFrom, stepCheck, handedOf, handedNumber, HandsOut}
-use Rattle.next_stop.specs.Inner.{FindsNext}
+use Rattle.next_stop.specs.inner.Steps.{FindsNext}
 use Rattle.next_stop.specs.declared.Found.{Found}
 use Rattle.next_stop.specs.declared.ListPlace.{ListPlace}
 use Rattle.next_stop.specs.declared.ListPlace.the-variants as place

@@ -9,7 +9,7 @@ use lib.ListN.{length, drop, drop-of-length-le}
 use lib.Seq.{drop-cons}
 use lib.Ieee.{Float, nan}
 use Rattle.sampling.specs.Midpoints.{Gradient, Far}
-use Rattle.sampling.specs.Inner.{Coloured, PointAt}
+use Rattle.sampling.specs.inner.Steps.{Coloured, PointAt}
 use Rattle.sampling.specs.declared.Point.{Point}
 use Rattle.thinning.specs.Kept.{stays, weighs}
 use Rattle.thinning.specs.Walk.{weighOf}
@@ -20,7 +20,7 @@ use Rattle.places.specs.declared.RowPlace.{RowPlace}
 use Rattle.places.proofs.Following.{list-most, point-is, before-next, next-within, more-follow, before-end}
 use Rattle.next_stop.specs.First.{First, later, firstKept, placesOn}
 use Rattle.next_stop.specs.Step.{next, firstAfter, laterNext}
-use Rattle.next_stop.specs.Inner.{FindsNext}
+use Rattle.next_stop.specs.inner.Steps.{FindsNext}
 
 -- ---- the first point kept, by the fate of the first point
 module _ (g : Gradient) (far : Far) (last x y : Float) (rest : List Float) where

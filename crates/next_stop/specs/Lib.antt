@@ -1,4 +1,4 @@
 pub mod First
 pub mod Step
 pub mod Chain
-pub mod Inner
+pub mod inner

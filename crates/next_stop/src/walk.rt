@@ -12,12 +12,12 @@ ghost use mathlib.Core.Path.{_≡_};
 ghost use Prim.Native.Nat.{_<_};
 ghost use Rattle.gradient.specs.Ramp.{checkOf, colourOf};
 ghost use Rattle.sampling.specs.Constants.{cells};
-ghost use Rattle.sampling.specs.Inner.{PointAt};
+ghost use Rattle.sampling.specs.inner.Steps.{PointAt};
 ghost use Rattle.difference.specs.Difference.{exceeds};
 ghost use Rattle.stops.specs.Lent.{rampIn, lentRamp, old};
 ghost use Rattle.stops.specs.declared.Checked.the-variants.{Fine};
 ghost use Rattle.places.specs.Places.{Ready, InRecord};
-ghost use Rattle.next_stop.specs.Inner.{FindsNext};
+ghost use Rattle.next_stop.specs.inner.Steps.{FindsNext};
 
 // The point at t, tried in the pair `guess` first. A step has no table of Catmull-Rom segments: it would be worked out anew
 // each time.

@@ -15,7 +15,7 @@ use lib.Ieee.Positive.{above}
 use borrow.Author.Tests.{ltb-true, ltb-false, le-leb, lt-leb}
 use Rattle.numerals.specs.Written.{signed, nine, places, plainDecimal, inRange, textOf}
 use Rattle.numerals.proofs.Ranged.{Ranged, ranged}
-use Rattle.numerals.specs.Steps.{withSign}
+use Rattle.numerals.specs.inner.Steps.{withSign}
 
 -- ---- the text, inside the range and out of it
 text-out : (s : Bool) (a : ℕ) (e : ℤ) → inRange (suc a * up e) (down e) ≡ false → textOf (withSign s (fin false (suc a) e)) ≡ []

@@ -10,7 +10,7 @@ use lib.Pow.{pow-add, pow-pos, pow-mono, shl-exact}
 use lib.Ieee.Nearest.{closest, closest-same}
 use borrow.Author.Tests.{le-leb, lt-leb, ne-eqb}
 use Rattle.numerals.specs.Written.{places, nine, plainDecimal}
-use Rattle.numerals.specs.Steps.{Nines, Settled}
+use Rattle.numerals.specs.inner.Steps.{Nines, Settled}
 use Rattle.decimal.proofs.Scale.{ten-is}
 use Rattle.numerals.proofs.Tens.{ten-more}
 

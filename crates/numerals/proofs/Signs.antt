@@ -14,7 +14,7 @@ use lib.Ieee.Positive.{above}
 use borrow.Author.Tests.{ltb-true, ltb-false}
 use Rattle.numerals.specs.Written.{signed, textOf}
 use Rattle.numerals.proofs.Trip.{power-one}
-use Rattle.numerals.specs.Steps.{withSign}
+use Rattle.numerals.specs.inner.Steps.{withSign}
 
 differ : {X : Type 0} → true ≡ false → X
 differ e = let z : _≡_ {A = ℕ} 0 1 = cc in absurd (none z)

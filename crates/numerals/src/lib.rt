@@ -6,7 +6,7 @@ ghost use lib.Seq.{sets};
 ghost use lib.Dec.{T};
 ghost use lib.Ieee.Positive.{above};
 ghost use Rattle.numerals.specs.Written.{digits, plainDecimal, nine, places, signed, writable, textOf, TextIs};
-ghost use Rattle.numerals.specs.Steps.{withSign, Ranging, Nines, Settled};
+ghost use Rattle.numerals.specs.inner.Steps.{withSign, Ranging, Nines, Settled};
 
 // The smallest and the greatest magnitude that can be written.
 const LEAST: f32 = 0.000001;

@@ -27,11 +27,11 @@ use Rattle.gradient.proofs.Valid.{valid}
 use Rattle.gradient.proofs.GimpLaws.{fine-shape}
 use Rattle.paint.specs.Answers.{atAnswer, paintCheck, paintAnswer}
 use Rattle.paint_segments.specs.Over.{paintedOver, segmentsOver}
-use Rattle.paint_segments.specs.Within.{Fits}
+use Rattle.paint_segments.specs.inner.Steps.{Fits}
 use Rattle.paint_segments.proofs.Fitting.{over-fit}
 use Rattle.paint.specs.Canvas.{colourRoom, canvas}
 use Rattle.paint.specs.Promises.{AtIs, PaintIs}
-use Rattle.paint.specs.Within.{stopColour, Paintable}
+use Rattle.paint.specs.inner.Steps.{stopColour, Paintable}
 use Rattle.paint.specs.declared.ColourAnswer.the-variants as answer
 use Rattle.paint.specs.declared.Painted.the-variants as painted
 

@@ -21,7 +21,7 @@ use Rattle.stops.proofs.Narrowing.{Bracket}
 use Rattle.stops.proofs.Quarters.{first-part, quarter, ends-two, ends-one}
 use Rattle.stops.proofs.Nearby.{near-pair, near-same}
 use Rattle.stops.proofs.Valid.{pair-inside}
-use Rattle.paint.specs.Within.{Span, Sought, Placed, stopColour}
+use Rattle.paint.specs.inner.Steps.{Span, Sought, Placed, stopColour}
 
 -- ---- powers of two
 pub record Power (n : ℕ) : Type 0 where

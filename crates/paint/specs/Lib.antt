@@ -1,4 +1,4 @@
 pub mod Answers
 pub mod Canvas
 pub mod Promises
-pub mod Within
+pub mod inner

@@ -18,7 +18,7 @@ ghost use Rattle.stops.specs.declared.Checked.the-variants.{Fine};
 ghost use Rattle.gradient.specs.Ramp.{checkOf, colourOf};
 ghost use Rattle.paint_segments.specs.Over.{paintedOver};
 ghost use Rattle.paint.specs.Promises.{AtIs, PaintIs};
-ghost use Rattle.paint.specs.Within.{stopColour, Paintable};
+ghost use Rattle.paint.specs.inner.Steps.{stopColour, Paintable};
 
 mod pairs;
 

@@ -13,7 +13,7 @@ ghost use lib.ListN.{length};
 ghost use Rattle.stops.specs.Stops.{colourAt, stopAt};
 ghost use Rattle.stops.specs.Place.{Rising, firstAt, placeOf};
 ghost use Rattle.stops.specs.Pair.{between};
-ghost use Rattle.paint.specs.Within.{Span, Sought, Placed, stopColour};
+ghost use Rattle.paint.specs.inner.Steps.{Span, Sought, Placed, stopColour};
 
 // The largest power of two below n.
 pub(crate) fn span_of(n: usize) -> usize

@@ -11,7 +11,7 @@ use borrow.Author.Tests.{leb-true, le-leb, lt-leb, eqb-true, eq-eqb, ne-eqb}
 use Rattle.float.proofs.Flags.{both-l, both-r}
 use Rattle.gradient.specs.Gimp.{segments, gimpColour}
 use Rattle.paint_segments.specs.Over.{agree, paintedOver, segmentsOver}
-use Rattle.paint_segments.specs.Within.{Fits}
+use Rattle.paint_segments.specs.inner.Steps.{Fits}
 
 -- ---- the tests, one by one
 module _ (n c k points room : ℕ) where

@@ -16,7 +16,7 @@ use Rattle.gradient.specs.Gimp.{segments, leftAt, rightAt, segmentFound, colour
 use Rattle.gradient.proofs.GimpLaws.{inside, segment-coloured}
 use Rattle.gradient.proofs.GimpSearch.{found-inside, strict-hit, in-domain}
 use Rattle.gradient.specs.declared.gimp.Segment.{Segment}
-use Rattle.paint_segments.specs.Within.{Orderly, strictlyInside, Peeked}
+use Rattle.paint_segments.specs.inner.Steps.{Orderly, strictlyInside, Peeked}
 
 -- ---- the segment of t
 module _ (ps : List Float) (t : Float) where

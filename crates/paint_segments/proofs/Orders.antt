@@ -14,7 +14,7 @@ use Rattle.float.proofs.Order.{no-nan-l, not-lt→le}
 use Rattle.stops.specs.Stops.{posAt}
 use Rattle.sharp_ramp.specs.Sharp.{steady}
 use Rattle.sharp_ramp.proofs.Valid.{steady-rising}
-use Rattle.paint_segments.specs.Within.{segmentsInOrder, Orderly}
+use Rattle.paint_segments.specs.inner.Steps.{segmentsInOrder, Orderly}
 
 zero-is : isNan f0 ≡ false
 unfolding isNan ofBits

@@ -9,7 +9,7 @@ ghost use mathlib.Core.Path.{_≡_};
 ghost use mathlib.Core.Bool.{true};
 ghost use Rattle.stops.specs.Lent.{old, new};
 ghost use Rattle.gradient.specs.Gimp.{colouringAt, isHued, gimpColour};
-ghost use Rattle.paint_segments.specs.Within.{Fits, Starts, Written};
+ghost use Rattle.paint_segments.specs.inner.Steps.{Fits, Starts, Written};
 
 // Paints from point `start`, whose segment is s, as far as the points before `end` lie in it. Gives the first that is left.
 pub(crate) fn paint_hued(

@@ -14,7 +14,7 @@ ghost use Rattle.stops.specs.Stops.{colourAt};
 ghost use Rattle.stops.specs.Lent.{old, new};
 ghost use Rattle.gradient.specs.Gimp.{segments, colouringAt, isHued, gimpSegment, blended, gimpColour};
 ghost use Rattle.paint_segments.specs.Over.{agree, paintedOver, segmentsOver};
-ghost use Rattle.paint_segments.specs.Within.{Cut, Fits, Orderly, strictlyInside, Peeked, Starts, Written};
+ghost use Rattle.paint_segments.specs.inner.Steps.{Cut, Fits, Orderly, strictlyInside, Peeked, Starts, Written};
 
 mod hued;
 mod search;

@@ -5,7 +5,7 @@ ghost use mathlib.Core.Bool.{true};
 ghost use Prim.Native.Nat.{_≤_, _<_};
 ghost use Rattle.stops.specs.Lent.{old};
 ghost use Rattle.gradient.specs.Gimp.{segments, leftAt, rightAt, segmentFound};
-ghost use Rattle.paint_segments.specs.Within.{segmentsInOrder, Orderly, strictlyInside};
+ghost use Rattle.paint_segments.specs.inner.Steps.{segmentsInOrder, Orderly, strictlyInside};
 
 // With fewer segments than this the search is as quick as a guess.
 const MANY: usize = 32;

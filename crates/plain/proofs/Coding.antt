@@ -2,15 +2,11 @@
 use mathlib.Core.Path.{_≡_, sym, ap, ap₂, subst, _∙_}
 use Prim.Native.Nat.{ℕ}
 use borrow.Author.Tests.{ne-eqb}
-use lib.Ieee.{Float}
-use Rattle.stops.specs.declared.Checked.{Checked}
 use Rattle.stops.specs.declared.Kind.{Kind}
 use Rattle.stops.specs.declared.Kind.the-variants.{Linear, Smoothstep, Sharp, Basis, CatmullRom, Gimp}
 use Rattle.plain.specs.Kinds.{kindOf, onKind, Shows}
-use Rattle.plain.specs.Ramps.{domainBy}
 use Rattle.plain.specs.declared.kinds.Coded.{Coded}
 use Rattle.plain.specs.declared.kinds.Coded.the-variants.{Of, Unknown}
-use Rattle.plain.specs.declared.ramps.Domain.{Domain}
 
 -- the codes, each to its kind
 pub code-0 : {n : ℕ} → n ≡ 0 → Of Linear ≡ kindOf n
@@ -48,5 +44,9 @@ module _ {A B : Type 0} {code : ℕ} {x : Coded} {P : Kind → A → Type 0} {Q 
   pub of-no-kind : x ≡ Unknown → Q a → b ≡ show a → Shows code P Q show b
   of-no-kind e q h = record { shows = record { answer = a; promised = subst (λ (z : Coded). onKind z P Q a) (sym e ∙ is) q; shown = h } }
 
-pub domain-is : {d : Domain} {c c′ : Checked} {lo lo′ hi hi′ : Float} → d ≡ domainBy c lo hi → c ≡ c′ → lo ≡ lo′ → hi ≡ hi′ → d ≡ domainBy c′ lo′ hi′
-domain-is {d} {c} {c′} {lo} {lo′} {hi} {hi′} e f l h = e ∙ ap (λ (x : Checked). domainBy x lo hi) f ∙ ap₂ (domainBy c′) l h
+-- a number and what is told, as one answer: into one slice, and into two
+pub paired : {A B : Type 0} {a c : A} {b d : B} → (a ≡ c) × (b ≡ d) → _≡_ {A = A × B} (a, b) (c, d)
+paired {A} {B} h = ap₂ (λ (x : A) (y : B). (x, y)) (h .0) (h .1)
+
+pub paired-both : {A B C : Type 0} {a d : A} {b e : B} {c f : C} → (a ≡ d) × ((b ≡ e) × (c ≡ f)) → _≡_ {A = A × (B × C)} (a, (b, c)) (d, (e, f))
+paired-both h = paired (h .0, paired (h .1))

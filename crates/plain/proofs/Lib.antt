@@ -1,3 +1,4 @@
+pub mod Stored
 pub mod Coding
 pub mod Sorting
 pub mod Writing

@@ -7,9 +7,13 @@ use Rattle.blend.specs.declared.Rgba.{Rgba}
 use Rattle.editing.specs.declared.Edit.{Edit}
 use Rattle.editing.specs.declared.Edit.the-variants.{Colour, Move, Add, Remove}
 
-unfoldable pub editOf : ℕ → ℕ → Float → Rgba → Edit
-editOf sort k p c =
-    cond (eqb sort 0) (Colour k c)
+-- a colour is four numbers
+abbrev pub rgbaOf : Float → Float → Float → Float → Rgba
+rgbaOf r g b a = record { r = r; g = g; b = b; a = a }
+
+unfoldable pub editOf : ℕ → ℕ → Float → Float → Float → Float → Float → Edit
+editOf sort k p r g b a =
+    cond (eqb sort 0) (Colour k (rgbaOf r g b a))
     (cond (eqb sort 1) (Move k p)
-    (cond (eqb sort 2) (Add k p c)
+    (cond (eqb sort 2) (Add k p (rgbaOf r g b a))
     (cond (eqb sort 3) (Remove k) (Remove 0))))

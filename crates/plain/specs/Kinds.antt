@@ -1,12 +1,14 @@
 -- The kinds of ramp by their codes. A code that names none is refused with 1, like a ramp of the wrong shape.
 use Prim.Native.Nat.{ℕ}
 use mathlib.Core.Path.{_≡_}
+use mathlib.Core.List.{List}
 use mathlib.Core.Bool.{cond}
 use lib.Dec.{eqb}
 use Rattle.stops.specs.declared.Kind.the-variants.{Linear, Smoothstep, Sharp, Basis, CatmullRom, Gimp}
 use lib.Ieee.{Float}
 use Rattle.stops.specs.Lent.{Lent, Ramp, lentRamp}
 use Rattle.stops.specs.declared.Kind.{Kind}
+use Rattle.plain.specs.Telling.{telling, Reply, after}
 use Rattle.plain.specs.declared.kinds.Coded.{Coded}
 use Rattle.plain.specs.declared.kinds.Coded.the-variants.{Of, Unknown}
 
@@ -34,6 +36,21 @@ pub record ShowsOf {A B : Type 0} (promise : A → Type 0) (show : A → B) (b :
 pub record Shows {A B : Type 0} (code : ℕ) (known : Kind → A → Type 0) (unknown : A → Type 0) (show : A → B) (b : B) : Type 0 where
   pub shows : ShowsOf (onKind (kindOf code) known unknown) show b
 
--- a lent ramp, for any kind
-abbrev pub codedRamp : Lent Float → Lent Float → Lent ℕ → Kind → Ramp
-codedRamp ps cs ks kind = lentRamp kind ps cs ks
+-- a number and values of an answer that is promised for the code are what is answered and told: into one slice, and into two
+module _ {A : Type 0} (code : ℕ) (known : Kind → A → Type 0) (unknown : A → Type 0) (number : A → ℕ) where
+  abbrev pub Tells : {X : Type 0} → (A → List X) → Reply (List X) → Type 0
+  Tells values r = Shows code known unknown (λ a. (number a, telling (values a) (r .told .entry))) (after r)
+
+  abbrev pub TellsBoth : (A → List ℕ) → (A → List Float) → Reply (List ℕ × List Float) → Type 0
+  TellsBoth values floats r =
+      Shows code known unknown
+      (λ a. (number a, (telling (values a) (r .told .entry .0), telling (floats a) (r .told .entry .1))))
+      (after r)
+
+-- a ramp by the code of its kind: as it is lent, for any kind
+pub record CodedRamp : Type 0 where
+  pub code : ℕ
+  pub ramp : Kind → Ramp
+
+abbrev pub rampBy : ℕ → Lent Float → Lent Float → Lent ℕ → CodedRamp
+rampBy code ps cs ks = record { code = code; ramp = λ kind. lentRamp kind ps cs ks }

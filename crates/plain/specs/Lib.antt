@@ -1,3 +1,4 @@
+pub mod Telling
 pub mod Kinds
 pub mod Edits
 pub mod Ramps

@@ -1,24 +1,23 @@
--- The answers of the calls on ramps as structs of plain fields.
+-- What is told of the answers of the calls on ramps.
+use Prim.Native.Nat.{ℕ}
+use mathlib.Core.List.{List, [], _∷_}
 use lib.Ieee.{Float}
 use Rattle.float.specs.F32.{f0}
+use Rattle.blend.specs.Channels.{channelsOf}
 use Rattle.stops.specs.declared.Checked.{Checked}
-use Rattle.stops.specs.declared.Checked.the-variants as checked
+use Rattle.stops.specs.Answers.{onFine}
 use Rattle.sharp_ramp.specs.declared.Built.{Built}
-use Rattle.sharp_ramp.specs.Sharp.{numberOfBuilt, stopsOfBuilt}
+use Rattle.sharp_ramp.specs.Sharp.{stopsOfBuilt}
 use Rattle.paint.specs.declared.ColourAnswer.{ColourAnswer}
-use Rattle.paint.specs.declared.ColourAnswer.the-variants as answer
-use Rattle.plain.specs.declared.ramps.Domain.{Domain}
-use Rattle.plain.specs.declared.ramps.Shown.{Shown}
-use Rattle.plain.specs.declared.ramps.SharpBuilt.{SharpBuilt}
+use Rattle.paint.specs.declared.ColourAnswer.the-variants.{Colour, Refused}
 
 -- the ends of a domain, where the ramp passes its check
-abbrev pub domainBy : Checked → Float → Float → Domain
-domainBy checked.Fine lo hi = record { refusal = 0; min = lo; max = hi }
-domainBy (checked.Refused n) lo hi = record { refusal = n; min = f0; max = f0 }
+abbrev pub endsTold : Checked → Float → Float → List Float
+endsTold checked lo hi = onFine checked (lo ∷ hi ∷ []) (λ n. f0 ∷ f0 ∷ [])
 
-abbrev pub answerShown : ColourAnswer → Shown
-answerShown (answer.Colour c) = record { refusal = 0; colour = c }
-answerShown (answer.Refused n) = record { refusal = n; colour = record { r = f0; g = f0; b = f0; a = f0 } }
+abbrev pub colourTold : ColourAnswer → List Float
+colourTold (Colour c) = channelsOf c
+colourTold (Refused n) = f0 ∷ f0 ∷ f0 ∷ f0 ∷ []
 
-abbrev pub builtShown : Built → SharpBuilt
-builtShown r = record { refusal = numberOfBuilt r; stops = stopsOfBuilt r }
+abbrev pub builtTold : Built → List ℕ
+builtTold r = stopsOfBuilt r ∷ []

@@ -1,46 +1,42 @@
--- One stop at a time as structs of plain fields.
-use mathlib.Core.Bool.{true, false, cond}
+-- One stop at a time: a place of three numbers, and what is told of a step.
+use mathlib.Core.Bool.{cond}
+use mathlib.Core.List.{List, [], _∷_}
 use Prim.Native.Nat.{ℕ, min}
 use lib.Dec.{eqb}
+use lib.Ieee.{Float}
 use Rattle.float.specs.F32.{f0}
+use Rattle.blend.specs.Channels.{channelsOf}
 use Rattle.next_stop.specs.declared.ListPlace.{ListPlace}
 use Rattle.next_stop.specs.declared.ListPlace.the-variants as place
 use Rattle.next_stop.specs.declared.Told.{Told}
 use Rattle.next_stop.specs.declared.Told.the-variants as told
 use Rattle.next_stop.specs.declared.Handed.{Handed}
-use Rattle.plain.specs.declared.steps.PlainPlace.{PlainPlace}
-use Rattle.plain.specs.declared.steps.StopHanded.{StopHanded}
 
 -- the largest number of 32 bits
 abbrev pub mostPlain : ℕ
 mostPlain = 4294967295
 
--- 0 is the start, 1 after a stop, any other number the end
-unfoldable pub placeFrom : PlainPlace → ListPlace
-placeFrom p = cond (eqb (p .state) 0) place.Start (cond (eqb (p .state) 1) (place.After (p .row) (p .index)) place.Ended)
+-- state 0 is the start, 1 after a stop, any other the end
+unfoldable pub placeFrom : ℕ → ℕ → ℕ → ListPlace
+placeFrom state row index = cond (eqb state 0) place.Start (cond (eqb state 1) (place.After row index) place.Ended)
 
-abbrev pub placeShown : ListPlace → PlainPlace
-placeShown place.Start = record { state = 0; row = 0; index = 0 }
-placeShown (place.After row index) = record { state = 1; row = min row mostPlain; index = min index mostPlain }
-placeShown place.Ended = record { state = 2; row = 0; index = 0 }
+-- the state, the row and the index
+abbrev pub placeTold : ListPlace → List ℕ
+placeTold place.Start = 0 ∷ 0 ∷ 0 ∷ []
+placeTold (place.After row index) = 1 ∷ min row mostPlain ∷ min index mostPlain ∷ []
+placeTold place.Ended = 2 ∷ 0 ∷ 0 ∷ []
 
--- without a stop its fields are 0
-abbrev pub noStop : ℕ → ℕ → PlainPlace → StopHanded
-noStop refusal evaluations p =
-    record {
-      refusal = refusal;
-      «has_stop» = false;
-      position = f0;
-      colour = record { r = f0; g = f0; b = f0; a = f0 };
-      evaluations = evaluations;
-      place = p;
-    }
+abbrev pub hasStop : Told → ℕ
+hasStop (told.Stop s) = 1
+hasStop told.Ended = 0
+hasStop (told.Refused n) = 0
 
-abbrev pub toldShown : Told → ℕ → PlainPlace → StopHanded
-toldShown (told.Stop s) evaluations p =
-    record { refusal = 0; «has_stop» = true; position = s .position; colour = s .colour; evaluations = evaluations; place = p }
-toldShown told.Ended evaluations p = noStop 0 evaluations p
-toldShown (told.Refused n) evaluations p = noStop n evaluations p
+-- the stop, a position and four channels; 0 where there is none
+abbrev pub stopTold : Told → List Float
+stopTold (told.Stop s) = s .position ∷ channelsOf (s .colour)
+stopTold told.Ended = f0 ∷ f0 ∷ f0 ∷ f0 ∷ f0 ∷ []
+stopTold (told.Refused n) = f0 ∷ f0 ∷ f0 ∷ f0 ∷ f0 ∷ []
 
-abbrev pub handedShown : Handed → StopHanded
-handedShown h = toldShown (h .told) (h .evaluations) (placeShown (h .place))
+-- whether there is a stop, the evaluations, and the place to go on from
+abbrev pub handedTold : Handed → List ℕ
+handedTold h = hasStop (h .told) ∷ h .evaluations ∷ placeTold (h .place)

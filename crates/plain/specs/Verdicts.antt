@@ -1,20 +1,27 @@
--- A verdict on a list as a struct of plain fields: its code, and what it names; 0 for what it does not name.
+-- What is told of a verdict on a list: its code, and what it names; 0 for what it does not name.
 use Prim.Native.Nat.{ℕ}
+use mathlib.Core.List.{List, [], _∷_}
+use lib.Ieee.{Float}
 use Rattle.float.specs.F32.{f0}
 use Rattle.judge.specs.declared.Verdict.{Verdict}
 use Rattle.judge.specs.declared.Verdict.the-variants.{Yes, WrongLength, BadStop, WrongFirst, WrongLast, TooFar, Refused}
-use Rattle.plain.specs.declared.verdicts.Judgement.{Judgement}
 
--- a refusal and a code alone
-abbrev pub codeAlone : ℕ → ℕ → Judgement
-codeAlone refusal verdict = record { refusal = refusal; verdict = verdict; stop = 0; row = 0; index = 0; t = f0 }
+-- 1 is yes, 2 to 6 are no, a ramp that is refused has no verdict, 0; then the stop, and the row and the index of the point
+abbrev pub verdictTold : Verdict → List ℕ
+verdictTold Yes = 1 ∷ 0 ∷ 0 ∷ 0 ∷ []
+verdictTold WrongLength = 2 ∷ 0 ∷ 0 ∷ 0 ∷ []
+verdictTold (BadStop stop) = 3 ∷ stop ∷ 0 ∷ 0 ∷ []
+verdictTold WrongFirst = 4 ∷ 0 ∷ 0 ∷ 0 ∷ []
+verdictTold WrongLast = 5 ∷ 0 ∷ 0 ∷ 0 ∷ []
+verdictTold (TooFar row index t) = 6 ∷ 0 ∷ row ∷ index ∷ []
+verdictTold (Refused n) = 0 ∷ 0 ∷ 0 ∷ 0 ∷ []
 
--- 1 is yes, 2 to 6 are no; a ramp that is refused has no verdict, 0
-abbrev pub verdictShown : Verdict → Judgement
-verdictShown Yes = codeAlone 0 1
-verdictShown WrongLength = codeAlone 0 2
-verdictShown (BadStop stop) = record { refusal = 0; verdict = 3; stop = stop; row = 0; index = 0; t = f0 }
-verdictShown WrongFirst = codeAlone 0 4
-verdictShown WrongLast = codeAlone 0 5
-verdictShown (TooFar row index t) = record { refusal = 0; verdict = 6; stop = 0; row = row; index = index; t = t }
-verdictShown (Refused n) = codeAlone n 0
+-- the t of the point
+abbrev pub pointOf : Verdict → Float
+pointOf Yes = f0
+pointOf WrongLength = f0
+pointOf (BadStop stop) = f0
+pointOf WrongFirst = f0
+pointOf WrongLast = f0
+pointOf (TooFar row index t) = t
+pointOf (Refused n) = f0

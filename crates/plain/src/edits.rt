@@ -12,11 +12,12 @@ pub const ADD: u32 = 2;
 
 pub const REMOVE: u32 = 3;
 
-// An edit by its parts, of which a sort takes those that it has. A code that names no sort is an edit of no place: 6 in
-// its order.
-pub fn edit_of(sort: u32, stop: usize, position: f32, colour: Rgba) -> Edit
-    ensures { λ r. ⌜ r ≡ editOf sort stop position colour ⌝ }
+// An edit by its parts, the channels of a colour among them, of which a sort takes those that it has. A code that names no
+// sort is an edit of no place: 6 in its order.
+pub fn edit_of(sort: u32, stop: usize, position: f32, r: f32, g: f32, b: f32, a: f32) -> Edit
+    ensures { λ e. ⌜ e ≡ editOf sort stop position r g b a ⌝ }
 {
+    let colour = Rgba { r, g, b, a };
     if sort == COLOUR {
         return Edit::Colour { stop, colour };
     }

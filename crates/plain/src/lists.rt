@@ -1,68 +1,64 @@
-// The answers of the calls on records and lists as plain fields.
+// The answers of the calls on records and lists: the refusal, 0 for none, and the numbers that are told, 0 where it is
+// refused.
+use crate::telling::tell_numbers;
 use linearize::Listed;
 use linearize::Sampled;
 use refresh::Refreshed;
 ghost use mathlib.Core.Path.{_≡_};
-ghost use Rattle.plain.specs.Lists.{sampledShown, listedShown, refreshedShown};
+ghost use Rattle.stops.specs.Lent.{old, new};
+ghost use Rattle.sampling.specs.Sampling.{numberOfSampled};
+ghost use Rattle.linearize.specs.Desk.{numberOfListed};
+ghost use Rattle.refresh.specs.RefreshDesk.{numberOfRefreshed};
+ghost use Rattle.plain.specs.Telling.{telling};
+ghost use Rattle.plain.specs.Lists.{sampledTold, listedTold, refreshedTold};
 
-// The refusal, or 0 and the evaluations.
-#[repr(C)]
-pub struct SampleMade {
-    pub refusal: u32,
-    pub evaluations: usize,
-}
-
-// The refusal, or 0 and how many stops were written with how many evaluations.
-#[repr(C)]
-pub struct PlainList {
-    pub refusal: u32,
-    pub stops: usize,
-    pub evaluations: usize,
-}
-
-pub fn sampled_shown(sampled: Sampled) -> SampleMade
-    ensures { λ r. ⌜ r ≡ sampledShown sampled ⌝ }
+// Tells the evaluations.
+pub fn tell_sampled(sampled: Sampled, told: &mut [usize]) -> u32
+    ensures { λ r. ⌜ r ≡ numberOfSampled sampled ⌝ }
+    ensures { λ _. ⌜ new told ≡ telling (sampledTold sampled) (old told) ⌝ }
 {
     match sampled {
-        Sampled::Done(evaluations) => SampleMade {
-            refusal: 0,
-            evaluations,
-        },
-        Sampled::Refused(n) => SampleMade {
-            refusal: n as u32,
-            evaluations: 0,
-        },
+        Sampled::Done(evaluations) => {
+            tell_numbers(told, &[evaluations]);
+            0
+        }
+        Sampled::Refused(n) => {
+            tell_numbers(told, &[0]);
+            n as u32
+        }
     }
 }
 
-pub fn listed_shown(listed: Listed) -> PlainList
-    ensures { λ r. ⌜ r ≡ listedShown listed ⌝ }
+// Tells how many stops were written, and the evaluations.
+pub fn tell_listed(listed: Listed, told: &mut [usize]) -> u32
+    ensures { λ r. ⌜ r ≡ numberOfListed listed ⌝ }
+    ensures { λ _. ⌜ new told ≡ telling (listedTold listed) (old told) ⌝ }
 {
     match listed {
-        Listed::Done { stops, evaluations } => PlainList {
-            refusal: 0,
-            stops,
-            evaluations,
-        },
-        Listed::Refused(n) => PlainList {
-            refusal: n as u32,
-            stops: 0,
-            evaluations: 0,
-        },
+        Listed::Done { stops, evaluations } => {
+            tell_numbers(told, &[stops, evaluations]);
+            0
+        }
+        Listed::Refused(n) => {
+            tell_numbers(told, &[0, 0]);
+            n as u32
+        }
     }
 }
 
-pub fn refreshed_shown(refreshed: Refreshed) -> SampleMade
-    ensures { λ r. ⌜ r ≡ refreshedShown refreshed ⌝ }
+// Tells the evaluations.
+pub fn tell_refreshed(refreshed: Refreshed, told: &mut [usize]) -> u32
+    ensures { λ r. ⌜ r ≡ numberOfRefreshed refreshed ⌝ }
+    ensures { λ _. ⌜ new told ≡ telling (refreshedTold refreshed) (old told) ⌝ }
 {
     match refreshed {
-        Refreshed::Done(evaluations) => SampleMade {
-            refusal: 0,
-            evaluations,
-        },
-        Refreshed::Refused(n) => SampleMade {
-            refusal: n as u32,
-            evaluations: 0,
-        },
+        Refreshed::Done(evaluations) => {
+            tell_numbers(told, &[evaluations]);
+            0
+        }
+        Refreshed::Refused(n) => {
+            tell_numbers(told, &[0]);
+            n as u32
+        }
     }
 }

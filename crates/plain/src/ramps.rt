@@ -1,35 +1,17 @@
-// The answers of the calls on ramps as plain fields.
-use blend::Rgba;
+// The answers of the calls on ramps: the refusal, 0 for none, and what is told beside it, 0 where it is refused.
+use crate::telling::tell_floats;
+use crate::telling::tell_numbers;
 use paint::ColourAnswer;
 use paint::Painted;
 use sharp_ramp::Built;
 use stops::Checked;
 ghost use mathlib.Core.Path.{_≡_};
+ghost use Rattle.stops.specs.Lent.{old, new};
 ghost use Rattle.stops.specs.Answers.{numberOfChecked};
-ghost use Rattle.paint.specs.Answers.{numberOfPainted};
-ghost use Rattle.plain.specs.Ramps.{domainBy, answerShown, builtShown};
-
-// The refusal, or 0 and the ends of the domain.
-#[repr(C)]
-pub struct Domain {
-    pub refusal: u32,
-    pub min: f32,
-    pub max: f32,
-}
-
-// The refusal, or 0 and the colour.
-#[repr(C)]
-pub struct Shown {
-    pub refusal: u32,
-    pub colour: Rgba,
-}
-
-// The refusal, or 0 and how many stops were written.
-#[repr(C)]
-pub struct SharpBuilt {
-    pub refusal: u32,
-    pub stops: usize,
-}
+ghost use Rattle.paint.specs.Answers.{numberOfAt, numberOfPainted};
+ghost use Rattle.sharp_ramp.specs.Sharp.{numberOfBuilt};
+ghost use Rattle.plain.specs.Telling.{telling};
+ghost use Rattle.plain.specs.Ramps.{endsTold, colourTold, builtTold};
 
 pub fn checked_number(checked: Checked) -> u32
     ensures { λ r. ⌜ r ≡ numberOfChecked checked ⌝ }
@@ -37,40 +19,6 @@ pub fn checked_number(checked: Checked) -> u32
     match checked {
         Checked::Fine => 0,
         Checked::Refused(n) => n as u32,
-    }
-}
-
-pub fn domain_by(checked: Checked, min: f32, max: f32) -> Domain
-    ensures { λ r. ⌜ r ≡ domainBy checked min max ⌝ }
-{
-    match checked {
-        Checked::Fine => Domain {
-            refusal: 0,
-            min,
-            max,
-        },
-        Checked::Refused(n) => Domain {
-            refusal: n as u32,
-            min: 0.0,
-            max: 0.0,
-        },
-    }
-}
-
-pub fn answer_shown(answer: ColourAnswer) -> Shown
-    ensures { λ r. ⌜ r ≡ answerShown answer ⌝ }
-{
-    match answer {
-        ColourAnswer::Colour(colour) => Shown { refusal: 0, colour },
-        ColourAnswer::Refused(n) => Shown {
-            refusal: n as u32,
-            colour: Rgba {
-                r: 0.0,
-                g: 0.0,
-                b: 0.0,
-                a: 0.0,
-            },
-        },
     }
 }
 
@@ -83,14 +31,53 @@ pub fn painted_number(painted: Painted) -> u32
     }
 }
 
-pub fn built_shown(built: Built) -> SharpBuilt
-    ensures { λ r. ⌜ r ≡ builtShown built ⌝ }
+// Tells the ends of the domain.
+pub fn tell_domain(checked: Checked, min: f32, max: f32, ends: &mut [f32]) -> u32
+    ensures { λ r. ⌜ r ≡ numberOfChecked checked ⌝ }
+    ensures { λ _. ⌜ new ends ≡ telling (endsTold checked min max) (old ends) ⌝ }
+{
+    match checked {
+        Checked::Fine => {
+            tell_floats(ends, &[min, max]);
+            0
+        }
+        Checked::Refused(n) => {
+            tell_floats(ends, &[0.0, 0.0]);
+            n as u32
+        }
+    }
+}
+
+// Tells the four channels of the colour.
+pub fn tell_colour(answer: ColourAnswer, colour: &mut [f32]) -> u32
+    ensures { λ r. ⌜ r ≡ numberOfAt answer ⌝ }
+    ensures { λ _. ⌜ new colour ≡ telling (colourTold answer) (old colour) ⌝ }
+{
+    match answer {
+        ColourAnswer::Colour(c) => {
+            tell_floats(colour, &[c.r, c.g, c.b, c.a]);
+            0
+        }
+        ColourAnswer::Refused(n) => {
+            tell_floats(colour, &[0.0, 0.0, 0.0, 0.0]);
+            n as u32
+        }
+    }
+}
+
+// Tells how many stops were written.
+pub fn tell_built(built: Built, told: &mut [usize]) -> u32
+    ensures { λ r. ⌜ r ≡ numberOfBuilt built ⌝ }
+    ensures { λ _. ⌜ new told ≡ telling (builtTold built) (old told) ⌝ }
 {
     match built {
-        Built::Stops(stops) => SharpBuilt { refusal: 0, stops },
-        Built::Refused(n) => SharpBuilt {
-            refusal: n as u32,
-            stops: 0,
-        },
+        Built::Stops(stops) => {
+            tell_numbers(told, &[stops]);
+            0
+        }
+        Built::Refused(n) => {
+            tell_numbers(told, &[0]);
+            n as u32
+        }
     }
 }

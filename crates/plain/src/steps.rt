@@ -1,131 +1,109 @@
-// One stop at a time as plain fields: the place that a caller keeps, and what a step hands out.
-use blend::Rgba;
+// One stop at a time: the place that a caller keeps as three numbers, and what is told of a step.
+use crate::telling::tell_floats;
+use crate::telling::tell_numbers;
 use next_stop::Handed;
 use next_stop::ListPlace;
 use next_stop::Told;
 ghost use mathlib.Core.Path.{_≡_};
+ghost use mathlib.Core.List.{_∷_};
 ghost use Prim.Native.Nat.{min};
-ghost use Rattle.plain.specs.Steps.{mostPlain, placeFrom, placeShown, noStop, toldShown, handedShown};
+ghost use Rattle.stops.specs.Lent.{old, new};
+ghost use Rattle.next_stop.specs.Step.{numberOfTold};
+ghost use Rattle.plain.specs.Telling.{telling};
+ghost use Rattle.plain.specs.Steps.{mostPlain, placeFrom, placeTold, hasStop, stopTold, handedTold};
 
-pub const START: u32 = 0;
+pub const START: usize = 0;
 
-pub const AFTER: u32 = 1;
+pub const AFTER: usize = 1;
 
-pub const ENDED: u32 = 2;
+pub const ENDED: usize = 2;
 
 const MOST: usize = 4294967295;
 
-// The start, after the stop at a row and an index, or the end; the row and the index count in the second case alone.
-#[repr(C)]
-pub struct PlainPlace {
-    pub state: u32,
-    pub row: u32,
-    pub index: u32,
-}
-
-// The refusal, or 0; whether there is a stop, and the stop; the evaluations; the place to go on from.
-#[repr(C)]
-pub struct StopHanded {
-    pub refusal: u32,
-    pub has_stop: bool,
-    pub position: f32,
-    pub colour: Rgba,
-    pub evaluations: usize,
-    pub place: PlainPlace,
-}
-
-// Any other state is the end.
-pub fn place_from(place: PlainPlace) -> ListPlace
-    ensures { λ r. ⌜ r ≡ placeFrom place ⌝ }
+// The start, after the stop at a row and an index, or the end, as which any other state is taken.
+pub fn place_from(state: u32, row: u32, index: u32) -> ListPlace
+    ensures { λ r. ⌜ r ≡ placeFrom state row index ⌝ }
 {
-    let state = place.state;
-    if state == START {
+    let code = state as usize;
+    if code == START {
         return ListPlace::Start;
     }
-    if state == AFTER {
+    if code == AFTER {
         return ListPlace::After {
-            row: place.row as usize,
-            index: place.index as usize,
+            row: row as usize,
+            index: index as usize,
         };
     }
     ListPlace::Ended
 }
 
-// A number in 32 bits; the largest where it has more.
-fn narrow(n: usize) -> u32
+// A number as one of 32 bits, in which it is handed over again; the largest where it has more.
+fn narrow(n: usize) -> usize
     ensures { λ r. ⌜ r ≡ min n mostPlain ⌝ }
 {
     if n <= MOST {
-        return n as u32;
+        return n;
     }
-    MOST as u32
+    MOST
 }
 
-fn place_shown(place: ListPlace) -> PlainPlace
-    ensures { λ r. ⌜ r ≡ placeShown place ⌝ }
+// What is told of a step: whether there is a stop, the evaluations, and the state, the row and the index of a place, which
+// count after a stop alone.
+fn step_told(has: usize, evaluations: usize, place: ListPlace) -> [usize; 5]
+    ensures { λ r. ⌜ r ≡ has ∷ evaluations ∷ placeTold place ⌝ }
 {
     match place {
-        ListPlace::Start => PlainPlace {
-            state: START,
-            row: 0,
-            index: 0,
-        },
-        ListPlace::After { row, index } => PlainPlace {
-            state: AFTER,
-            row: narrow(row),
-            index: narrow(index),
-        },
-        ListPlace::Ended => PlainPlace {
-            state: ENDED,
-            row: 0,
-            index: 0,
-        },
+        ListPlace::Start => [has, evaluations, START, 0, 0],
+        ListPlace::After { row, index } => { [has, evaluations, AFTER, narrow(row), narrow(index)] }
+        ListPlace::Ended => [has, evaluations, ENDED, 0, 0],
     }
 }
 
-// No stop: the end, or a refusal.
-fn no_stop(refusal: u32, evaluations: usize, place: PlainPlace) -> StopHanded
-    ensures { λ r. ⌜ r ≡ noStop refusal evaluations place ⌝ }
-{
-    StopHanded {
-        refusal,
-        has_stop: false,
-        position: 0.0,
-        colour: Rgba {
-            r: 0.0,
-            g: 0.0,
-            b: 0.0,
-            a: 0.0,
-        },
-        evaluations,
-        place,
-    }
-}
-
-fn told_shown(told: Told, evaluations: usize, place: PlainPlace) -> StopHanded
-    ensures { λ r. ⌜ r ≡ toldShown told evaluations place ⌝ }
+fn told_number(told: Told) -> u32
+    ensures { λ r. ⌜ r ≡ numberOfTold told ⌝ }
 {
     match told {
-        Told::Stop(stop) => {
-            let colour = stop.colour;
-            StopHanded {
-                refusal: 0,
-                has_stop: true,
-                position: stop.position,
-                colour,
-                evaluations,
-                place,
-            }
-        }
-        Told::Ended => no_stop(0, evaluations, place),
-        Told::Refused(n) => no_stop(n as u32, evaluations, place),
+        Told::Stop(_) => 0,
+        Told::Ended => 0,
+        Told::Refused(n) => n as u32,
     }
 }
 
-pub fn handed_shown(handed: Handed) -> StopHanded
-    ensures { λ r. ⌜ r ≡ handedShown handed ⌝ }
+// 1 where there is a stop, else 0.
+fn has_stop(told: Told) -> usize
+    ensures { λ r. ⌜ r ≡ hasStop told ⌝ }
 {
-    let told = handed.told;
-    let place = handed.place;
-    told_shown(told, handed.evaluations, place_shown(place))
+    match told {
+        Told::Stop(_) => 1,
+        Told::Ended => 0,
+        Told::Refused(_) => 0,
+    }
+}
+
+// The stop, a position and four channels.
+fn stop_told(told: Told) -> [f32; 5]
+    ensures { λ r. ⌜ r ≡ stopTold told ⌝ }
+{
+    match told {
+        Told::Stop(s) => {
+            let c = s.colour;
+            [s.position, c.r, c.g, c.b, c.a]
+        }
+        Told::Ended => [0.0, 0.0, 0.0, 0.0, 0.0],
+        Told::Refused(_) => [0.0, 0.0, 0.0, 0.0, 0.0],
+    }
+}
+
+// Tells whether there is a stop, the evaluations and the place to go on from; and the stop, 0 where there is none.
+pub fn tell_handed(handed: Handed, told: &mut [usize], stop: &mut [f32]) -> u32
+    ensures { λ r. ⌜ r ≡ numberOfTold (handed .told) ⌝ }
+    ensures { λ _. ⌜ new told ≡ telling (handedTold handed) (old told) ⌝ }
+    ensures { λ _. ⌜ new stop ≡ telling (stopTold (handed .told)) (old stop) ⌝ }
+{
+    let what = handed.told;
+    let at = handed.place;
+    let numbers = step_told(has_stop(what), handed.evaluations, at);
+    tell_numbers(told, &numbers);
+    tell_floats(stop, &stop_told(what));
+    told_number(what)
 }

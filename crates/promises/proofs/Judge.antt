@@ -1,11 +1,12 @@
--- `judge`: what is said of a list made elsewhere, and how it is shown as plain fields.
+-- `judge`: what is said of a list made elsewhere, and how it is told.
 use contract.Lifetimes.{Lfts}
-use Rattle.promises.specs.Law.{Coincide, coincide, answer}
+use denote.Ref.{now}
+use Rattle.promises.specs.Law.{Coincide, coincide, answer, _with_, both}
 use Rattle.judge.proofs.judge.Reads as of-judge
-use Rattle.plain.proofs.verdicts.verdict_shown.Reads as of-verdict-shown
+use Rattle.plain.proofs.verdicts.tell_verdict.Reads as of-tell-verdict
 
 pub judge : (κs : Lfts 5) (a : _) → Coincide (of-judge.Learnt κs a) answer
 judge κs a = coincide (λ r e w. w .answer)
 
-pub verdict-shown : (κs : Lfts 0) (a : _) → Coincide (of-verdict-shown.Learnt κs a) answer
-verdict-shown κs a = coincide (λ r e w. w)
+pub tell-verdict : (κs : Lfts 2) (a : _) → Coincide (of-tell-verdict.Learnt κs a) (λ r e. r with now (e .1 .0) with now (e .1 .1 .0))
+tell-verdict κs a = coincide (λ r e w. both (w .0) (both (w .1 .0) (w .1 .1)))

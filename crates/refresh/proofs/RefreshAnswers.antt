@@ -33,7 +33,7 @@ use Rattle.editing.specs.Reached.{cellsKept, clearCell}
 use Rattle.linearize.specs.Relist.{countFits, countsFit, relistCheck, relistHeld, relistOutput, Relists}
 use Rattle.sampling.specs.Anew.{keptBy, anewTries, anewEvaluations, resampled, resampledEvaluations, resampleAnswer, resampleHeld}
 use Rattle.sampling.specs.Promises.{Resamples}
-use Rattle.refresh.specs.Within.{refreshedBy}
+use Rattle.refresh.specs.inner.Steps.{refreshedBy}
 use Rattle.refresh.specs.RefreshDesk.{evaluationsOfRefreshed, renewed, newEvaluations, refreshCheck, refreshAnswer, refreshEvaluations, refreshHeld, refreshOutput, Refreshes, RefreshLists}
 use Rattle.editing.specs.declared.Edit.{Edit}
 use Rattle.refresh.specs.declared.Refreshed.{Refreshed}

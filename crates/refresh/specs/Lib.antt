@@ -1,3 +1,3 @@
 pub mod RefreshDesk
 pub mod AfterEdit
-pub mod Within
+pub mod inner

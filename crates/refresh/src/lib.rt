@@ -16,7 +16,7 @@ ghost use Rattle.stops.specs.Lent.{lentRamp};
 ghost use Rattle.sampling.specs.Lent.{lentHeld};
 ghost use Rattle.linearize.specs.Lent.{lentOutput};
 ghost use Rattle.refresh.specs.RefreshDesk.{Refreshes, RefreshLists};
-ghost use Rattle.refresh.specs.Within.{refreshedBy};
+ghost use Rattle.refresh.specs.inner.Steps.{refreshedBy};
 
 // What a refresh answers: the evaluations, or the number of the refusal.
 pub enum Refreshed {

@@ -14,7 +14,7 @@ use Rattle.rows.specs.declared.Parting.the-variants.{Tabs}
 use Rattle.text.specs.Text.{every, notTab, onFirst, fields}
 use Rattle.text.specs.Places.{inClass, span}
 use Rattle.rows.specs.Rows.{partsAt, rowEnd}
-use Rattle.rows.specs.Steps.{FieldAt}
+use Rattle.rows.specs.inner.Steps.{FieldAt}
 use Rattle.rows.proofs.Found.{no-field, a-field}
 use Rattle.text.proofs.Bytes.{span-le}
 

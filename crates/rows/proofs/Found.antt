@@ -7,7 +7,7 @@ use lib.ListN.{length, take, drop}
 use Rattle.text.proofs.Bytes.{no}
 use Rattle.rows.specs.declared.Parting.{Parting}
 use Rattle.rows.specs.Rows.{partsAt, rowEnd}
-use Rattle.rows.specs.Steps.{FieldAt}
+use Rattle.rows.specs.inner.Steps.{FieldAt}
 
 module _ (by : Parting) (s : List ℕ) (from at end next : ℕ) where
   pub no-field : partsAt by s from ≡ [] → next ≡ rowEnd by s from → FieldAt by s from false at end next

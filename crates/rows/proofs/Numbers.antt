@@ -16,7 +16,7 @@ use Rattle.decimal.specs.declared.Token.the-variants.{Number, NoNumber}
 use Rattle.decimal.specs.Decimal.{readOf}
 use Rattle.rows.specs.declared.Parting.{Parting}
 use Rattle.rows.specs.Rows.{Numbers, all, none, addNumber, numbers, partsAt, rowEnd, longest, rowNumbers, rowAt, RowAt}
-use Rattle.rows.specs.Steps.{FieldAt}
+use Rattle.rows.specs.inner.Steps.{FieldAt}
 
 -- ---- numbers before others
 unfoldable pub prepend : List Float → Numbers → Numbers

@@ -14,7 +14,7 @@ use Rattle.rows.specs.declared.Parting.the-variants.{Spaces}
 use Rattle.text.specs.Text.{white, lines, onFirst, atLf, firstOf, inWord, words}
 use Rattle.text.specs.Places.{inClass, span, lfAt, nextAfter}
 use Rattle.rows.specs.Rows.{partsAt, rowEnd}
-use Rattle.rows.specs.Steps.{FieldAt}
+use Rattle.rows.specs.inner.Steps.{FieldAt}
 use Rattle.rows.proofs.Found.{no-field, a-field}
 use Rattle.text.proofs.Bytes.{span-le, span-in, no}
 use Rattle.text.proofs.Lines.{first, first-of, next-last, next-line}

@@ -1,4 +1,4 @@
 -- A row of numbers, digits alone, and what private functions promise each other.
 pub mod Rows
 pub mod Digits
-pub mod Steps
+pub mod inner

@@ -7,7 +7,7 @@ ghost use lib.ListN.{replicate};
 ghost use Rattle.float.specs.F32.{f0};
 ghost use Rattle.rows.specs.declared.Parting.the-variants.{Spaces, Tabs};
 ghost use Rattle.rows.specs.Rows.{longest, RowAt};
-ghost use Rattle.rows.specs.Steps.{FieldAt};
+ghost use Rattle.rows.specs.inner.Steps.{FieldAt};
 
 pub mod digits;
 

@@ -19,7 +19,7 @@ use Rattle.sampling.specs.Sampling.{numberOfSampled, evaluationsOfSample
 use Rattle.sampling.specs.Anew.{anewEvaluations, keptBy, resampled, resampledEvaluations, resampleAnswer, resampleHeld, resampleEvaluations}
 use Rattle.sampling.proofs.Words.{same-held}
 use Rattle.sampling.proofs.Renewing.{none-held, none-evaluations}
-use Rattle.sampling.specs.Inner.{RecordAnew}
+use Rattle.sampling.specs.inner.Steps.{RecordAnew}
 use Rattle.sampling.specs.Promises.{Samples, Resamples}
 use Rattle.sampling.specs.declared.Sampled.{Sampled}
 use Rattle.sampling.specs.declared.Sampled.the-variants as sampled

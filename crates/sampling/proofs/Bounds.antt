@@ -9,7 +9,7 @@ use Rattle.gradient.specs.Ramp.{minOf, maxOf, colourOf}
 use Rattle.sampling.specs.Lent.{Body}
 use Rattle.sampling.specs.Sampling.{farOf}
 use Rattle.sampling.specs.Anew.{anewTries, anewEvaluations, keptBy, resampledEvaluations}
-use Rattle.sampling.specs.Inner.{RecordAnew}
+use Rattle.sampling.specs.inner.Steps.{RecordAnew}
 use Rattle.sampling.proofs.Renewing.{anew-tries-most}
 use Rattle.sampling.specs.Midpoints.{Gradient, Far}
 use Rattle.slices.specs.Joined.{summed}

@@ -16,7 +16,7 @@ use Rattle.stops.proofs.Nearby.{kept-colour, catmull}
 use Rattle.gradient.specs.Gimp.{gimpColour}
 use Rattle.gradient.specs.Ramp.{isGimp, colourOf}
 use Rattle.gradient.proofs.Valid.{valid}
-use Rattle.sampling.specs.Inner.{Coloured, DrawnBetween}
+use Rattle.sampling.specs.inner.Steps.{Coloured, DrawnBetween}
 use Rattle.sampling.specs.declared.Point.{Point}
 
 module _ (ramp : Ramp) (p q : Point) (s u : List (List Float)) (w : DrawnBetween ramp p q s u) where

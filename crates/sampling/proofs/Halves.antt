@@ -12,7 +12,7 @@ use lib.Ieee.{Float}
 use Rattle.float.specs.F32.{half}
 use Rattle.blend.specs.Blend.{linear}
 use Rattle.blend.specs.declared.Rgba.{Rgba}
-use Rattle.sampling.specs.Inner.{HalvesTo}
+use Rattle.sampling.specs.inner.Steps.{HalvesTo}
 use Rattle.sampling.specs.declared.Halved.{Halved}
 use Rattle.sampling.specs.Midpoints.{Gradient, Far, midOf, keeps, halves, tries}
 use Rattle.slices.proofs.Stores.{sets-append}

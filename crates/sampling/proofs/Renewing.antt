@@ -14,7 +14,7 @@ use Rattle.sampling.specs.Cells.{edgeOf, cellRow, cellCount, cellTries, 
 use Rattle.sampling.specs.Lent.{Held, heldOf, Body, bodyOf}
 use Rattle.sampling.specs.Sampling.{farOf, marksOf, fresh, freshEvaluations}
 use Rattle.sampling.specs.Anew.{anewRow, anewCount, anewTries, anewRows, anewCounts, anewEvaluations, keptBy, resampled, resampledEvaluations}
-use Rattle.sampling.specs.Inner.{PointAt, Carries, CellCarried, RecordAnew}
+use Rattle.sampling.specs.inner.Steps.{PointAt, Carries, CellCarried, RecordAnew}
 use Rattle.sampling.specs.declared.Carried.{Carried}
 use Rattle.sampling.specs.declared.Point.{Point}
 use Rattle.sampling.proofs.Rows.{CellAnew, cell-length, cell-tries-most}

@@ -10,7 +10,7 @@ use Rattle.float.specs.F32.{f0}
 use Rattle.sampling.specs.Midpoints.{Gradient, Far, halves, tries}
 use Rattle.sampling.specs.Cells.{pointsOf, rowOf, padded, edgeOf, cellRow, cellCount, cellTries}
 use Rattle.sampling.specs.Constants.{rowLength}
-use Rattle.sampling.specs.Inner.{HalvesTo, RowIs}
+use Rattle.sampling.specs.inner.Steps.{HalvesTo, RowIs}
 use Rattle.sampling.specs.declared.Halved.{Halved}
 use Rattle.slices.proofs.Stores.{sets-append, sets-all, part-sets}
 use Rattle.sampling.proofs.Halves.{short, few}

@@ -23,7 +23,7 @@ use Rattle.gradient.proofs.Valid.{valid}
 use Rattle.gradient.specs.Gimp.{gimpColour}
 use Rattle.gradient.specs.Ramp.{isGimp, colourOf}
 use Rattle.sampling.specs.Segments.{pairBy, pointOf, placedPoint, pointNear}
-use Rattle.sampling.specs.Inner.{PointAt, Prepared}
+use Rattle.sampling.specs.inner.Steps.{PointAt, Prepared}
 use Rattle.sampling.specs.declared.Point.{Point}
 
 -- ---- the colour

@@ -5,5 +5,5 @@ pub mod Segments
 pub mod Lent
 pub mod Sampling
 pub mod Anew
-pub mod Inner
+pub mod inner
 pub mod Promises

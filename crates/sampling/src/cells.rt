@@ -20,7 +20,7 @@ ghost use lib.ListN.{length};
 ghost use Rattle.sampling.specs.Constants.{cells, recordLength};
 ghost use Rattle.sampling.specs.Cells.{endOf};
 ghost use Rattle.sampling.specs.Segments.{pairBy, placedPoint, pointNear};
-ghost use Rattle.sampling.specs.Inner.{Prepared, Reaches, taskRamp, taskColours, taskEnd, taskFar, PointAt, CellCarried};
+ghost use Rattle.sampling.specs.inner.Steps.{Prepared, Reaches, taskRamp, taskColours, taskEnd, taskFar, PointAt, CellCarried};
 ghost use Rattle.sampling.specs.Lent.{lentBody};
 ghost use Rattle.stops.specs.Lent.{lentRamp, old};
 ghost use Rattle.stops.specs.Pair.{between};

@@ -12,7 +12,7 @@ ghost use Prim.Native.Nat.{_+_, _≤_, _^_};
 ghost use lib.ListN.{length};
 ghost use Rattle.stops.specs.Lent.{old, new};
 ghost use Rattle.stops.specs.Near.{segmentFor};
-ghost use Rattle.sampling.specs.Inner.{DrawnBetween, taskRamp, taskColours, taskFar, HalvesTo};
+ghost use Rattle.sampling.specs.inner.Steps.{DrawnBetween, taskRamp, taskColours, taskFar, HalvesTo};
 
 // The segment of pair k, with those of the pairs i and j in hand.
 fn segment_of(

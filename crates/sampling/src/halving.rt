@@ -14,7 +14,7 @@ ghost use mathlib.Core.Path.{_≡_};
 ghost use Prim.Native.Nat.{_+_, _≤_, _^_};
 ghost use lib.ListN.{length};
 ghost use Rattle.sampling.specs.Constants.{depth, rowLength};
-ghost use Rattle.sampling.specs.Inner.{Between, taskRamp, taskColours, taskFar, HalvesTo, RowIs};
+ghost use Rattle.sampling.specs.inner.Steps.{Between, taskRamp, taskColours, taskFar, HalvesTo, RowIs};
 ghost use Rattle.stops.specs.Lent.{old, new};
 
 // Writes the midpoints kept between p and q into the row from `at` on, in order, with `left` halvings left.

@@ -14,7 +14,7 @@ ghost use mathlib.Core.Bool.{false};
 ghost use lib.ListN.{length};
 ghost use Rattle.gradient.specs.Ramp.{checkOf};
 ghost use Rattle.sampling.specs.Constants.{cells, recordLength};
-ghost use Rattle.sampling.specs.Inner.{taskRamp, taskColours, taskFar, RecordAnew};
+ghost use Rattle.sampling.specs.inner.Steps.{taskRamp, taskColours, taskFar, RecordAnew};
 ghost use Rattle.sampling.specs.Anew.{keptBy};
 ghost use Rattle.sampling.specs.Lent.{lentBody};
 ghost use Rattle.stops.specs.Segments.{InHand};

@@ -20,7 +20,7 @@ use Rattle.blend.specs.declared.Rgba.{Rgba}
 use Rattle.segment.specs.declared.SegmentRead.{SegmentRead}
 use Rattle.segment.specs.declared.SegmentRead.the-variants.{Fault}
 use Rattle.segment.specs.Line.{build, fromNumbers, segmentOnLine, SegmentAt}
-use Rattle.segment.specs.Steps.{segmentLength}
+use Rattle.segment.specs.inner.Steps.{segmentLength}
 
 -- neither 13 numbers nor 15
 not-segment : (fg bg : Rgba) (o : Numbers) → ((k : ℕ) → true ≡ segmentLength k → (xs : List Float) → o ≡ all xs → length xs ≡ k → ⊥) → Fault badSegment ≡ fromNumbers fg bg o

@@ -12,7 +12,7 @@ use Rattle.stops.specs.Lent.{change}
 use Rattle.gradient.specs.declared.gimp.Segment.{Segment}
 use Rattle.slices.proofs.Stores.{sets-append}
 use Rattle.segment.specs.Store.{segmentPositions, segmentChannels, segmentCodes, storeOf, Stores}
-use Rattle.segment.specs.Steps.{endsChannels}
+use Rattle.segment.specs.inner.Steps.{endsChannels}
 
 pub three-stores : (out a b d : List Float) (k : ℕ) (g : Segment) → a ≡ set out k (g .left) → b ≡ set a (k + 1) (g .middle) → d ≡ set b (k + 2) (g .right)
     → d ≡ sets out k (segmentPositions g)

@@ -1,4 +1,4 @@
 -- What a segment's line holds, and how segments are kept in lists.
 pub mod Line
 pub mod Store
-pub mod Steps
+pub mod inner

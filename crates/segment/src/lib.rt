@@ -8,7 +8,7 @@ use rows::Parting;
 use rows::row_at;
 ghost use mathlib.Core.Path.{_≡_};
 ghost use Rattle.segment.specs.Line.{codeOf, validCodes, withoutAlpha, endColour, build, SegmentAt};
-ghost use Rattle.segment.specs.Steps.{segmentLength};
+ghost use Rattle.segment.specs.inner.Steps.{segmentLength};
 
 pub mod store;
 

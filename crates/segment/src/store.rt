@@ -10,7 +10,7 @@ ghost use lib.ListN.{set};
 ghost use lib.Seq.{sets};
 ghost use Rattle.stops.specs.Lent.{old, new};
 ghost use Rattle.segment.specs.Store.{segmentPositions, segmentCodes, lentStore, Stores};
-ghost use Rattle.segment.specs.Steps.{endsChannels};
+ghost use Rattle.segment.specs.inner.Steps.{endsChannels};
 
 fn put_positions(out: &mut [f32], i: usize, g: Segment)
     ensures { λ _. ⌜ new out ≡ sets (old out) (3 * i) (segmentPositions g) ⌝ }

@@ -12,7 +12,7 @@ use borrow.Author.Tests.{le-leb, lt-leb, eq-eqb, ne-eqb}
 use Rattle.float.specs.F32.{_⊕_, _⊖_, _⊗_, f1}
 use Rattle.float.specs.Number.{clampOf, wholeOf, countOf}
 use Rattle.sine.specs.Table.{entry}
-use Rattle.sine.specs.Sum.{nearer, sum, lower, upper, byHalf}
+use Rattle.sine.specs.inner.Sum.{nearer, sum, lower, upper, byHalf}
 use Rattle.sine.specs.Wave.{steps, unit, indexOf, lineOf, waveAt, waveOf}
 use Rattle.sine.proofs.Ruled.{rule}
 use Rattle.sine.proofs.Summed.{told-entry}

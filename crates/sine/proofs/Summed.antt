@@ -8,7 +8,7 @@ use lib.Dec.{T, eqb, eqb→eq}
 use lib.ListN.{length}
 use borrow.Author.Tests.{eq-eqb}
 use Rattle.sine.specs.Table.{table, entry}
-use Rattle.sine.specs.Sum.{nearer, less, sum, lower, upper, byHalf}
+use Rattle.sine.specs.inner.Sum.{nearer, less, sum, lower, upper, byHalf}
 use Rattle.sine.proofs.Every.{every, at}
 
 -- ---- the products on the way fit, and each step takes off no more than there is

@@ -1,3 +1,3 @@
 pub mod Table
 pub mod Wave
-pub mod Sum
+pub mod inner

@@ -4,7 +4,7 @@ use table::read;
 ghost use mathlib.Core.Path.{_≡_};
 ghost use Prim.Native.Nat.{_*_, _^_, _≤_, _<_};
 ghost use Rattle.sine.specs.Table.{entry};
-ghost use Rattle.sine.specs.Sum.{nearer, less, sum};
+ghost use Rattle.sine.specs.inner.Sum.{nearer, less, sum};
 ghost use Rattle.sine.specs.Wave.{indexOf, lineOf, waveOf};
 
 mod table;

@@ -8,7 +8,7 @@ use lib.Count.{leadingZeros, leading-top}
 use lib.Ieee.{binary32, ofBits}
 use Rattle.float.proofs.Units.{pow-under}
 use Rattle.sqrt.specs.Root.{nearestRoot}
-use Rattle.sqrt.specs.Within.{Rootable}
+use Rattle.sqrt.specs.inner.Steps.{Rootable}
 use Rattle.wholeroot.specs.WholeRoot.{nearestWhole}
 use Rattle.wholeroot.proofs.Near.{Near, order, whole-near}
 use Rattle.sqrt.proofs.Cut.{four-pow, nearestRoot-at}

@@ -1,4 +1,4 @@
 pub mod Root
 pub mod Nearest
 pub mod Cutoff
-pub mod Within
+pub mod inner

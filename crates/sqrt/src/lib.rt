@@ -2,7 +2,7 @@
 ghost use mathlib.Core.Path.{_≡_};
 ghost use Prim.Native.Nat.{_*_, _<_, _≤_, _^_};
 ghost use Rattle.sqrt.specs.Root.{nearestRoot, rootOf};
-ghost use Rattle.sqrt.specs.Within.{Rootable, StandsFor};
+ghost use Rattle.sqrt.specs.inner.Steps.{Rootable, StandsFor};
 
 pub mod half_root;
 

@@ -18,7 +18,7 @@ use Rattle.thinning.specs.Counts.{mostCount, sumOf}
 use Rattle.thinning.specs.Kept.{nearOf, stays, weighs, thinned, weighed, stopRefusal, firstRefusal, refusalFrom}
 use Rattle.blend.specs.Channels.{channelsOf, coloursOf}
 use Rattle.thinning.specs.Walk.{Run, run, emitBy, emitRun, weighOf, moreRun, stepBy, stepRun, Outcome, reached, comesTo, outcome, Ends}
-use Rattle.sampling.specs.Inner.{Coloured}
+use Rattle.sampling.specs.inner.Steps.{Coloured}
 use Rattle.sampling.specs.declared.Point.{Point}
 use Rattle.thinning.specs.declared.Weighed.{Weighed}
 use Rattle.slices.proofs.Stores.{sets-append}

@@ -12,7 +12,7 @@ use Rattle.paint_segments.proofs.Filling.{colours-next, colours-done}
 use Rattle.stops.specs.Near.{segmentFor}
 use Rattle.stops.specs.declared.Kind.the-variants.{CatmullRom}
 use Rattle.blend.specs.Channels.{channelsOf, coloursOf}
-use Rattle.paint.specs.Within.{stopColour}
+use Rattle.paint.specs.inner.Steps.{stopColour}
 use Rattle.stops.proofs.Nearby.{kept-colour}
 use Rattle.paint.proofs.paint_catmull.Statement.{statement}
 use Rattle.paint.proofs.paint_catmull.Tie as tie

@@ -10,7 +10,7 @@ use lib.Seq.{sets, length-sets}
 use lib.Ieee.{Float}
 use Rattle.paint_segments.proofs.Filling.{colours-next, colours-done}
 use Rattle.blend.specs.Channels.{channelsOf, coloursOf}
-use Rattle.paint.specs.Within.{stopColour}
+use Rattle.paint.specs.inner.Steps.{stopColour}
 use Rattle.paint.proofs.paint_stops.Statement.{statement}
 use Rattle.paint.proofs.paint_stops.Tie as tie
 

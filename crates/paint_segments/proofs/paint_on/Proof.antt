@@ -12,7 +12,7 @@ use Rattle.gradient.specs.Gimp.{segments, gimpColour}
 use Rattle.gradient.proofs.GimpLaws.{beyond}
 use Rattle.blend.specs.Blend.{black}
 use Rattle.blend.specs.Channels.{channelsOf}
-use Rattle.paint_segments.specs.Within.{Orderly, Starts}
+use Rattle.paint_segments.specs.inner.Steps.{Orderly, Starts}
 use Rattle.paint_segments.proofs.Filling.{colours-next}
 use Rattle.paint_segments.proofs.Hits.{found-here}
 use borrow.Author.Needs.{needs}

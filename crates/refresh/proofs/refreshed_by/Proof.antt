@@ -1,6 +1,6 @@
 -- `refreshed_by` meets its contract: by the case of the answer. Assumes nothing.
 use mathlib.Core.Path.{sym, ap}
-use Rattle.refresh.specs.Within.{refreshedBy}
+use Rattle.refresh.specs.inner.Steps.{refreshedBy}
 use borrow.Author.Needs.{needs}
 use Rattle.refresh.proofs.refreshed_by.Statement.{statement}
 use Rattle.refresh.proofs.refreshed_by.Tie as tie

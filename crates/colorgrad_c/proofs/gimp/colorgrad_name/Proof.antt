@@ -1,10 +1,5 @@
 -- `colorgrad_name` meets its contract: the name of `ggr`, written. Assumes nothing.
-use denote.Ref.{now}
-use mathlib.Core.Path.{ap, _∙_}
-use mathlib.Core.List.{List}
-use Prim.Native.Nat.{ℕ}
-use lib.ListN.{length}
-use Rattle.plain.specs.Name.{named}
+use Rattle.colorgrad_c.proofs.Writing.{written-same}
 use borrow.Author.Needs.{needs}
 use Rattle.colorgrad_c.proofs.gimp.colorgrad_name.Statement.{statement}
 use Rattle.colorgrad_c.proofs.gimp.colorgrad_name.Tie as tie
@@ -19,7 +14,7 @@ same-length : tie.Need-same-length
 same-length c = search needs
 
 returns : tie.Need-returns
-returns c = let s = c .before .before .before .before .before .before .before in let e = c .before .before .write-name .ensures in (e .0 ∙ ap (λ (x : List ℕ). length x) (c .before .before .before .before .name .ensures), e .1 ∙ ap (λ (x : List ℕ). named x (now (s .args .out))) (c .before .before .before .before .name .ensures))
+returns c = written-same _ (c .before .before .write-name .ensures) (c .before .before .before .before .name .ensures)
 
 pub colorgrad-name-spec : {M : Type 1} → statement M
 colorgrad-name-spec = tie.close (tie.spec name-requires write-name-requires same-length returns)

@@ -1,8 +1,9 @@
 -- `colorgrad_numeral` meets its contract: the text of `numerals`, written as a name is. Assumes nothing.
-use denote.Ref.{now}
 use mathlib.Core.Path.{sym}
 use Rattle.ggr_writing.proofs.Texts.{field-size, field-within}
-use Rattle.colorgrad_c.proofs.Writing.{numeral-put}
+use Rattle.numerals.specs.Written.{textOf}
+use Rattle.numerals.proofs.Theorems.{bytes-are}
+use Rattle.colorgrad_c.proofs.Writing.{written-same}
 use borrow.Author.Needs.{needs}
 use Rattle.colorgrad_c.proofs.writer.colorgrad_numeral.Statement.{statement}
 use Rattle.colorgrad_c.proofs.writer.colorgrad_numeral.Tie as tie
@@ -23,7 +24,9 @@ same-length : tie.Need-same-length
 same-length c = search needs
 
 returns : tie.Need-returns
-returns c = let a = c .before .before .before .before .before .before .before .before .args in let e = c .before .before .write-name .ensures in numeral-put (a .x) (now (a .out)) (c .before .before .before .before .before .before .write .ensures) (e .0) (e .1)
+returns c =
+    let made = c .before .before .before .before .before .before in
+    written-same _ (c .before .before .write-name .ensures) (bytes-are (textOf (made .before .before .args .x)) _ _ (made .write .ensures))
 
 pub colorgrad-numeral-spec : {M : Type 1} → statement M
 colorgrad-numeral-spec =

@@ -8,7 +8,7 @@ use borrow.Author.Needs.{needs}
 use Rattle.float.proofs.Flags.{failed, passed}
 use Rattle.stops.specs.Lent.{rampOf}
 use Rattle.judge.specs.Lists.{offerOf, firstFailing}
-use Rattle.judge.specs.Inner.{anyClose, farFrom}
+use Rattle.judge.specs.inner.Steps.{anyClose, farFrom}
 use Rattle.judge.proofs.Failing.{fails-here, goes-on, none-left, from-start}
 use Rattle.judge.proofs.points.first_far.Statement.{statement}
 use Rattle.judge.proofs.points.first_far.Tie as tie

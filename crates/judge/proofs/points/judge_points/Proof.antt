@@ -8,7 +8,7 @@ use lib.Ieee.{Float}
 use Rattle.float.proofs.Flags.{failed, passed}
 use Rattle.stops.specs.Lent.{rampOf, rampIn}
 use Rattle.judge.specs.Lists.{offerOf, offerIn}
-use Rattle.judge.specs.Inner.{anyClose, recordVerdict}
+use Rattle.judge.specs.inner.Steps.{anyClose, recordVerdict}
 use Rattle.judge.proofs.Answering.{onwards, from-first, row-far, row-near, end-far, end-near, in-rows, in-record}
 use Rattle.judge.proofs.points.judge_points.Statement.{statement}
 use Rattle.judge.proofs.points.judge_points.Tie as tie

@@ -12,11 +12,11 @@ use Rattle.difference.specs.Difference.{exceeds}
 use Rattle.places.specs.Places.{listOf}
 use Rattle.places.proofs.Following.{list-head}
 use Rattle.sampling.specs.Midpoints.{Gradient}
-use Rattle.sampling.specs.Inner.{PointAt}
+use Rattle.sampling.specs.inner.Steps.{PointAt}
 use Rattle.sampling.specs.declared.Point.{Point}
 use Rattle.thinning.specs.Walk.{Run, run}
 use Rattle.thinning.proofs.Walks.{Emitted, emitted-as}
-use Rattle.linearize.specs.Inner.{starting}
+use Rattle.linearize.specs.inner.Steps.{starting}
 use Rattle.linearize.proofs.Lists.{first-refused, then-thinned}
 use borrow.Author.Needs.{needs}
 use Rattle.linearize.proofs.listing.thin_all.Statement.{statement}

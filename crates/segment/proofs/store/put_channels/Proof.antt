@@ -1,7 +1,7 @@
 -- `put_channels` meets its contract: two colours in a row; past the end there are none. Assumes nothing.
 use native.Mathlib.Omega.{arith}
 use mathlib.Core.Path.{sym}
-use Rattle.segment.specs.Steps.{endsChannels}
+use Rattle.segment.specs.inner.Steps.{endsChannels}
 use Rattle.slices.proofs.Stores.{sets-out}
 use Rattle.segment.proofs.Stored.{two-colours}
 use borrow.Author.Needs.{needs}

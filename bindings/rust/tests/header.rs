@@ -1,0 +1,48 @@
+//! The version, the codes and the limits of this crate are those of the header, and the version is the library's.
+
+use guineaplume::lent::{self, Kind};
+
+const HEADER: &str = include_str!("../../../include/colorgrad.h");
+
+fn number(text: &str) -> u32 {
+    text.split('.').fold(0, |number, part| 1000 * number + part.parse::<u32>().expect("a number"))
+}
+
+#[test]
+fn crate_library_and_header_have_one_version() {
+    let own = env!("CARGO_PKG_VERSION");
+    assert_eq!(lent::version(), number(own));
+    assert!(HEADER.contains(&format!("#define COLORGRAD_VERSION_TEXT \"{own}\"\n")));
+}
+
+#[test]
+fn kinds_have_the_codes_of_the_header() {
+    let kinds = [
+        ("LINEAR", Kind::Linear),
+        ("SMOOTHSTEP", Kind::Smoothstep),
+        ("SHARP", Kind::Sharp),
+        ("BASIS", Kind::Basis),
+        ("CATMULL_ROM", Kind::CatmullRom),
+        ("GIMP", Kind::Gimp),
+    ];
+    let defined = HEADER.split("typedef enum {").nth(1).and_then(|rest| rest.split('}').next()).expect("the kinds");
+    let own: Vec<String> = kinds.iter().map(|(name, kind)| format!("COLORGRAD_{name} = {}", *kind as u32)).collect();
+    assert_eq!(defined.split(',').map(str::trim).collect::<Vec<_>>(), own);
+}
+
+#[test]
+fn limits_are_those_of_the_header() {
+    for (name, limit) in [
+        ("MOST_STOPS", lent::MOST_STOPS),
+        ("MOST_SEGMENTS", lent::MOST_SEGMENTS),
+        ("CELLS", lent::CELLS),
+        ("ROWS", lent::ROWS),
+        ("MARKS", lent::MARKS),
+        ("MOST_POINTS", lent::MOST_POINTS),
+        ("MOST_PRINTED", lent::MOST_PRINTED),
+        ("MOST_WRITTEN", lent::MOST_WRITTEN),
+        ("MOST_NUMERAL", lent::MOST_NUMERAL),
+    ] {
+        assert!(HEADER.contains(&format!("#define COLORGRAD_{name} {limit}u ")), "{name}");
+    }
+}
