@@ -27,13 +27,13 @@ check-given-requires : tie.Need-check-given-requires
 check-given-requires c κs = search needs
 
 returns : tie.Need-returns
-returns c = ramp-refused _ _ _ _ _ (sym (c .before .before .before .check-sample .ensures) ∙ c .before .n .given .1)
+returns c = ramp-refused _ _ _ _ _ (sym (c .before .before .before .check-sample .ensures .answer) ∙ c .before .n .given .1)
 
 returns-2 : tie.Need-returns-2
 returns-2 c =
     let ends = c .before in
     let told = ends .before .before in
-    ramp-passed _ _ _ _ (sym (told .before .before .check-sample .ensures) ∙ told .enum-told .given .1) (ends .before .min-of .ensures) (ends .max-of .ensures) (c .check-given .ensures)
+    ramp-passed _ _ _ _ (sym (told .before .before .check-sample .ensures .answer) ∙ told .enum-told .given .1) (ends .before .min-of .ensures) (ends .max-of .ensures) (c .check-given .ensures)
 
 pub check-lent-spec : {M : Type 1} → statement M
 check-lent-spec =
