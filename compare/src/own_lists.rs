@@ -29,6 +29,8 @@ pub fn run(options: &Options) -> bool {
         let ramps = cases.map(|case| ordinary(&mut Random::of_case(options.seed, case), kind));
         right &= rows(kind.name(), ramps);
     }
+    let hued = (0..options.size / KINDS.len() as u64).map(|case| by_hue(&mut Random::of_case(options.seed, case)));
+    right &= rows("GIMP, coloured by hue", hued);
     right &= rows("the README's example", example("depths").into_iter());
     if let Some(folder) = &options.name {
         right &= rows("GIMP files", files::ramps(Path::new(folder)).into_iter());
@@ -86,6 +88,13 @@ fn look(count: &mut Count, ramp: &Ramp, threshold: f32) -> bool {
         println!("DIFFERS {got:?}, not {verdict:?}, threshold {threshold}, of {ramp:?}");
     }
     got == Ok(verdict)
+}
+
+/// The same segments, each coloured by hue, one way or the other.
+fn by_hue(random: &mut Random) -> Ramp {
+    let mut ramp = ordinary(random, Kind::Gimp);
+    ramp.codes.chunks_mut(2).for_each(|code| code[1] = random.pick(&[1, 2]));
+    ramp
 }
 
 /// 2 to 9 stops or segments from 0 to 1, channels 0 to 1.
