@@ -1,6 +1,6 @@
 /* Faults put round calls of the library, one for each number, to see that the fuzzed calls find them: `compare/fuzz faults`.
  * 1 reading leaves an output as it was, 2 the tool leaves a short output, 3 a row has something after its count, 4 a refresh
- * takes every cell for clear, 5 reading writes one byte past an output. */
+ * takes every cell for clear, 5 reading writes one byte past an output, 6 a list that keeps its word is the published one. */
 #include "colorgrad.h"
 #include <stdlib.h>
 #include <string.h>
@@ -46,6 +46,14 @@ static ColorgradListed faulty_flatten(RAMP, float threshold, RECORD, STOPS)
     return made;
 }
 #define colorgrad_flatten faulty_flatten
+#elif FAULT == 6
+static ColorgradListed faulty_flatten_within(RAMP, float threshold, float hold, RECORD, STOPS)
+{
+    (void)hold;
+    return colorgrad_flatten(LENT, threshold, rows, rows_length, counts, counts_length, marks, marks_length, places,
+                             places_length, colours, colours_length);
+}
+#define colorgrad_flatten_within faulty_flatten_within
 #elif FAULT == 4
 /* The record as it was. */
 static float *kept(const float *rows, size_t rows_length, const uint8_t *counts, size_t counts_length)

@@ -87,8 +87,9 @@ typedef enum {
 #define COLORGRAD_ROW 128u             /* numbers of each of its rows */
 #define COLORGRAD_ROWS 4608u           /* numbers of all its rows */
 #define COLORGRAD_MARKS 3u             /* words of a record */
-#define COLORGRAD_MOST_POINTS 4609u    /* stops of any list: with this room, 7 is never given */
+#define COLORGRAD_MOST_POINTS 4609u    /* stops of any list: with this room, thinning never gives 7 */
 #define COLORGRAD_MOST_EVALUATIONS 32146u /* of a flattening */
+#define COLORGRAD_MOST_WEIGHED 10755u  /* evaluations of a list that keeps its word; a sampling's come on top */
 #define COLORGRAD_MOST_TEXT 65536u     /* bytes of a GIMP text */
 #define COLORGRAD_MOST_INPUT 16384u    /* bytes of an input of the tool */
 #define COLORGRAD_MOST_PRINTED 50029u  /* bytes that the tool prints */
@@ -100,6 +101,9 @@ typedef enum {
 #define COLORGRAD_THRESHOLD 0.007f
 #define COLORGRAD_LEAST_THRESHOLD 0.001f
 #define COLORGRAD_GREATEST_THRESHOLD 0.035f
+
+/* ---- holds: not finite becomes the default, which is the least; any other is taken into that .. the threshold in force */
+#define COLORGRAD_HOLD 0.001f
 
 /* ---- refusals; 0 is none. The first that holds is given: 1; then stop by stop 2, 3; then 4, 5, 20, 6; then, of a stop
  * added or moved, 1 and 3. */
@@ -124,6 +128,7 @@ typedef enum {
 #define COLORGRAD_TORN 18u
 #define COLORGRAD_UNWRITABLE 19u
 #define COLORGRAD_OTHER_THRESHOLD 20u
+#define COLORGRAD_NOT_SHOWN 21u
 
 /* What a refusal means, in one line of plain words; never null. colorgrad_message_told has the same texts. */
 static inline const char *colorgrad_message(uint32_t refusal)
@@ -150,6 +155,7 @@ static inline const char *colorgrad_message(uint32_t refusal)
     case COLORGRAD_TORN: return "the segments of the GIMP text do not run from 0 to 1, each joined to the next";
     case COLORGRAD_UNWRITABLE: return "a number of the list cannot be written, or it does not run from 0 to 1";
     case COLORGRAD_OTHER_THRESHOLD: return "the record was sampled with another threshold or on another domain";
+    case COLORGRAD_NOT_SHOWN: return "two stops that follow each other do not show what lies between them: colours beyond 16,384";
     default: return "no such refusal";
     }
 }
@@ -475,7 +481,7 @@ static inline ColorgradListed colorgrad_ramp_thin(ColorgradRamp ramp, float thre
  * below 2^127 in size, nor a smoothstep or sharp one with channels up to a sixth of FLT_MAX.
  *
  * A band of colour that is narrower than half a cell, a 72nd of the domain, can lie between the points that are looked at:
- * the list does not show it, whatever the threshold (README, 'What a list can lose'). */
+ * the list does not show it, whatever the threshold (README, 'What a list can lose'). Lists that keep their word, below, do. */
 static inline ColorgradListed colorgrad_ramp_flatten(ColorgradRamp ramp, float threshold, ColorgradRecord record,
                                                      ColorgradList list)
 {
@@ -491,6 +497,33 @@ static inline ColorgradHanded colorgrad_ramp_next_stop(ColorgradRamp ramp, float
                                                        ColorgradPlace place)
 {
     return colorgrad_next_stop(COLORGRAD_OF_RAMP(ramp), threshold, COLORGRAD_OF_RECORD(record), place);
+}
+
+/* ---- lists that keep their word
+ *
+ * A list that is within a hold of the ramp at the ramp's own positions, and at the f32 on both sides of each, whatever record
+ * it is made of; and within the threshold at the record's points, so that colorgrad_ramp_judge says yes to a list made of a
+ * fresh or a refreshed record. Differences are in the threshold's measure, of the colours taken into 0..1. The hold in force
+ * is colorgrad_hold(hold, threshold); COLORGRAD_HOLD keeps depths apart. A hard edge is listed as two stops, one f32 apart.
+ * Between these points nothing is promised of a curved ramp. */
+
+/* Makes such a list of a record, which is not written; what lies past the last stop stays. Refused with 1 to 5 or 20: the list
+ * stays as it was; with 7 (no room, or more than COLORGRAD_MOST_POINTS stops), 8 or 21: all of it is set to zero. 21 is for
+ * colours beyond 16,382 alone. */
+static inline ColorgradListed colorgrad_ramp_thin_within(ColorgradRamp ramp, float threshold, float hold,
+                                                         ColorgradRecord record, ColorgradList list)
+{
+    return colorgrad_thin_within(COLORGRAD_OF_RAMP(ramp), threshold, hold, COLORGRAD_OF_RECORD(record),
+                                 COLORGRAD_OF_LIST(list));
+}
+
+/* Fills a record and makes such a list of it. Refused with 1 to 5: nothing is changed; with 7, 8 or 21: the record is filled,
+ * all of the list is set to zero. */
+static inline ColorgradListed colorgrad_ramp_flatten_within(ColorgradRamp ramp, float threshold, float hold,
+                                                            ColorgradRecord record, ColorgradList list)
+{
+    return colorgrad_flatten_within(COLORGRAD_OF_RAMP(ramp), threshold, hold, COLORGRAD_OF_RECORD(record),
+                                    COLORGRAD_OF_LIST(list));
 }
 
 /* ---- edits, and a record refreshed after one
@@ -565,6 +598,7 @@ static inline ColorgradJudged colorgrad_ramp_judge(ColorgradRamp ramp, float thr
  * output holds them all, what lies past them stays; else all of output is set to zero. COLORGRAD_MOST_PRINTED bytes always
  * suffice.
  * colorgrad_threshold: the threshold that the calls on records and lists take where this one is asked for.
+ * colorgrad_hold: the hold that lists which keep their word take where this one and this threshold are asked for.
  * colorgrad_root: the correctly rounded square root of any number; below zero, and of a NaN, a NaN.
  * colorgrad_cutoff: the number such that, for every s, half the root of s is above t exactly when s is above it. */
 

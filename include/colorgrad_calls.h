@@ -86,6 +86,22 @@ uint32_t colorgrad_flatten_told(uint32_t kind, const float *positions, size_t po
                                 uint32_t *marks, size_t marks_length, float *places, size_t places_length,
                                 float *colours, size_t colours_length, size_t *told, size_t told_length);
 
+/* lists that keep their word; told: stops, evaluations */
+uint32_t colorgrad_thin_within_told(uint32_t kind, const float *positions, size_t positions_length,
+                                    const float *channels, size_t channels_length, const uint8_t *codes,
+                                    size_t codes_length, float threshold, float hold, const float *rows,
+                                    size_t rows_length, const uint8_t *counts, size_t counts_length,
+                                    const uint32_t *marks, size_t marks_length, float *places, size_t places_length,
+                                    float *colours, size_t colours_length, size_t *told, size_t told_length);
+
+/* told: stops, evaluations */
+uint32_t colorgrad_flatten_within_told(uint32_t kind, const float *positions, size_t positions_length,
+                                       const float *channels, size_t channels_length, const uint8_t *codes,
+                                       size_t codes_length, float threshold, float hold, float *rows,
+                                       size_t rows_length, uint8_t *counts, size_t counts_length, uint32_t *marks,
+                                       size_t marks_length, float *places, size_t places_length, float *colours,
+                                       size_t colours_length, size_t *told, size_t told_length);
+
 /* told: 1 where there is a stop, else 0; evaluations; the state, row and index to go on from, also where it is refused;
  * stop: position, red, green, blue, alpha */
 uint32_t colorgrad_next_stop_told(uint32_t kind, const float *positions, size_t positions_length,
@@ -125,6 +141,7 @@ uint32_t colorgrad_edit_list_told(uint32_t kind, const float *positions, size_t 
 size_t colorgrad_desk(const uint8_t *input, size_t input_length, uint8_t *output, size_t output_length);
 
 float colorgrad_threshold(float asked);
+float colorgrad_hold(float asked, float threshold);
 float colorgrad_root(float x);
 float colorgrad_cutoff(float t);
 

@@ -1,5 +1,5 @@
-/* Guineaplume: the calls of version 0.1.0, each argument by itself, answering structs. colorgrad.h includes this header, and
- * says what each does and what a refusal leaves: of colorgrad_flatten at colorgrad_ramp_flatten, and so on; of colorgrad_sharp
+/* Guineaplume: the calls of version 0.1.0 and those of lists that keep their word, each argument by itself, answering
+ * structs. colorgrad.h includes this header, and says what each does and what a refusal leaves: of colorgrad_flatten at colorgrad_ramp_flatten, and so on; of colorgrad_sharp
  * at colorgrad_build_sharp, of colorgrad_read at colorgrad_read_segments, of colorgrad_write_ggr at colorgrad_write_stops, and
  * of colorgrad_refresh at colorgrad_ramp_edit, since it is an edit of a colour. A record that is const is lent by these alone. */
 #ifndef COLORGRAD_H
@@ -113,6 +113,41 @@ static inline ColorgradListed colorgrad_flatten(uint32_t kind, const float *posi
     uint32_t refusal = colorgrad_flatten_told(kind, positions, positions_length, channels, channels_length, codes,
                                               codes_length, threshold, rows, rows_length, counts, counts_length, marks,
                                               marks_length, places, places_length, colours, colours_length, told, 2);
+    ColorgradListed listed = {refusal, told[0], told[1]};
+    return listed;
+}
+
+/* As colorgrad_thin and colorgrad_flatten, with the hold after the threshold. */
+static inline ColorgradListed colorgrad_thin_within(uint32_t kind, const float *positions, size_t positions_length,
+                                                    const float *channels, size_t channels_length,
+                                                    const uint8_t *codes, size_t codes_length, float threshold,
+                                                    float hold, const float *rows, size_t rows_length,
+                                                    const uint8_t *counts, size_t counts_length, const uint32_t *marks,
+                                                    size_t marks_length, float *places, size_t places_length,
+                                                    float *colours, size_t colours_length)
+{
+    size_t told[2] = {0, 0};
+    uint32_t refusal = colorgrad_thin_within_told(kind, positions, positions_length, channels, channels_length, codes,
+                                                  codes_length, threshold, hold, rows, rows_length, counts,
+                                                  counts_length, marks, marks_length, places, places_length, colours,
+                                                  colours_length, told, 2);
+    ColorgradListed listed = {refusal, told[0], told[1]};
+    return listed;
+}
+
+static inline ColorgradListed colorgrad_flatten_within(uint32_t kind, const float *positions, size_t positions_length,
+                                                       const float *channels, size_t channels_length,
+                                                       const uint8_t *codes, size_t codes_length, float threshold,
+                                                       float hold, float *rows, size_t rows_length, uint8_t *counts,
+                                                       size_t counts_length, uint32_t *marks, size_t marks_length,
+                                                       float *places, size_t places_length, float *colours,
+                                                       size_t colours_length)
+{
+    size_t told[2] = {0, 0};
+    uint32_t refusal = colorgrad_flatten_within_told(kind, positions, positions_length, channels, channels_length,
+                                                     codes, codes_length, threshold, hold, rows, rows_length, counts,
+                                                     counts_length, marks, marks_length, places, places_length,
+                                                     colours, colours_length, told, 2);
     ColorgradListed listed = {refusal, told[0], told[1]};
     return listed;
 }

@@ -12,6 +12,7 @@ use crate::ours;
 use crate::ramps::{Kind, Ramp, KINDS, MOST_SEGMENTS};
 use crate::random::Random;
 use crate::typing;
+use crate::weighing;
 use std::hint::black_box;
 use std::path::Path;
 
@@ -27,7 +28,7 @@ pub fn run(options: &Options) {
     let unit = if count::output().is_some() { "instructions" } else { "ns" };
     println!("| call | beside | ours, {unit} | Rust, {unit} | ratio |");
     println!("|---|---|---|---|---|");
-    let tables: [(&str, fn(&mut Random)); 8] = [
+    let tables: [(&str, fn(&mut Random)); 9] = [
         ("root", roots),
         ("token", tokens),
         ("paint", paint),
@@ -35,6 +36,7 @@ pub fn run(options: &Options) {
         ("read", reading),
         ("flatten", flatten),
         ("growth", growth),
+        ("within", weighing::table),
         ("refresh", typing::table),
     ];
     for (name, table) in tables {

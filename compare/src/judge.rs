@@ -146,7 +146,7 @@ fn halve(ramp: &dyn Fn(f32) -> [f32; 4], threshold: f32, (t0, t1): (f32, f32), l
 }
 
 /// Half the root of the summed squares, of the clamped colours.
-fn distance(x: [f32; 4], y: [f32; 4]) -> f32 {
+pub fn distance(x: [f32; 4], y: [f32; 4]) -> f32 {
     let clamp = |v: f32| {
         if v < 0.0 {
             0.0

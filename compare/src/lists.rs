@@ -50,7 +50,7 @@ pub fn random_threshold(random: &mut Random) -> f32 {
     }
 }
 
-fn random_room(random: &mut Random) -> (usize, usize) {
+pub fn random_room(random: &mut Random) -> (usize, usize) {
     match random.below(8) {
         0 => (random.below(8), 4 * MOST_POINTS),
         1 => (MOST_POINTS, random.below(100)),

@@ -17,6 +17,7 @@ mod judge;
 mod limits;
 mod list_limits;
 mod lists;
+mod lists_within;
 mod many;
 mod marks;
 mod options;
@@ -42,6 +43,9 @@ mod texts;
 mod tokens;
 mod torn;
 mod typing;
+mod weighing;
+mod within;
+mod word;
 mod written;
 
 use options::Options;
@@ -50,15 +54,16 @@ use std::path::Path;
 use std::process::ExitCode;
 
 const USAGE: &str = "compare COMMAND [N] [--seed S] [--case I]
-  roots tokens colours sine waves hues sharp texts counts torn lists refresh edits marks many promise steps numerals written judge
+  roots tokens colours sine waves hues sharp texts counts torn lists refresh edits marks many promise steps numerals written judge within
                      one comparison, of N inputs or at its full size
   all [PERCENT]      every comparison, at its full size or at that part of it
   differences        the smallest inputs of docs/DIFFERENCES.md, with the Rust's answers and ours
   gimp FOLDER [N]    N lists written there as .ggr files (200), for compare/gimp.py
   files FOLDER       the .ggr files in it, as compare/fetch gets them
-  bench [TABLE]      times beside the Rust's: root token paint files read flatten growth refresh
+  bench [TABLE]      times beside the Rust's: root token paint files read flatten growth within refresh
   count [TABLE]      instructions in place of times, by valgrind's callgrind
   own [N] [FOLDER]   how many of our own lists are turned down, of N random ramps and of the .ggr files in FOLDER
+  word [N] [FOLDER]  lists that keep their word beside the published ones, of N ramps of each sort (2,000) and of those files
   typing             request (x): how much of a fresh flattening a keystroke is, and whether its two figures hold
   shown FILE ..      the colours of .ggr files at 256 points, as text, for compare/gimp_colours.py
   sample FOLDER      the stored answers of the program replay, as FOLDER/stdin and FOLDER/stdout";
@@ -66,7 +71,7 @@ const USAGE: &str = "compare COMMAND [N] [--seed S] [--case I]
 type Comparison = (&'static str, fn(&Options) -> Vec<Tally>, u64);
 
 /// Each comparison with its full size.
-const COMPARISONS: [Comparison; 20] = [
+const COMPARISONS: [Comparison; 21] = [
     ("roots", roots::run, 1 << 32),
     ("tokens", tokens::run, 100_000_000),
     ("colours", colours::run, 2_000_000),
@@ -87,6 +92,7 @@ const COMPARISONS: [Comparison; 20] = [
     ("numerals", written::numbers, written::ALL),
     ("written", written::lists, 100_000),
     ("judge", judge::run, 100_000),
+    ("within", lists_within::run, 100_000),
 ];
 
 fn main() -> ExitCode {
@@ -129,6 +135,7 @@ fn run(words: &[String]) -> Result<bool, String> {
         "count" => count::run(rest),
         "typing" => Ok(typing::run()),
         "own" => Ok(own_lists::run(&Options::read(rest, 100_000)?)),
+        "word" => Ok(word::run(&Options::read(rest, 2_000)?)),
         "shown" => {
             shown::run(rest, 256);
             Ok(true)

@@ -4,6 +4,7 @@ use crate::calls;
 use crate::judge::Verdict;
 use crate::oracle::Record;
 use crate::ramps::Ramp;
+use crate::within::Asked;
 
 /// What a call tells is put over this.
 const UNTOLD: usize = usize::MAX;
@@ -121,6 +122,33 @@ pub fn flatten(ramp: &Ramp, threshold: f32, record: &mut Record, places: &mut [f
     let Record { rows, counts, marks } = record;
     let mut told = [UNTOLD; 2];
     let refusal = over!(ramp, flatten(threshold, rows, counts, marks, places, colours, &mut told));
+    listed(refusal, told)
+}
+
+/// The hold in force.
+pub fn hold(asked: Asked) -> f32 {
+    calls::hold(asked.hold, asked.threshold)
+}
+
+pub fn thin_within(ramp: &Ramp, asked: Asked, record: &Record, places: &mut [f32], colours: &mut [f32]) -> Listed {
+    let Record { rows, counts, marks } = record;
+    let Asked { threshold, hold } = asked;
+    let mut told = [UNTOLD; 2];
+    let refusal = over!(ramp, thin_within(threshold, hold, rows, counts, marks, places, colours, &mut told));
+    listed(refusal, told)
+}
+
+pub fn flatten_within(
+    ramp: &Ramp,
+    asked: Asked,
+    record: &mut Record,
+    places: &mut [f32],
+    colours: &mut [f32],
+) -> Listed {
+    let Record { rows, counts, marks } = record;
+    let Asked { threshold, hold } = asked;
+    let mut told = [UNTOLD; 2];
+    let refusal = over!(ramp, flatten_within(threshold, hold, rows, counts, marks, places, colours, &mut told));
     listed(refusal, told)
 }
 

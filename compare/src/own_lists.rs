@@ -8,7 +8,7 @@ use crate::random::Random;
 use crate::{oracle, ours};
 use std::path::Path;
 
-const THRESHOLDS: [f32; 3] = [0.001, 0.007, 0.035];
+pub const THRESHOLDS: [f32; 3] = [0.001, 0.007, 0.035];
 
 /// Lists of one sort at one threshold.
 #[derive(Clone, Copy, Default)]
@@ -29,18 +29,18 @@ pub fn run(options: &Options) -> bool {
         let ramps = cases.map(|case| ordinary(&mut Random::of_case(options.seed, case), kind));
         right &= rows(kind.name(), ramps);
     }
-    if let Some(ramp) = example() {
-        right &= rows("the README's example", std::iter::once(ramp));
-    }
+    let hued = (0..options.size / KINDS.len() as u64).map(|case| by_hue(&mut Random::of_case(options.seed, case)));
+    right &= rows("GIMP, coloured by hue", hued);
+    right &= rows("the README's example", example("depths").into_iter());
     if let Some(folder) = &options.name {
         right &= rows("GIMP files", files::ramps(Path::new(folder)).into_iter());
     }
     right
 }
 
-/// The ramp that the README flattens, where it is at hand.
-fn example() -> Option<Ramp> {
-    let text = std::fs::read_to_string("examples/depths.tsv").ok()?;
+/// The linear ramp of an example, where it is at hand: `depths` is the README's.
+pub fn example(name: &str) -> Option<Ramp> {
+    let text = std::fs::read_to_string(format!("examples/{name}.tsv")).ok()?;
     let mut ramp = Ramp { kind: Kind::Linear, positions: Vec::new(), channels: Vec::new(), codes: Vec::new() };
     for line in text.lines().filter(|line| line.starts_with("stop\t")) {
         let numbers: Vec<f32> = line.split('\t').skip(1).filter_map(|word| word.parse().ok()).collect();
@@ -90,8 +90,15 @@ fn look(count: &mut Count, ramp: &Ramp, threshold: f32) -> bool {
     got == Ok(verdict)
 }
 
+/// The same segments, each coloured by hue, one way or the other.
+fn by_hue(random: &mut Random) -> Ramp {
+    let mut ramp = ordinary(random, Kind::Gimp);
+    ramp.codes.chunks_mut(2).for_each(|code| code[1] = random.pick(&[1, 2]));
+    ramp
+}
+
 /// 2 to 9 stops or segments from 0 to 1, channels 0 to 1.
-fn ordinary(random: &mut Random, kind: Kind) -> Ramp {
+pub fn ordinary(random: &mut Random, kind: Kind) -> Ramp {
     let mut n = random.from_to(2, 9);
     if kind == Kind::Sharp {
         n += n % 2;

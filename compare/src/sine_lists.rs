@@ -2,7 +2,7 @@
 //! than the Rust's: how often, and how far the two are apart. Each list is bit for bit the one that the Rust's own halving
 //! and thinning make of our colours.
 
-use crate::lists::{agrees, random_threshold, same_stops, MOST_POINTS};
+use crate::lists::{agrees, random_threshold, same_stops, MOST_POINTS, RUBBISH};
 use crate::options::Options;
 use crate::oracle::{self, Boxed, List, Record};
 use crate::ramps::Ramp;
@@ -30,7 +30,7 @@ pub fn run(options: &Options) -> Vec<Tally> {
 
 fn compare(tally: &mut Tally, case: u64, ramp: &Ramp, threshold: f32, farthest: &mut (f32, String)) {
     tally.inputs(1);
-    let (mut positions, mut channels) = (vec![0.0; ROOM.0], vec![0.0; ROOM.1]);
+    let (mut positions, mut channels) = (vec![RUBBISH; ROOM.0], vec![RUBBISH; ROOM.1]);
     let got = ours::flatten(ramp, threshold, &mut Record::empty(), &mut positions, &mut channels);
     let (here, rust) = (list(&oracle::of_ours(ramp), threshold), list(&oracle::gradient(ramp), threshold));
     if !agrees(got, &here, ROOM, (&positions, &channels)) {

@@ -34,7 +34,7 @@ impl Out {
     }
 }
 
-fn striped(kind: Kind, n: usize) -> Ramp {
+pub fn striped(kind: Kind, n: usize) -> Ramp {
     let positions = (0..n).map(|i| i as f32 / (n - 1) as f32).collect();
     let channels = (0..n).flat_map(|i| [(i % 2) as f32, (i % 2) as f32, (i % 2) as f32, 1.0]).collect();
     Ramp { kind, positions, channels, codes: Vec::new() }

@@ -189,6 +189,18 @@ static void long_lists(void)
     expect(is_same_record() && colorgrad_threshold(0.02f) == 0.02f, "into the same record");
 }
 
+static void long_within(void)
+{
+    ColorgradListed one = colorgrad_flatten_within(LENT, 0.01f, 0.002f, RECORD(record), LIST(list)), other;
+    other = colorgrad_ramp_flatten_within(ramp(), 0.01f, 0.002f, colorgrad_record(&other_record),
+                                          colorgrad_list(&other_list));
+    expect(one.refusal == 0 && one.stops == STOPS && is_same_list(one, other) && is_same_record(), "flattened within");
+    other = colorgrad_thin_within(LENT, 0.01f, 0.002f, RECORD(record), LIST(other_list));
+    one = colorgrad_ramp_thin_within(ramp(), 0.01f, 0.002f, colorgrad_record(&record), colorgrad_list(&list));
+    expect(is_same_list(one, other) && one.evaluations <= COLORGRAD_MOST_WEIGHED, "thinned within");
+    expect(colorgrad_hold(0.5f, 0.01f) == 0.01f, "no hold above the threshold");
+}
+
 /* Each sort of edit by the long call, and over structs: the record and the list are the same. */
 static void long_edits(void)
 {
@@ -244,6 +256,7 @@ int main(void)
     short_numbers();
     long_ramps();
     long_lists();
+    long_within();
     long_edits();
     long_texts();
     puts(wrong ? "calls: WRONG" : "calls: the headers are the library's");

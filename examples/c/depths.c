@@ -117,6 +117,35 @@ static void lists(void)
     expect(redone.evaluations < again.evaluations, "a refresh asks for fewer colours");
 }
 
+/* A thin red band between two depths: thinning passes over it, and a list that keeps its word shows it. */
+static void kept_word(void)
+{
+    const float places[6] = {0.0f, 0.389f, 0.3891f, 0.4026f, 0.4027f, 1.0f};
+    const float colours[24] = {
+        0.0f, 0.0f, 0.0f, 1.0f, 0.389f, 0.389f, 0.389f, 1.0f, 1.0f, 0.0f, 0.0f, 1.0f,
+        1.0f, 0.0f, 0.0f, 1.0f, 0.4027f, 0.4027f, 0.4027f, 1.0f, 1.0f, 1.0f, 1.0f, 1.0f,
+    };
+    ColorgradRamp band = colorgrad_ramp(COLORGRAD_LINEAR, colorgrad_stops(places, colours, 6));
+    ColorgradListed lost = flatten(band, &sheet);
+    ColorgradListed kept = colorgrad_ramp_flatten_within(band, COLORGRAD_THRESHOLD, COLORGRAD_HOLD,
+                                                         colorgrad_record(&sheet.record), colorgrad_list(&sheet.list));
+    ColorgradListed thinned, cramped;
+    printf("a thin band: %zu stops without it, %zu stops that keep their word\n", lost.stops, kept.stops);
+    print_list(&sheet.list, kept.stops);
+    expect(lost.stops == 2, "thinning loses the band");
+    expect(kept.refusal == COLORGRAD_FINE && kept.stops == 6, "six stops");
+    expect(memcmp(sheet.list.places, places, sizeof places) == 0, "they are at the ramp's own positions");
+    expect(memcmp(sheet.list.colours, colours, sizeof colours) == 0, "and have its colours");
+    thinned = colorgrad_ramp_thin_within(band, COLORGRAD_THRESHOLD, COLORGRAD_HOLD, colorgrad_record(&sheet.record),
+                                         colorgrad_list(&fresh.list));
+    expect(thinned.stops == 6 && thinned.evaluations < kept.evaluations, "the same of the record");
+    expect(thinned.evaluations <= COLORGRAD_MOST_WEIGHED, "its evaluations");
+    cramped = colorgrad_ramp_thin_within(band, COLORGRAD_THRESHOLD, COLORGRAD_HOLD, colorgrad_record(&sheet.record),
+                                         (ColorgradList){fresh.list.places, 5, fresh.list.colours, 24});
+    expect(cramped.refusal == COLORGRAD_NO_ROOM && fresh.list.places[4] == 0.0f, "room for five of six: zeros");
+    expect(colorgrad_hold(1.0f, 0.007f) == 0.007f && colorgrad_hold(0.0f, 0.007f) == COLORGRAD_HOLD, "holds in force");
+}
+
 /* A list from elsewhere: whether it shows the ramp. */
 static ColorgradJudged judge(ColorgradStops list)
 {
@@ -278,6 +307,7 @@ int main(void)
 {
     colours();
     lists();
+    kept_word();
     verdicts();
     edits();
     refusals();

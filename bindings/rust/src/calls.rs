@@ -71,6 +71,14 @@ exports! {
         kind: u32, positions: &[f32], channels: &[f32], codes: &[u8], threshold: f32,
         rows: &mut [f32], counts: &mut [u8], marks: &mut [u32], places: &mut [f32], colours: &mut [f32], told: &mut [usize]
     ) -> u32;
+    thin_within = colorgrad_thin_within_told(
+        kind: u32, positions: &[f32], channels: &[f32], codes: &[u8], threshold: f32, hold: f32,
+        rows: &[f32], counts: &[u8], marks: &[u32], places: &mut [f32], colours: &mut [f32], told: &mut [usize]
+    ) -> u32;
+    flatten_within = colorgrad_flatten_within_told(
+        kind: u32, positions: &[f32], channels: &[f32], codes: &[u8], threshold: f32, hold: f32,
+        rows: &mut [f32], counts: &mut [u8], marks: &mut [u32], places: &mut [f32], colours: &mut [f32], told: &mut [usize]
+    ) -> u32;
     next_stop = colorgrad_next_stop_told(
         kind: u32, positions: &[f32], channels: &[f32], codes: &[u8], threshold: f32,
         rows: &[f32], counts: &[u8], marks: &[u32], state: u32, row: u32, index: u32, told: &mut [usize], stop: &mut [f32]
@@ -91,6 +99,7 @@ exports! {
     ) -> u32;
     desk = colorgrad_desk(input: &[u8], output: &mut [u8]) -> usize;
     threshold = colorgrad_threshold(asked: f32) -> f32;
+    hold = colorgrad_hold(asked: f32, threshold: f32) -> f32;
     root = colorgrad_root(x: f32) -> f32;
     cutoff = colorgrad_cutoff(t: f32) -> f32;
     token = colorgrad_token_told(text: &[u8], value: &mut [f32]) -> u32;

@@ -63,7 +63,7 @@ pub trait Gradient {
     /// to a sixth of `f32::MAX`. [`Ordinary`](crate::Ordinary) has this call without a `Result`.
     ///
     /// A band of colour that is narrower than half a cell, a 72nd of the domain, can lie between the points that are looked
-    /// at: the list does not show it, whatever the threshold.
+    /// at: the list does not show it, whatever the threshold. [`flatten_within`](Gradient::flatten_within) makes one that does.
     ///
     /// ```
     /// use guineaplume::{Color, Gradient, LinearGradient, Refusal};
@@ -115,6 +115,39 @@ pub trait Gradient {
     /// ```
     fn stops_of<'a>(&'a self, record: &'a Record) -> Stops<'a> {
         Stops::new(self.lent(), record.threshold(), record.lent())
+    }
+
+    /// A list that keeps its word, and the record that it was made of. At the ramp's own positions, and at the f32 on both
+    /// sides of each, it is within the hold of the ramp; at every point of the record within the threshold, so that
+    /// [`judge`](Gradient::judge) says yes to it. The hold is taken into 0.001 to the threshold in force, and is 0.001 where it
+    /// is not finite. Refused with 4; 7 where it would have more than 4,609 stops; 8; 21 for colours beyond 16,382 alone.
+    ///
+    /// ```
+    /// use guineaplume::{Color, Gradient, LinearGradient, Refusal, Verdict};
+    ///
+    /// // a thin red band, which thinning passes over
+    /// let (gray, red) = (|x: f32| Color::new(x, x, x, 1.0), Color::new(1.0, 0.0, 0.0, 1.0));
+    /// let positions = [0.0, 0.389, 0.3891, 0.4026, 0.4027, 1.0];
+    /// let ramp = LinearGradient::new(&positions, &[gray(0.0), gray(0.389), red, red, gray(0.4027), gray(1.0)])?;
+    /// assert_eq!(ramp.linearize(0.007)?.len(), 2);
+    ///
+    /// let (_, list) = ramp.flatten_within(0.007, 0.001)?;
+    /// assert!(list.stops().eq(ramp.stops()));
+    /// assert_eq!(ramp.judge(0.007, list.positions(), list.colors())?, Verdict::Yes);
+    /// # Ok::<(), Refusal>(())
+    /// ```
+    fn flatten_within(&self, threshold: f32, hold: f32) -> Result<(Record, List), Refusal> {
+        let mut record = Record::empty();
+        let list = List::made(|out| self.lent().flatten_within(threshold, hold, record.lent_mut(), out))?;
+        record.evaluations = list.evaluations();
+        Ok((record, list))
+    }
+
+    /// The list of a record that keeps its word, at the record's threshold. At the ramp's own positions it is within the hold
+    /// of the ramp whatever record it is made of. Refused as [`flatten_within`](Gradient::flatten_within), and with 20 as
+    /// [`thin`](Gradient::thin).
+    fn thin_within(&self, record: &Record, hold: f32) -> Result<List, Refusal> {
+        List::made(|out| self.lent().thin_within(record.threshold(), hold, record.lent(), out))
     }
 
     /// What is to be said of a list of stops that was made elsewhere: whether it shows the ramp within the threshold, and

@@ -30,8 +30,10 @@ pub const CELLS: usize = 36;
 pub const ROWS: usize = 4608;
 /// How many words of a record say what it was sampled with.
 pub const MARKS: usize = 3;
-/// The most stops that a list can have: with this room, [`Refusal::NoRoom`] is never given.
+/// The most stops that a list can have: with this room, [`Ramp::thin`] and [`Ramp::flatten`] never give [`Refusal::NoRoom`].
 pub const MOST_POINTS: usize = ROWS + 1;
+/// The most evaluations of a list that keeps its word; a sampling's come on top.
+pub const MOST_WEIGHED: usize = 10_755;
 /// The most bytes that the tool prints.
 pub const MOST_PRINTED: usize = 50_029;
 /// Stops of a list that is written as a GIMP text.
@@ -190,6 +192,40 @@ impl Ramp<'_> {
         listed(refusal, told)
     }
 
+    /// Makes a list of a record that keeps its word ([`Gradient::thin_within`](crate::Gradient::thin_within)). Refusals 1 to 5
+    /// and 20 leave `out` as it was; 7, also of more than [`MOST_POINTS`] stops, 8 and 21 set it to zero.
+    pub fn thin_within(
+        &self,
+        threshold: f32,
+        hold: f32,
+        record: Record<'_>,
+        out: StopsMut<'_>,
+    ) -> Result<Listed, Refusal> {
+        let Record { rows, counts, marks } = record;
+        let StopsMut { positions, channels } = out;
+        let mut told = [0; 2];
+        let refusal =
+            with_ramp!(thin_within, self, threshold, hold, rows, counts, marks, positions, channels, &mut told);
+        listed(refusal, told)
+    }
+
+    /// Fills a record and makes its list that keeps its word. Refusals 1 to 5 change nothing; after 7, 8, 21 the record is
+    /// filled and `out` is zero.
+    pub fn flatten_within(
+        &self,
+        threshold: f32,
+        hold: f32,
+        record: RecordMut<'_>,
+        out: StopsMut<'_>,
+    ) -> Result<Listed, Refusal> {
+        let RecordMut { rows, counts, marks } = record;
+        let StopsMut { positions, channels } = out;
+        let mut told = [0; 2];
+        let refusal =
+            with_ramp!(flatten_within, self, threshold, hold, rows, counts, marks, positions, channels, &mut told);
+        listed(refusal, told)
+    }
+
     /// Refreshes the record of this ramp for an edit: it then equals the record of the changed ramp. The evaluations; refusals
     /// 1 to 6 and 20 leave it as it was. After 20 come, of the edit, 6 (another kind of ramp, no such stop, a number that is not
     /// finite), 1 (a stop too many) and 3 (a position out of order).
@@ -305,6 +341,12 @@ pub fn token(text: &[u8]) -> Option<f32> {
 /// The threshold that calls take where this one is asked for: 0.001 to 0.035, and 0.007 for one that is not finite.
 pub fn threshold(asked: f32) -> f32 {
     calls::threshold(asked)
+}
+
+/// The hold that lists which keep their word take where this one and this threshold are asked for: 0.001 to the threshold in
+/// force, and 0.001 for one that is not finite.
+pub fn hold(asked: f32, threshold: f32) -> f32 {
+    calls::hold(asked, threshold)
 }
 
 /// The correctly rounded square root of any number.

@@ -29,6 +29,9 @@
 //! taken as they are; what cannot be used is an `Err` with its reason, where colorgrad panics or mends; `linearize` answers
 //! a [`List`], which counts the evaluations and is a gradient again by [`List::gradient`].
 //!
+//! `linearize` can leave a thin band out. Where every stop of the ramp must be seen, [`Gradient::flatten_within`] makes a list
+//! that keeps its word.
+//!
 //! A list of stops from elsewhere is held against a ramp by [`Gradient::judge`], which answers a [`Verdict`].
 //!
 //! The module [`lent`] has the same calls on slices of the caller's, with nothing allocated.

@@ -58,10 +58,13 @@ pub enum Refusal {
     Unwritable = 19,
     /// 20: a record that was sampled with another threshold in force, or on another domain.
     OtherThreshold = 20,
+    /// 21: two stops of a list that keeps its word, which follow each other, do not show what lies between them: colours
+    /// beyond 16,384.
+    NotShown = 21,
 }
 
 /// Every refusal, in the order of the numbers.
-const ALL: [Refusal; 20] = [
+const ALL: [Refusal; 21] = [
     Refusal::Misshapen,
     Refusal::NotFinite,
     Refusal::Falling,
@@ -82,10 +85,11 @@ const ALL: [Refusal; 20] = [
     Refusal::Torn,
     Refusal::Unwritable,
     Refusal::OtherThreshold,
+    Refusal::NotShown,
 ];
 
 impl Refusal {
-    /// Its number, 1 to 20.
+    /// Its number, 1 to 21.
     pub fn number(self) -> u32 {
         self as u32
     }

@@ -39,6 +39,7 @@ fn limits_are_those_of_the_header() {
         ("ROWS", lent::ROWS),
         ("MARKS", lent::MARKS),
         ("MOST_POINTS", lent::MOST_POINTS),
+        ("MOST_WEIGHED", lent::MOST_WEIGHED),
         ("MOST_PRINTED", lent::MOST_PRINTED),
         ("MOST_WRITTEN", lent::MOST_WRITTEN),
         ("MOST_NUMERAL", lent::MOST_NUMERAL),

@@ -15,7 +15,11 @@ pub use linearize::flatten;
 pub use linearize::sample;
 pub use linearize::thin;
 
-// The same list one stop at a time, for a caller that has room for one.
+// A list that keeps its word: within a hold of the ramp at the ramp's own positions, whatever record it is made of.
+pub use within::flatten_within;
+pub use within::thin_within;
+
+// The list that thinning makes, one stop at a time, for a caller that has room for one.
 pub use next_stop::next_stop;
 
 // The list as a GIMP text, for the drawing tool.
@@ -28,3 +32,6 @@ pub use refresh::refresh_list;
 
 // A list that was made elsewhere: whether it shows a ramp within a threshold, and what is wrong if not.
 pub use judge::judge;
+
+// And which depths it made one: which moved, which the ramp itself holds too close, and which the list merged.
+pub use apart::apart;

@@ -1,7 +1,5 @@
 -- The ends of a domain, of a check and ends that equal the ramp's. Assumes nothing.
 use mathlib.Core.Path.{_≡_, ap, ap₂, _∙_}
-use mathlib.Core.List.{List}
-use Prim.Native.Nat.{ℕ}
 use lib.Ieee.{Float}
 use Rattle.stops.specs.declared.Checked.{Checked}
 use Rattle.colorgrad_c.specs.Ramps.{domainBy}

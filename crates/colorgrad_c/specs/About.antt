@@ -38,6 +38,7 @@ refusalTexts =
     ∷ "the segments of the GIMP text do not run from 0 to 1, each joined to the next"
     ∷ "a number of the list cannot be written, or it does not run from 0 to 1"
     ∷ "the record was sampled with another threshold or on another domain"
+    ∷ "two stops that follow each other do not show what lies between them: colours beyond 16,384"
     ∷ []
 
 -- the verdicts from 0 on

@@ -12,6 +12,7 @@ use Rattle.sampling.specs.Promises.{Samples}
 use Rattle.sampling.specs.Sampling.{numberOfSampled}
 use Rattle.linearize.specs.Promises.{Thins, Flattens}
 use Rattle.linearize.specs.Desk.{numberOfListed}
+use Rattle.within.specs.Promises.{ThinsWithin, FlattensWithin}
 use Rattle.sampling.specs.declared.Sampled.{Sampled}
 use Rattle.sampling.specs.declared.Sampled.the-variants as sampled
 use Rattle.linearize.specs.declared.Listed.{Listed}
@@ -20,7 +21,7 @@ use Rattle.plain.specs.Telling.{Reply}
 use Rattle.plain.specs.Kinds.{CodedRamp, Tells}
 use Rattle.plain.specs.Lists.{sampledTold, listedTold}
 
--- the promises of `linearize`, of a ramp of any kind; a code that names no kind is 1 and changes nothing
+-- the promises of `linearize` and `within`, of a ramp of any kind; a code that names no kind is 1 and changes nothing
 module _ (by : CodedRamp) (asked : Float) (held : Change Held) where
   abbrev pub CodedSamples : Reply (List ℕ) → Type 0
   CodedSamples =
@@ -40,3 +41,17 @@ module _ (by : CodedRamp) (asked : Float) (held : Change Held) where
       Tells (by .code) (λ (kind : Kind). Flattens (by .ramp kind) asked held out)
       (λ (a : Listed). (a ≡ listed.Refused misshapen) × ((held .exit ≡ held .entry) × (out .exit ≡ out .entry)))
       numberOfListed listedTold
+
+  -- with a hold
+  module _ (hold : Float) where
+    abbrev pub CodedThinsWithin : Change Output → Reply (List ℕ) → Type 0
+    CodedThinsWithin out =
+        Tells (by .code) (λ (kind : Kind). ThinsWithin (by .ramp kind) asked hold (held .entry) out)
+        (λ (a : Listed). (a ≡ listed.Refused misshapen) × (out .exit ≡ out .entry))
+        numberOfListed listedTold
+
+    abbrev pub CodedFlattensWithin : Change Output → Reply (List ℕ) → Type 0
+    CodedFlattensWithin out =
+        Tells (by .code) (λ (kind : Kind). FlattensWithin (by .ramp kind) asked hold held out)
+        (λ (a : Listed). (a ≡ listed.Refused misshapen) × ((held .exit ≡ held .entry) × (out .exit ≡ out .entry)))
+        numberOfListed listedTold

@@ -17,7 +17,7 @@ const MINOR: u32 = 2;
 
 const PATCH: u32 = 0;
 
-const REFUSALS: usize = 21;
+const REFUSALS: usize = 22;
 
 const VERDICTS: usize = 7;
 
@@ -64,8 +64,8 @@ fn write_line(texts: &[u8], k: usize, out: &mut [u8]) -> usize
     write_name(line(texts, k), out)
 }
 
-// The length of the message of a refusal, 0 for none. Its bytes are written where the output has room for all of them; else
-// it stays as it is.
+// The length of the message of a refusal; that of 0 is 'not refused'. Its bytes are written where the output has room for all
+// of them; else it stays as it is.
 #[no_mangle]
 pub extern "C" fn colorgrad_message_told(refusal: u32, out: &mut [u8]) -> usize
     ensures { λ r. ⌜ r ≡ length (messageOf refusal) ⌝ }
@@ -94,6 +94,7 @@ pub extern "C" fn colorgrad_message_told(refusal: u32, out: &mut [u8]) -> usize
         the segments of the GIMP text do not run from 0 to 1, each joined to the next\n\
         a number of the list cannot be written, or it does not run from 0 to 1\n\
         the record was sampled with another threshold or on another domain\n\
+        two stops that follow each other do not show what lies between them: colours beyond 16,384\n\
         no such refusal\n",
         k,
         out,

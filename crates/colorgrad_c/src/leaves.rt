@@ -1,10 +1,11 @@
-// The leaves that a host compares by themselves: the square root, a cutoff, a threshold, and a token as a number.
+// The leaves that a host compares by themselves: the square root, a cutoff, a threshold, a hold, and a token as a number.
 ghost use mathlib.Core.Path.{_≡_};
 ghost use Rattle.stops.specs.Lent.{old, new};
 ghost use Rattle.sqrt.specs.Root.{rootOf};
 ghost use Rattle.sqrt.specs.Cutoff.{IsCutoff};
 ghost use Rattle.decimal.specs.Decimal.{readOf};
 ghost use Rattle.sampling.specs.Constants.{thresholdOf};
+ghost use Rattle.within.specs.Lists.{holdOf};
 ghost use Rattle.plain.specs.Telling.{telling};
 ghost use Rattle.colorgrad_c.specs.Leaves.{isNumber, valueTold};
 use decimal::Token;
@@ -49,6 +50,14 @@ pub extern "C" fn colorgrad_threshold(asked: f32) -> f32
 {
     let sampler = Sampler::new(asked);
     sampler.threshold
+}
+
+// The hold that the calls on lists within work with where this one and this threshold are asked for.
+#[no_mangle]
+pub extern "C" fn colorgrad_hold(asked: f32, threshold: f32) -> f32
+    ensures { λ r. ⌜ r ≡ holdOf threshold asked ⌝ }
+{
+    within::hold_of(asked, threshold)
 }
 
 // 1 where the token is a number, else 0; tells the number, 0 if none.

@@ -1,4 +1,4 @@
-// Sampling a ramp into a record, thinning a record to a list of stops, and both at once.
+// Sampling a ramp into a record, thinning a record to a list of stops, and both at once; the same of lists that keep their word.
 use linearize::Listed;
 use linearize::Sampled;
 use plain::kinds;
@@ -10,7 +10,7 @@ ghost use Rattle.sampling.specs.Lent.{lentHeld};
 ghost use Rattle.linearize.specs.Lent.{lentOutput};
 ghost use Rattle.plain.specs.Telling.{reply};
 ghost use Rattle.plain.specs.Kinds.{rampBy};
-ghost use Rattle.colorgrad_c.specs.Lists.{CodedSamples, CodedThins, CodedFlattens};
+ghost use Rattle.colorgrad_c.specs.Lists.{CodedSamples, CodedThins, CodedFlattens, CodedThinsWithin, CodedFlattensWithin};
 
 // Tells the evaluations.
 #[no_mangle]
@@ -104,6 +104,80 @@ pub extern "C" fn colorgrad_flatten_told(
         channels,
         codes,
         threshold,
+        rows,
+        counts,
+        marks,
+        places,
+        colours,
+    );
+    tell_listed(listed, told)
+}
+
+// Tells how many stops were written, and the evaluations.
+#[no_mangle]
+pub extern "C" fn colorgrad_thin_within_told(
+    kind: u32,
+    positions: &[f32],
+    channels: &[f32],
+    codes: &[u8],
+    threshold: f32,
+    hold: f32,
+    rows: &[f32],
+    counts: &[u8],
+    marks: &[u32],
+    places: &mut [f32],
+    colours: &mut [f32],
+    told: &mut [usize],
+) -> u32
+    ensures { λ r. ⌜ CodedThinsWithin (rampBy kind positions channels codes) threshold (lentHeld rows counts marks) hold (lentOutput places colours) (reply r told) ⌝ }
+{
+    let Coded::Of(known) = kinds::kind_of(kind) else {
+        return tell_listed(Listed::Refused(MISSHAPEN), told);
+    };
+    let listed = within::thin_within(
+        known,
+        positions,
+        channels,
+        codes,
+        threshold,
+        hold,
+        rows,
+        counts,
+        marks,
+        places,
+        colours,
+    );
+    tell_listed(listed, told)
+}
+
+// Tells how many stops were written, and the evaluations.
+#[no_mangle]
+pub extern "C" fn colorgrad_flatten_within_told(
+    kind: u32,
+    positions: &[f32],
+    channels: &[f32],
+    codes: &[u8],
+    threshold: f32,
+    hold: f32,
+    rows: &mut [f32],
+    counts: &mut [u8],
+    marks: &mut [u32],
+    places: &mut [f32],
+    colours: &mut [f32],
+    told: &mut [usize],
+) -> u32
+    ensures { λ r. ⌜ CodedFlattensWithin (rampBy kind positions channels codes) threshold (lentHeld rows counts marks) hold (lentOutput places colours) (reply r told) ⌝ }
+{
+    let Coded::Of(known) = kinds::kind_of(kind) else {
+        return tell_listed(Listed::Refused(MISSHAPEN), told);
+    };
+    let listed = within::flatten_within(
+        known,
+        positions,
+        channels,
+        codes,
+        threshold,
+        hold,
         rows,
         counts,
         marks,

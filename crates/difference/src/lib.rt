@@ -1,6 +1,7 @@
 // How far apart two colours are.
 use blend::Rgba;
 ghost use mathlib.Core.Path.{_≡_};
+ghost use lib.Ieee.{le};
 ghost use Rattle.difference.specs.Difference.{clampedOf, squaresOf, distanceOf, exceeds};
 
 fn clamped(x: Rgba) -> Rgba
@@ -33,9 +34,16 @@ pub fn distance(x: Rgba, y: Rgba) -> f32
     sqrt::root(squares(a, b)) / 2.0
 }
 
-// Whether the clamped colours differ by more than the threshold of the cutoff. The only place where that is tested.
+// Whether the clamped colours differ by more than the threshold of the cutoff. This is tested here and in `is_near` alone.
 pub fn stands_out(cutoff: f32, x: Rgba, y: Rgba) -> bool
     ensures { λ r. ⌜ r ≡ exceeds cutoff x y ⌝ }
 {
     squares(clamped(x), clamped(y)) > cutoff
+}
+
+// Whether they differ by no more: a difference that is not a number is more.
+pub fn is_near(cutoff: f32, x: Rgba, y: Rgba) -> bool
+    ensures { λ r. ⌜ r ≡ le (squaresOf (clampedOf x) (clampedOf y)) cutoff ⌝ }
+{
+    squares(clamped(x), clamped(y)) <= cutoff
 }

@@ -24,7 +24,7 @@ use Rattle.reach.specs.declared.stretch.Stretch.{Stretch}
 use Rattle.editing.specs.Edited.{stopOf, goneOf, positionsAfter, channelsAfter, stopsAfter}
 use Rattle.editing.specs.Rules.{editAllowed}
 use Rattle.editing.specs.Reached.{stretchOf, cellsKept}
-use Rattle.editing.specs.Copied.{copyFits, copyCheck, Copies}
+use Rattle.editing.specs.Copied.{copyFits, copyCheck, copyAnswer, Copies}
 use Rattle.editing.specs.declared.Edit.{Edit}
 use Rattle.editing.specs.declared.Edit.the-variants.{Colour, Move, Add, Remove}
 use Rattle.editing.specs.declared.copy.Copied.the-variants as copied
@@ -115,19 +115,19 @@ stop-there kind ps (Remove k) h = let w = remove-passes kind ps k h in let l = w
 -- ---- the answers of the copy
 module _ (kind : Kind) (ps cs : List Float) (e : Edit) (places colours : List Float) where
   pub copy-refused : (n : ℕ) → editAllowed kind ps e ≡ checked.Refused n → Copies kind ps cs e places colours places colours (copied.Refused n)
-  unfolding copyCheck
-  copy-refused n h = record { answer = rw h; written = rw h; coloured = rw h }
+  unfolding copyCheck copyAnswer
+  copy-refused n h = record { answer = rw h; number = rw h; stops = rw h; written = rw h; coloured = rw h }
 
   module _ (fine : editAllowed kind ps e ≡ checked.Fine) where
     pub no-copy : copyFits (length ps) (length cs) (length places) (length colours) ≡ false → Copies kind ps cs e places colours places colours (copied.Refused misshapen)
-    unfolding copyCheck
-    no-copy h = record { answer = rw (fine, h); written = rw (fine, h); coloured = rw (fine, h) }
+    unfolding copyCheck copyAnswer
+    no-copy h = record { answer = rw (fine, h); number = rw (fine, h); stops = rw (fine, h); written = rw (fine, h); coloured = rw (fine, h) }
 
     pub copy-done : copyFits (length ps) (length cs) (length places) (length colours) ≡ true → (places′ colours′ : List Float) (n : ℕ)
         → places′ ≡ sets places 0 (positionsAfter ps e) → colours′ ≡ sets colours 0 (channelsAfter cs e) → n ≡ stopsAfter (length ps) e
         → Copies kind ps cs e places colours places′ colours′ (copied.Stops n)
-    unfolding copyCheck
-    copy-done room places′ colours′ n p q s = record { answer = rw (fine, room) (ap copied.Stops s); written = rw (fine, room) p; coloured = rw (fine, room) q }
+    unfolding copyCheck copyAnswer
+    copy-done room places′ colours′ n p q s = record { answer = rw (fine, room) (ap copied.Stops s); number = rw (fine, room); stops = rw (fine, room) s; written = rw (fine, room) p; coloured = rw (fine, room) q }
 
   -- where the lengths fit, the check is the edit's
   pub copy-check : (editAllowed kind ps e ≡ checked.Fine → copyFits (length ps) (length cs) (length places) (length colours) ≡ true) → copyCheck kind ps cs e places colours ≡ editAllowed kind ps e

@@ -25,6 +25,7 @@ use Rattle.editing.specs.Edited.{spliced, stopsAfter, edited}
 use Rattle.editing.specs.Rules.{refreshable, movable, editCheck}
 use Rattle.reach.specs.Stretch.{stretchBetween}
 use Rattle.editing.specs.Reached.{stretchOf, away}
+use Rattle.editing.specs.Sound.{Sound}
 use Rattle.editing.specs.declared.Edit.{Edit}
 use Rattle.editing.specs.declared.Edit.the-variants.{Colour, Move, Add, Remove}
 use Rattle.editing.proofs.Splices.{in-splice, splice-length, colour-in}
@@ -34,15 +35,6 @@ use Rattle.editing.proofs.Shared.{Shared, first-same, last-same, same-c
 use Rattle.editing.proofs.SharedStops.{shared-colours, shared}
 use Rattle.editing.proofs.StillValid.{still-valid}
 use Rattle.editing.proofs.EditRules.{Fits, Recolours, Moves, Adds, Removes, colour-passes, move-passes, add-passes, remove-passes}
-
-pub record Sound (ramp : Ramp) (e : Edit) : Type 0 where
-  pub stops : isGimp (ramp .kind) ≡ false
-  pub still-fine : checkOf (edited ramp e) ≡ Fine
-  pub same-min : minOf (edited ramp e) ≡ minOf ramp
-  pub same-max : maxOf (edited ramp e) ≡ maxOf ramp
-  pub agree : (t : Float) → away ramp e t ≡ true → colourOf ramp t ≡ colourOf (edited ramp e) t
-  pub as-many : length (edited ramp e .positions) ≡ stopsAfter (length (ramp .positions)) e
-  pub four : length (edited ramp e .channels) ≡ 4 * stopsAfter (length (ramp .positions)) e
 
 -- ---- the kinds
 of-stops : (kind : Kind) → refreshable kind ≡ true → isGimp kind ≡ false

@@ -19,6 +19,15 @@ use Rattle.editing.specs.declared.Edit.{Edit}
 use Rattle.editing.specs.declared.copy.Copied.{Copied}
 use Rattle.editing.specs.declared.copy.Copied.the-variants as copied
 
+-- the number of a refusal (0 for none), and the value beside it
+abbrev pub numberOfCopied : Copied → ℕ
+numberOfCopied (copied.Stops n) = 0
+numberOfCopied (copied.Refused n) = n
+
+abbrev pub stopsOfCopied : Copied → ℕ
+stopsOfCopied (copied.Stops n) = n
+stopsOfCopied (copied.Refused n) = 0
+
 -- as many stops as a ramp may have, four channels each, and room for one stop more
 unfoldable pub copyFits : ℕ → ℕ → ℕ → ℕ → Bool
 copyFits n m places colours = leb n mostStops && (eqb m (4 * n) && (ltb n places && leb (m + 4) colours))
@@ -28,8 +37,13 @@ module _ (kind : Kind) (ps cs : List Float) (e : Edit) (places colours : List Fl
   unfoldable pub copyCheck : Checked
   copyCheck = onFine (editAllowed kind ps e) (cond (copyFits (length ps) (length cs) (length places) (length colours)) checked.Fine (checked.Refused misshapen)) checked.Refused
 
+  unfoldable pub copyAnswer : Copied
+  copyAnswer = onFine copyCheck (copied.Stops (stopsAfter (length ps) e)) copied.Refused
+
   -- `copy`: the number of stops, and both lists written from the start; a refusal writes nothing
   pub record Copies (places′ colours′ : List Float) (r : Copied) : Type 0 where
-    pub answer : r ≡ onFine copyCheck (copied.Stops (stopsAfter (length ps) e)) copied.Refused
+    pub answer : r ≡ copyAnswer
+    pub number : numberOfCopied r ≡ numberOfCopied copyAnswer
+    pub stops : stopsOfCopied r ≡ stopsOfCopied copyAnswer
     pub written : places′ ≡ onFine copyCheck (sets places 0 (positionsAfter ps e)) (λ n. places)
     pub coloured : colours′ ≡ onFine copyCheck (sets colours 0 (channelsAfter cs e)) (λ n. colours)

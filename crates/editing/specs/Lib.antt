@@ -2,3 +2,4 @@ pub mod Edited
 pub mod Rules
 pub mod Reached
 pub mod Copied
+pub mod Sound

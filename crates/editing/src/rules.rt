@@ -10,6 +10,7 @@ use stops::Kind;
 use stops::is_finite_colour;
 use stops::item;
 ghost use mathlib.Core.Path.{_≡_};
+ghost use Rattle.stops.specs.Answers.{Checks};
 ghost use Rattle.stops.specs.Lent.{old};
 ghost use Rattle.editing.specs.Rules.{refreshable, movable, isInner, isNext, orderCheck, editAllowed};
 ghost use Rattle.editing.specs.declared.Edit.the-variants.{Colour, Move, Add, Remove};
@@ -141,7 +142,7 @@ fn check_remove(kind: Kind, positions: &[f32], stop: usize) -> Checked
 
 // The refusals of an edit of a ramp that is fine.
 pub fn check(kind: Kind, positions: &[f32], edit: Edit) -> Checked
-    ensures { λ r. ⌜ r ≡ editAllowed kind (old positions) edit ⌝ }
+    ensures { λ r. ⌜ Checks (editAllowed kind (old positions) edit) r ⌝ }
 {
     match edit {
         Edit::Colour { stop, colour } => check_colour(kind, positions, stop, colour),

@@ -19,3 +19,5 @@ pub mod Wholes
 pub mod Clamped
 pub mod Spans
 pub mod UnitSums
+pub mod Adjacent
+pub mod Neighbours

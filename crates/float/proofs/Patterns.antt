@@ -26,7 +26,7 @@ is-nan x h = differs-from-itself x (subst T (sym h) tt)
 pub number-pattern : (b : ℕ) → b % 2147483648 ≤ 2139095040 → T (not (nanBits binary32 b))
 number-pattern b h = subst (λ (x : Bool). T (not x)) (sym (nanBits-above binary32 b ∙ le-ltb 2139095040 (b % 2147483648) h)) tt
 
-only-nan : (x : Float) → isNan x ≡ true → x ≡ nan
+pub only-nan : (x : Float) → isNan x ≡ true → x ≡ nan
 unfolding isNan
 only-nan nan h = refl
 only-nan (inf s) h = absurd (subst T (sym h) tt)

@@ -12,7 +12,7 @@ use Rattle.float.specs.Number.{magnitudeOf}
 use Rattle.float.proofs.Patterns.{number-below}
 
 -- ---- whether a number fits does not turn on its sign
-fits-signed : (s t : Bool) (m : ℕ) (e : ℤ) → T (fits binary32 (fin s m e)) → T (fits binary32 (fin t m e))
+pub fits-signed : (s t : Bool) (m : ℕ) (e : ℤ) → T (fits binary32 (fin s m e)) → T (fits binary32 (fin t m e))
 unfolding fits
 fits-signed s t zero e h = h
 fits-signed s t (suc m) e h = h

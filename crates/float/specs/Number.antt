@@ -2,8 +2,8 @@
 use mathlib.Core.Bool.{false, cond}
 use lib.IntN.{ℤ, pos}
 use lib.Dec.{T}
-use lib.Ieee.{Float, nan, inf, fin, binary32, lt, neg, fits, ofInt, ofBits, toSigned}
-use Prim.Native.Nat.{ℕ}
+use lib.Ieee.{Float, nan, inf, fin, binary32, eq, lt, neg, fits, ofInt, ofBits, toBits, toSigned}
+use Prim.Native.Nat.{ℕ, _+_, _-_}
 use Rattle.float.specs.F32.{f0, f1}
 
 -- the sign cleared
@@ -23,6 +23,16 @@ wholeOf x = toSigned 63 x
 -- a whole number as an f32
 abbrev pub countOf : ℕ → Float
 countOf i = ofInt binary32 (pos i)
+
+-- the f32 just above a number; above 0, whatever its sign, is the least of all; above infinity and not-a-number is not-a-number
+unfoldable pub aboveOf : Float → Float
+aboveOf x =
+    cond (eq x f0) (ofBits binary32 1)
+    (cond (lt x f0) (neg (ofBits binary32 (toBits binary32 (magnitudeOf x) - 1))) (ofBits binary32 (toBits binary32 (magnitudeOf x) + 1)))
+
+-- and just below it
+unfoldable pub belowOf : Float → Float
+belowOf x = neg (aboveOf (neg x))
 
 -- below 2 ^ 127 in size, so that the sum of two is finite
 abbrev pub top : Float

@@ -4,13 +4,16 @@ ghost use Prim.Native.Nat.{_^_, _≤_};
 ghost use lib.Ieee.{binary32, ofBits, toBits, toUnsigned};
 ghost use lib.Ieee.Nearest.{closest};
 ghost use lib.Ieee.Scale.{finite};
-ghost use Rattle.float.specs.Number.{magnitudeOf, clampOf, wholeOf, countOf};
+ghost use Rattle.float.specs.Number.{magnitudeOf, clampOf, wholeOf, countOf, aboveOf, belowOf};
 
 // The weight of the exponent's field in a pattern.
 const FIELD: u32 = 0x0080_0000;
 
 // The weight of the sign: the pattern of -0.
 const SIGN: u32 = 0x8000_0000;
+
+// The pattern of the infinity.
+const INFINITY: u32 = 0x7f80_0000;
 
 // Neither a NaN nor an infinity: zero times it is zero.
 pub fn is_finite(x: f32) -> bool
@@ -128,4 +131,31 @@ pub fn to_bits(x: f32) -> u32
         return 2143289344;
     }
     f32::to_bits(x)
+}
+
+// The f32 just above x, from its pattern at once; above 0 it is the least of all, above infinity and a NaN there is none.
+pub fn above(x: f32) -> f32
+    ensures { λ r. ⌜ r ≡ aboveOf x ⌝ }
+{
+    if 0.0 < x {
+        let bits = f32::to_bits(x);
+        if bits == INFINITY {
+            return 0.0 / 0.0;
+        }
+        return f32::from_bits(bits + 1);
+    }
+    if x < 0.0 {
+        return -f32::from_bits(f32::to_bits(x) - SIGN - 1);
+    }
+    if x == 0.0 {
+        return f32::from_bits(1);
+    }
+    0.0 / 0.0
+}
+
+// The f32 just below x.
+pub fn below(x: f32) -> f32
+    ensures { λ r. ⌜ r ≡ belowOf x ⌝ }
+{
+    -above(-x)
 }

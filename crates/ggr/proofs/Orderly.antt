@@ -20,7 +20,7 @@ use Rattle.gradient.specs.Joined.{Joined, Inside}
 use Rattle.gradient.proofs.NoGap.{no-gap}
 use Rattle.segment.specs.Store.{Store, segmentPositions}
 use Rattle.ggr.specs.declared.Answer.the-variants.{Read}
-use Rattle.ggr.specs.File.{FileRead, found, joins, fileOf, flat, storeLeft, roomIn, Reading}
+use Rattle.ggr.specs.File.{FileRead, found, joins, fileOf, flat, storeLeft, roomIn, Reading, positionsLeft}
 use Rattle.ggr.proofs.Filling.{flat-length, each-p}
 use Rattle.ggr.proofs.Given.{orderly, given, found-by}
 
@@ -106,10 +106,6 @@ joined (g ∷ gs) l h =
       middle-before = λ i q. middles f0 (g ∷ gs) i h (omega (arith, e)) .1;
       joint = λ i q. joints f0 (g ∷ gs) i h (omega (arith, e));
     }
-
--- the positions of n segments that a call has left
-abbrev pub positionsLeft : ℕ → Change Store → List Float
-positionsLeft n store = take (3 * n) (store .exit .positions)
 
 module _ (fg bg : Rgba) (s : List ℕ) (store : Change Store) (n : ℕ) (w : Reading fg bg s store (Read n)) where
   left-of : (gs : List Segment) → fileOf (roomIn (store .entry)) fg bg s ≡ found gs → length gs ≡ n → positionsLeft n store ≡ positionsOf gs

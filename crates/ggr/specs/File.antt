@@ -1,9 +1,9 @@
 -- A GIMP file as a whole: what reading it answers and writes, and its name. Document 01, 'What a GIMP file may hold' and 'When the desk says no'; document 02 (iii).
-use Prim.Native.Nat.{ℕ, zero, suc, _-_, _/_, min}
+use Prim.Native.Nat.{ℕ, zero, suc, _-_, _*_, _/_, min}
 use mathlib.Core.Path.{_≡_}
 use mathlib.Core.Bool.{Bool, cond, _&&_}
 use mathlib.Core.List.{List, [], _∷_, _++_}
-use lib.ListN.{length, drop, replicate}
+use lib.ListN.{length, take, drop, replicate}
 use lib.Dec.{leb}
 use lib.Ieee.{Float, le, eq}
 use Rattle.refusals.specs.Refusals.{notFinite, notAText, fewLines, torn}
@@ -137,6 +137,10 @@ pub record Done (o : FileRead) (store : Change Store) (r : Answer) : Type 0 wher
 -- the promise of reading the text s
 abbrev pub Reading : Rgba → Rgba → List ℕ → Change Store → Answer → Type 0
 Reading fg bg s store r = Done (fileOf (roomIn (store .entry)) fg bg s) store r
+
+-- the positions of n segments that it has left
+abbrev pub positionsLeft : ℕ → Change Store → List Float
+positionsLeft n store = take (3 * n) (store .exit .positions)
 
 -- ---- the name: the trimmed part of line 2, empty wherever reading with room 256 and finite colours refuses
 

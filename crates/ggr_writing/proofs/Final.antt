@@ -20,7 +20,7 @@ use Rattle.writing.proofs.Lengths.{few-digits}
 use Rattle.writing.proofs.Texts.{puts-then, from-as, whole, puts-size}
 use Rattle.ggr_writing.specs.declared.WriteAnswer.{WriteAnswer}
 use Rattle.ggr_writing.specs.declared.WriteAnswer.the-variants.{Written, Refused}
-use Rattle.ggr_writing.specs.File.{segmentsFrom, segmentsOf, segmentText, segmentsText, fileText, heading, shapedList, rises, canWrite, FileWritten, text, refused, cleared, withRoom, fileWrittenOf, writeAnswerOf, leftIn, WritesAs, longestLine}
+use Rattle.ggr_writing.specs.File.{segmentsFrom, segmentsOf, segmentText, segmentsText, fileText, heading, shapedList, rises, canWrite, FileWritten, text, refused, cleared, withRoom, fileWrittenOf, writeAnswerOf, numberOfWriteAnswer, bytesOfWriteAnswer, leftIn, WritesAs, longestLine}
 use Rattle.ggr_writing.proofs.Texts.{length-segment}
 
 -- ---- a file's parts
@@ -59,7 +59,7 @@ file-put ps cs e h p q s t k =
 
 -- ---- the ends
 done-as : {o p : FileWritten} {old new : List ℕ} {r : WriteAnswer} → o ≡ p → r ≡ writeAnswerOf p → new ≡ leftIn p old → WritesAs o (change old new) r
-done-as e a l = rw e (record { answer = a; left = l })
+done-as e a l = rw e (record { answer = a; number = ap numberOfWriteAnswer a; bytes = ap bytesOfWriteAnswer a; left = l })
 
 module _ (ps cs : List Float) (old : List ℕ) where
   abbrev o : FileWritten

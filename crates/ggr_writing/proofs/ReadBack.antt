@@ -6,8 +6,8 @@ use Prim.Native.Nat.{ℕ, zero, suc, _+_, _-_, _*_, _≤_, _<_}
 use native.Mathlib.Nat.{zero-add}
 use native.Mathlib.Omega.{arith}
 use lib.Dec.{T, leb}
-use lib.ListN.{length, getD}
-use lib.Ieee.{Float, nan, inf, binary32, fits, le, eq}
+use lib.ListN.{length}
+use lib.Ieee.{Float, inf, binary32, le, eq}
 use lib.Ieee.Fits.{div-fits}
 use borrow.Author.Needs.{needs}
 use borrow.Author.Tests.{le-leb}
@@ -29,7 +29,7 @@ use Rattle.header.specs.Head.{counts, fails, orEmpty, textLines, fromCount, cou
 use Rattle.ggr.specs.File.{found, refused, joins, joinedTo, before, addSegment, segmentLines, fromHead, fitText, fileOf}
 use Rattle.numerals.specs.Written.{writable}
 use Rattle.writing.specs.Printed.{countText}
-use Rattle.ggr_writing.specs.File.{segmentBetween, segmentsFrom, segmentsOf, segmentsText, fileText, heading, listName, rises, writableColour, writableSegment, writableFrom, canWrite}
+use Rattle.ggr_writing.specs.File.{segmentBetween, segmentsFrom, segmentsOf, segmentsText, fileText, heading, listName, rises, writableColour, writableSegment, writableFrom, canWrite, Singles}
 use Rattle.ggr_writing.proofs.Parts.{Shown, shown-ascii, lines-line, count-read, count-shown}
 use Rattle.ggr_writing.proofs.Row.{Single, lineOf, line-is, line-shown, line-read, sound-colours}
 use Rattle.ggr_writing.proofs.Orders.{writable-number, writable-within, rises-at, mid-high, mid-low}
@@ -43,11 +43,6 @@ step fg bg n line end l ls g gs e j r =
     ap (λ (o : SegmentRead). addSegment line (joinedTo end o) (λ h. segmentLines fg bg n (suc line) (h .right) ls)) e
     ∙ ap (λ (b : Bool). addSegment line (cond b (Valid g) (Fault torn)) (λ h. segmentLines fg bg n (suc line) (h .right) ls)) j
     ∙ ap (before g) r
-
--- the lists are of f32
-pub record Singles (ps cs : List Float) : Type 0 where
-  pub positions : (i : ℕ) → T (fits binary32 (getD ps i nan))
-  pub channels : (i : ℕ) → T (fits binary32 (getD cs i nan))
 
 module _ (fg bg : Rgba) (ps cs : List Float) (one : Singles ps cs) (up : rises (inf true) ps ≡ true) where
   abbrev between : ℕ → Segment

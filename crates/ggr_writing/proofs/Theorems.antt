@@ -20,9 +20,9 @@ use Rattle.ggr.specs.declared.Answer as ggr-answer
 use Rattle.ggr.specs.declared.Answer.the-variants.{Read}
 use Rattle.ggr_writing.specs.declared.WriteAnswer.{WriteAnswer}
 use Rattle.ggr_writing.specs.declared.WriteAnswer.the-variants.{Written, Refused}
-use Rattle.ggr_writing.specs.File.{segmentsOf, fileText, shapedList, rises, canWrite, FileWritten, text, refused, cleared, withRoom, fileWrittenOf, writeAnswerOf, leftIn, enoughBytes, Writes}
+use Rattle.ggr_writing.specs.File.{segmentsOf, fileText, shapedList, rises, canWrite, FileWritten, text, refused, cleared, withRoom, fileWrittenOf, writeAnswerOf, leftIn, enoughBytes, Writes, Singles}
 use Rattle.ggr_writing.proofs.Final.{length-segments, length-file, shaped-few}
-use Rattle.ggr_writing.proofs.ReadBack.{Singles, file-read}
+use Rattle.ggr_writing.proofs.ReadBack.{file-read}
 
 -- ---- a success: every check was passed, and the text is written
 record Success (room : ℕ) (ps cs : List Float) : Type 0 where

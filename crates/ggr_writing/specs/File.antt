@@ -3,9 +3,9 @@ use Prim.Native.Nat.{ℕ, zero, suc, _+_, _-_, _*_}
 use mathlib.Core.Path.{_≡_}
 use mathlib.Core.Bool.{Bool, true, not, cond, _&&_}
 use mathlib.Core.List.{List, [], _∷_, _++_}
-use lib.ListN.{length, drop, replicate}
-use lib.Dec.{leb, eqb}
-use lib.Ieee.{Float, inf, lt, eq}
+use lib.ListN.{length, drop, replicate, getD}
+use lib.Dec.{T, leb, eqb}
+use lib.Ieee.{Float, nan, inf, binary32, fits, lt, eq}
 use Rattle.refusals.specs.Refusals.{misshapen, falling, noRoom, unwritable}
 use Rattle.refusals.specs.Limits.{mostWritten}
 use Rattle.float.specs.F32.{_⊕_, _⊘_, f0, f1, f2}
@@ -139,9 +139,11 @@ leftIn (text t) old = t ++ drop (length t) old
 leftIn (refused number) old = old
 leftIn (cleared number) old = replicate (length old) 0
 
--- the answer, and the final contents of the output
+-- the answer with its number and its value, and the final contents of the output
 pub record WritesAs (o : FileWritten) (out : Change (List ℕ)) (r : WriteAnswer) : Type 0 where
   pub answer : r ≡ writeAnswerOf o
+  pub number : numberOfWriteAnswer r ≡ numberOfWriteAnswer (writeAnswerOf o)
+  pub bytes : bytesOfWriteAnswer r ≡ bytesOfWriteAnswer (writeAnswerOf o)
   pub left : out .exit ≡ leftIn o (out .entry)
 
 -- the bytes of a segment's line at most: 11 numbers of 18 bytes, each with a space, and the two codes
@@ -155,3 +157,8 @@ enoughBytes n = 34 + longestLine * (n - 1)
 -- the promise of writing a list
 abbrev pub Writes : List Float → List Float → Change (List ℕ) → WriteAnswer → Type 0
 Writes ps cs out r = WritesAs (fileWrittenOf (length (out .entry)) ps cs) out r
+
+-- the lists are of f32, as all that are lent: what reading back what was written assumes of them
+pub record Singles (ps cs : List Float) : Type 0 where
+  pub positions : (i : ℕ) → T (fits binary32 (getD ps i nan))
+  pub channels : (i : ℕ) → T (fits binary32 (getD cs i nan))

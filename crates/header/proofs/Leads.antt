@@ -16,22 +16,25 @@ use Rattle.text.proofs.Lines.{no-lines, some-lines}
 use Rattle.header.specs.declared.Lead.{Lead}
 use Rattle.header.specs.declared.Lead.the-variants.{Counted, Refuse}
 use Rattle.header.specs.Head.{orEmpty, textLines, segmentCount, Head, counts, fails, fromCount, counted, fromThird, fromSecond, fromLines, title, nameTag}
-use Rattle.header.specs.Leads.{nextAt, leadOf, headBy, leadFits, LeadsTo, Leads}
+use Rattle.header.specs.Leads.{nextAt, leadOf, numberOfLead, lineOfLead, segmentsOfLead, headBy, leadFits, LeadsTo, Leads}
 use Rattle.header.specs.inner.Steps.{SecondLeads, ThirdLeads}
 
 -- ---- an answer of each kind
 module _ (room fourth : ℕ) (s : List ℕ) (h : Head) where
+  leads : {r : Lead} → r ≡ leadOf h fourth → h ≡ headBy r s → leadFits room r → LeadsTo room h fourth s r
+  leads e f g = record { is = e; number = ap numberOfLead e; line = ap lineOfLead e; segments = ap segmentsOfLead e; same = f; fits = g }
+
   refuses : (a b : ℕ) → h ≡ fails a b → LeadsTo room h fourth s (Refuse a b)
   unfolding leadOf headBy leadFits
-  refuses a b e = record { is = sym (ap (λ (x : Head). leadOf x fourth) e); same = e; fits = tt }
+  refuses a b e = leads (sym (ap (λ (x : Head). leadOf x fourth) e)) e tt
 
   takes : (n at : ℕ) (ls : List (List ℕ)) → h ≡ counts n ls → lines (drop at s) ≡ ls → at ≡ fourth → n ≤ mostSegments → n ≤ room → LeadsTo room h fourth s (Counted n at)
   unfolding leadOf headBy leadFits
-  takes n at ls e f g a b = record { is = ap (Counted n) g ∙ sym (ap (λ (x : Head). leadOf x fourth) e); same = e ∙ ap (counts n) (sym f); fits = (a, b) }
+  takes n at ls e f g a b = leads (ap (Counted n) g ∙ sym (ap (λ (x : Head). leadOf x fourth) e)) (e ∙ ap (counts n) (sym f)) (a, b)
 
   -- of another head and place that are the same
   leads-as : (h' : Head) (f : ℕ) → h ≡ h' → f ≡ fourth → (r : Lead) → LeadsTo room h' f s r → LeadsTo room h fourth s r
-  leads-as h' f e g r l = record { is = l .is ∙ ap (λ (x : Head). leadOf x f) (sym e) ∙ ap (leadOf h) g; same = e ∙ l .same; fits = l .fits }
+  leads-as h' f e g r l = leads (l .is ∙ ap (λ (x : Head). leadOf x f) (sym e) ∙ ap (leadOf h) g) (e ∙ l .same) (l .fits)
 
 -- ---- line 3
 some-count : (n : ℕ) → (n ≡ 0 → ⊥) → (ls : List (List ℕ)) → fromCount n ls ≡ counts n ls

@@ -23,6 +23,19 @@ unfoldable pub leadOf : Head → ℕ → Lead
 leadOf (counts n ls) at = Counted n at
 leadOf (fails number line) at = Refuse number line
 
+-- the number of a refusal (0 for none), its line, and the value beside them
+abbrev pub numberOfLead : Lead → ℕ
+numberOfLead (Counted n at) = 0
+numberOfLead (Refuse number line) = number
+
+abbrev pub lineOfLead : Lead → ℕ
+lineOfLead (Counted n at) = 0
+lineOfLead (Refuse number line) = line
+
+abbrev pub segmentsOfLead : Lead → ℕ
+segmentsOfLead (Counted n at) = n
+segmentsOfLead (Refuse number line) = 0
+
 -- and an answer as a head
 unfoldable pub headBy : Lead → List ℕ → Head
 headBy (Refuse number line) s = fails number line
@@ -35,6 +48,9 @@ leadFits room (Counted n at) = (n ≤ mostSegments) × (n ≤ room)
 -- r is the answer for the head h of the text s, whose line 4 starts at `fourth`; a count fits its limits
 pub record LeadsTo (room : ℕ) (h : Head) (fourth : ℕ) (s : List ℕ) (r : Lead) : Type 0 where
   pub is : r ≡ leadOf h fourth
+  pub number : numberOfLead r ≡ numberOfLead (leadOf h fourth)
+  pub line : lineOfLead r ≡ lineOfLead (leadOf h fourth)
+  pub segments : segmentsOfLead r ≡ segmentsOfLead (leadOf h fourth)
   pub same : h ≡ headBy r s
   pub fits : leadFits room r
 

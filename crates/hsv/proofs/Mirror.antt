@@ -8,12 +8,12 @@ use native.Mathlib.Nat.{zero-mul}
 use lib.Dec.{ltb}
 use lib.Ieee.{Float, nan, inf, fin, up, down, round, add, sub, div, rem, neg, lt, ofBits}
 use borrow.Author.Tests.{le-ltb}
-use Rattle.float.specs.F32.{_⊕_, _⊖_, _⊗_, _⊘_, f0, f2}
+use Rattle.float.specs.F32.{_⊕_, _⊖_, _⊗_, _⊘_, f2}
 use Rattle.blend.specs.declared.Rgba.{Rgba}
 use Rattle.hsv.specs.declared.Hsva.{Hsva}
 use Rattle.blend.specs.Blend.{linear1}
 use Rattle.hsv.specs.There.{sixth, hsvaOf}
-use Rattle.hsv.specs.Circle.{turn, way, downHue}
+use Rattle.hsv.specs.Circle.{turn, way, downHue, sourceHue}
 use Rattle.hsv.specs.Back.{angleOf, intoSix, channelOf, channelsAround, upperOf, fromLightness, lightened, rgbaOf}
 use Rattle.hsv.specs.Mix.{mixedAt, mixedBy, clockwise}
 use Rattle.hsv.proofs.SignedSums.{neg-neg, lt-neg, o, Mirror, add-mirror, sub-mirror}
@@ -50,12 +50,6 @@ lt-zero nan = refl
 lt-zero (inf s) = refl
 lt-zero (fin true m e) = below-none (m * up e * 1) (0 * down e) (zero-mul (down e))
 lt-zero (fin false m e) = not-below (m * up e * 1) (0 * down e) (zero-mul (down e))
-
--- the published steps, from h1 down to h2
-pub sourceHue : Float → Float → Float → Float
-sourceHue h1 h2 t =
-    let h = h1 ⊖ (turn ⊖ (h2 ⊖ h1)) ⊗ t in
-    cond (lt h2 h1) (h1 ⊖ (h1 ⊖ h2) ⊗ t) (cond (lt h f0) (h ⊕ turn) h)
 
 -- taken back, or not
 backed : (h g : Float) → Mirror h g → Alike (neg (cond (lt o g) (g ⊖ turn) g)) (cond (lt h o) (h ⊕ turn) h)

@@ -21,3 +21,9 @@ upHue from to t = way from to turn t
 -- clockwise is the mirror: hues rise from -360 to 0
 unfoldable pub downHue : Float → Float → Float → Float
 downHue from to t = neg (way (neg from) (neg to) f0 t)
+
+-- the source's own steps for clockwise, to which a theorem holds the mirror (proofs/Mirror)
+unfoldable pub sourceHue : Float → Float → Float → Float
+sourceHue from to t =
+    let h = from ⊖ (turn ⊖ (to ⊖ from)) ⊗ t in
+    cond (lt to from) (from ⊖ (from ⊖ to) ⊗ t) (cond (lt h f0) (h ⊕ turn) h)

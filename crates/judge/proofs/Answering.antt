@@ -1,16 +1,15 @@
 -- The answers, from what the functions within promise. Assumes nothing.
-use mathlib.Core.Path.{_≡_, refl, sym, ap, _∙_}
-use mathlib.Core.Bool.{Bool, true, false, not, cond}
-use mathlib.Core.List.{List}
+use mathlib.Core.Path.{_≡_, sym, ap, _∙_}
+use mathlib.Core.Bool.{Bool, true, false, cond}
+use mathlib.Core.List.{List, [], _∷_}
 use Prim.Native.Nat.{ℕ, _+_, _-_, _*_, _≤_, _<_}
 use native.Mathlib.Omega.{arith}
-use lib.Dec.{ltb}
+use types.Run.{OneOf}
+use denote.Enum.Declared.{tagOf}
 use lib.ListN.{length, getD}
-use lib.Ieee.{Float, nan, le, eq, ne}
-use borrow.Author.Tests.{lt-ltb, le-ltb, not-true, not-false}
+use lib.Ieee.{Float, nan, le}
 use Rattle.blend.specs.declared.Rgba.{Rgba}
 use Rattle.stops.specs.Lent.{Ramp}
-use Rattle.stops.specs.Stops.{posAt}
 use Rattle.stops.specs.declared.Checked.the-variants as checked
 use Rattle.stops.specs.declared.Checked.the-variants.{Fine}
 use Rattle.stops.specs.Place.{placeIn}
@@ -24,15 +23,17 @@ use Rattle.sampling.specs.Lent.{Held}
 use Rattle.sampling.specs.Sampling.{fresh}
 use Rattle.sampling.proofs.Checks.{ramp-fine}
 use Rattle.difference.specs.Difference.{distanceOf}
-use Rattle.judge.specs.Lists.{Offer, sized, firstBad, offeredRamp}
-use Rattle.judge.specs.Verdicts.{numberOfVerdict, rampCheck, close, farIn, rowsVerdict, allVerdict, pointCount, freshPoint, closeAt, pointsVerdict, endsVerdict, listVerdict, verdictOf}
+use Rattle.judge.specs.Lists.{Offer, offeredRamp}
+use Rattle.judge.specs.Verdicts.{numberOfVerdict, rampCheck, close, farIn, rowsVerdict, allVerdict, pointCount, freshPoint, closeAt, shapeVerdict, pointsVerdict, listVerdict, verdictOf}
 use Rattle.judge.specs.inner.Steps.{Sound, Readable, anyClose, farFrom, recordVerdict}
 use Rattle.judge.specs.declared.Verdict.{Verdict}
-use Rattle.judge.specs.declared.Verdict.the-variants.{Yes, WrongLength, BadStop, WrongFirst, WrongLast, TooFar, Refused}
+use Rattle.judge.specs.declared.Verdict.the-variants.{Yes, TooFar, Refused}
 use Rattle.judge.specs.Promises.{Judges}
 use Rattle.judge.proofs.Listing.{offered-any, offered-colour}
-use Rattle.judge.proofs.Walking.{begun, stops-at, goes-past, all-past, pick-number, all-number}
+use Rattle.judge.proofs.Walking.{begun, stops-at, goes-past, all-past, all-number}
 use Rattle.judge.proofs.Sampled.{fresh-points}
+use Rattle.judge.proofs.Verdict.{the-type}
+use Rattle.judge.proofs.Shaping.{other-than-yes, shape-number, Shaped, shape-yes, yes-shape, shape-no}
 
 -- ---- one point
 pub close-is : (ramp : Ramp) (offer : Offer) (threshold t : Float) {d : Float} {x y : Rgba} → x ≡ anyColour ramp t
@@ -91,74 +92,29 @@ module _ (ramp : Ramp) (asked : Float) (offer : Offer) where
       ∙ fresh-points ramp asked is e (closeAt ramp asked offer) max
       ∙ ap (allVerdict (closeAt ramp asked offer) (pointCount ramp asked) (freshPoint ramp asked)) q
 
--- ---- values that are compared
-ne-is : (x y : Float) → ne x y ≡ not (eq x y)
-unfolding ne
-ne-is x y = refl
+-- ---- a no is no refusal
+list-number : (ramp : Ramp) (asked : Float) (offer : Offer) → numberOfVerdict (listVerdict ramp asked offer) ≡ 0
+unfolding listVerdict pointsVerdict
+list-number ramp asked offer =
+    shape-number (minOf ramp) (maxOf ramp) offer (allVerdict (closeAt ramp asked offer) (pointCount ramp asked) (freshPoint ramp asked) (maxOf ramp))
+    (all-number (closeAt ramp asked offer) (pointCount ramp asked) (freshPoint ramp asked) (maxOf ramp))
 
-equal : (x y z : Float) → y ≡ z → ne x y ≡ false → eq x z ≡ true
-equal x y z e h = not-false (eq x z) (sym (ne-is x z) ∙ rw e at h)
+-- ---- a list: its shape, then its colours
+module _ (ramp : Ramp) (asked : Float) (offer : Offer) {lo hi : Float} {v : Verdict}
+    (p : lo ≡ minOf ramp) (q : hi ≡ maxOf ramp) (e : v ≡ shapeVerdict lo hi offer Yes) where
+  at-ends : v ≡ shapeVerdict (minOf ramp) (maxOf ramp) offer Yes
+  at-ends = rw (p, q) at e
 
-equal-not : (x y z : Float) → y ≡ z → ne x y ≡ true → eq x z ≡ false
-equal-not x y z e h = not-true (eq x z) (sym (ne-is x z) ∙ rw e at h)
+  list-shaped : v ≡ Yes → Shaped (minOf ramp) (maxOf ramp) offer
+  list-shaped y = shape-yes (minOf ramp) (maxOf ramp) offer Yes (sym at-ends ∙ y) .0
 
--- ---- a list, test by test
-module _ (ramp : Ramp) (asked : Float) (offer : Offer) where
-  abbrev ps : List Float
-  ps = offer .positions
-
-  abbrev isSized : Bool
-  isSized = sized (length ps) (length (offer .channels))
-
-  -- ---- its ends
-  ends-first : eq (posAt ps 0) (minOf ramp) ≡ false → endsVerdict ramp asked offer ≡ WrongFirst
-  unfolding endsVerdict
-  ends-first h = rw h
-
-  module _ (h : eq (posAt ps 0) (minOf ramp) ≡ true) where
-    ends-last : eq (posAt ps (length ps - 1)) (maxOf ramp) ≡ false → endsVerdict ramp asked offer ≡ WrongLast
-    unfolding endsVerdict
-    ends-last l = rw (h, l)
-
-    pub ends-both : eq (posAt ps (length ps - 1)) (maxOf ramp) ≡ true → endsVerdict ramp asked offer ≡ pointsVerdict ramp asked offer
-    unfolding endsVerdict
-    ends-both l = rw (h, l)
-
-  -- ---- a no is no refusal
-  ends-number : numberOfVerdict (endsVerdict ramp asked offer) ≡ 0
-  unfolding endsVerdict pointsVerdict
-  ends-number =
-      pick-number (eq (posAt ps 0) (minOf ramp)) _ WrongFirst
-      (pick-number (eq (posAt ps (length ps - 1)) (maxOf ramp)) _ WrongLast (all-number (closeAt ramp asked offer) (pointCount ramp asked) (freshPoint ramp asked) (maxOf ramp)) refl) refl
-
-  pub list-number : numberOfVerdict (listVerdict ramp asked offer) ≡ 0
+  pub list-coloured : v ≡ Yes → {w : Verdict} → w ≡ pointsVerdict ramp asked offer → w ≡ listVerdict ramp asked offer
   unfolding listVerdict
-  list-number = pick-number isSized _ WrongLength (pick-number (ltb (firstBad offer) (length ps)) (BadStop (firstBad offer)) _ refl ends-number) refl
+  list-coloured y f = f ∙ sym (yes-shape (minOf ramp) (maxOf ramp) offer (pointsVerdict ramp asked offer) (list-shaped y))
 
-  -- ---- its length and its stops
-  pub wrong-length : isSized ≡ false → WrongLength ≡ listVerdict ramp asked offer
+  pub list-misshapen : OneOf (1 ∷ 2 ∷ 3 ∷ 4 ∷ 5 ∷ 6 ∷ []) (tagOf the-type v) → v ≡ listVerdict ramp asked offer
   unfolding listVerdict
-  wrong-length h = rw h
-
-  module _ (s : isSized ≡ true) (k : ℕ) (e : k ≡ firstBad offer) where
-    pub bad-stop : k < length ps → BadStop k ≡ listVerdict ramp asked offer
-    unfolding listVerdict
-    bad-stop l = rw (s, ← e, lt-ltb k (length ps) l)
-
-    module _ (past : length ps ≤ k) where
-      to-ends : listVerdict ramp asked offer ≡ endsVerdict ramp asked offer
-      unfolding listVerdict
-      to-ends = rw (s, ← e, le-ltb k (length ps) past)
-
-      pub wrong-first : {lo : Float} → lo ≡ minOf ramp → ne (posAt ps 0) lo ≡ true → WrongFirst ≡ listVerdict ramp asked offer
-      wrong-first p h = sym (to-ends ∙ ends-first (equal-not _ _ _ p h))
-
-      module _ {lo : Float} (p : lo ≡ minOf ramp) (h : ne (posAt ps 0) lo ≡ false) {hi : Float} (q : hi ≡ maxOf ramp) where
-        pub wrong-last : ne (posAt ps (length ps - 1)) hi ≡ true → WrongLast ≡ listVerdict ramp asked offer
-        wrong-last l = sym (to-ends ∙ ends-last (equal _ _ _ p h) (equal-not _ _ _ q l))
-
-        pub to-points : ne (posAt ps (length ps - 1)) hi ≡ false → {v : Verdict} → v ≡ pointsVerdict ramp asked offer → v ≡ listVerdict ramp asked offer
-        to-points l f = f ∙ sym (to-ends ∙ ends-both (equal _ _ _ p h) (equal _ _ _ q l))
+  list-misshapen o = at-ends ∙ shape-no (minOf ramp) (maxOf ramp) offer (pointsVerdict ramp asked offer) (λ y. other-than-yes v o (at-ends ∙ sym y))
 
 -- ---- the call
 module _ (ramp : Ramp) (asked : Float) (offer : Offer) where

@@ -118,8 +118,8 @@ module _ (offer : Offer) where
       after : (j : ℕ) → lt (posAt ps (suc j)) (posAt ps (suc j - 1)) ≡ false → lt (posAt ps (suc j)) (posAt ps j) ≡ false
       after j e = let k : suc j - 1 ≡ j = omega arith in rw k at e
 
-  pub sound : sized (length ps) (length cs) ≡ true → (k : ℕ) → k ≡ firstBad offer → length ps ≤ k → Sound offer
-  sound s k e h = record { least = size (length ps) (length cs) s .least; rising = rising (omega (arith, e)) }
+  pub sound : sized (length ps) (length cs) ≡ true → length ps ≤ firstBad offer → Sound offer
+  sound s h = record { least = size (length ps) (length cs) s .least; rising = rising h }
 
   pub all-good : ((i : ℕ) → i < length ps → goodStop ps cs i ≡ true) → firstBad offer ≡ length ps
   unfolding firstBad

@@ -1,13 +1,12 @@
 -- The theorems of the call: yes is answered exactly where the list stands; and lists with the same stops get one answer, whoever made them. Assumes nothing.
-use mathlib.Core.Path.{_≡_, refl, sym, ap, ap₂, _∙_}
-use mathlib.Core.Bool.{Bool, true, false, cond}
+use mathlib.Core.Path.{_≡_, refl, sym, ap, _∙_}
+use mathlib.Core.Bool.{true}
 use mathlib.Core.List.{List}
-use Prim.Native.Nat.{ℕ, _+_, _-_, _≤_, _<_}
+use mathlib.Core.Logic.{⊎-elim}
+use Prim.Native.Nat.{ℕ, _+_, _-_, _<_}
 use native.Mathlib.Omega.{arith}
-use borrow.Author.Tests.{ltb-false, le-ltb}
-use lib.Dec.{ltb}
 use lib.ListN.{length, getD}
-use lib.Ieee.{Float, nan, eq}
+use lib.Ieee.{Float, nan}
 use lib.Ieee.Bits.{is-true}
 use Rattle.float.proofs.Order.{as-T, le→not-lt}
 use Rattle.stops.specs.Answers.{onFine}
@@ -19,41 +18,20 @@ use Rattle.gradient.specs.Ramp.{minOf, maxOf, colourOf}
 use Rattle.difference.specs.Difference.{differs}
 use Rattle.sampling.specs.Cells.{edgeOf, pointsOf}
 use Rattle.sampling.specs.Constants.{thresholdOf}
-use Rattle.judge.specs.Lists.{Offer, sized, goodStop, firstBad, offeredRamp}
-use Rattle.judge.specs.Verdicts.{rampCheck, close, allVerdict, pointCount, freshPoint, closeAt, pointsVerdict, endsVerdict, listVerdict, verdictOf}
+use Rattle.judge.specs.Lists.{Offer, goodStop, offeredRamp}
+use Rattle.judge.specs.Verdicts.{rampCheck, close, allVerdict, pointCount, freshPoint, closeAt, shapeVerdict, pointsVerdict, listVerdict, verdictOf}
 use Rattle.judge.specs.Conditions.{Near, Stands, SameStops}
 use Rattle.judge.specs.Promises.{Judges}
 use Rattle.judge.specs.declared.Verdict.{Verdict}
-use Rattle.judge.specs.declared.Verdict.the-variants.{Yes, WrongLength, BadStop, WrongFirst, WrongLast, Refused}
+use Rattle.judge.specs.declared.Verdict.the-variants.{Yes, Refused}
 use Rattle.judge.proofs.Listing.{size, from-size, holds, each-good, rising, all-good}
 use Rattle.judge.proofs.Walking.{all-yes, yes-all}
-use Rattle.judge.proofs.Answering.{wrong-length}
-use Rattle.judge.proofs.Stopwise.{same-offer}
-
--- ---- which way led to yes
-taken : (b : Bool) (x y : Verdict) → (y ≡ Yes → ⊥) → cond b x y ≡ Yes → (b ≡ true) × (x ≡ Yes)
-taken true x y never e = (refl, e)
-taken false x y never e = absurd (never e)
-
-left : (b : Bool) (x y : Verdict) → (x ≡ Yes → ⊥) → cond b x y ≡ Yes → (b ≡ false) × (y ≡ Yes)
-left true x y never e = absurd (never e)
-left false x y never e = (refl, e)
+use Rattle.judge.proofs.Shaping.{wrong-length, Shaped, shape-yes, yes-shape}
+use Rattle.judge.proofs.Stopwise.{same-or-unsized}
 
 fine-of : (c : Checked) (x : Verdict) → onFine c x Refused ≡ Yes → (c ≡ checked.Fine) × (x ≡ Yes)
 fine-of checked.Fine x e = (refl, e)
 fine-of (checked.Refused n) x e = let z : _≡_ {A = ℕ} 0 1 = cc in absurd (omega arith)
-
-no-length : WrongLength ≡ Yes → ⊥
-no-length e = let z : _≡_ {A = ℕ} 0 1 = cc in omega arith
-
-no-stop : (k : ℕ) → BadStop k ≡ Yes → ⊥
-no-stop k e = let z : _≡_ {A = ℕ} 0 1 = cc in omega arith
-
-no-first : WrongFirst ≡ Yes → ⊥
-no-first e = let z : _≡_ {A = ℕ} 0 1 = cc in omega arith
-
-no-last : WrongLast ≡ Yes → ⊥
-no-last e = let z : _≡_ {A = ℕ} 0 1 = cc in omega arith
 
 module _ (ramp : Ramp) (asked : Float) (offer : Offer) where
   abbrev n : ℕ
@@ -65,25 +43,19 @@ module _ (ramp : Ramp) (asked : Float) (offer : Offer) where
   -- the tests that were passed
   record Passed : Type 0 where
     fine : rampCheck ramp ≡ checked.Fine
-    long : sized n m ≡ true
-    stops : n ≤ firstBad offer
-    first : eq (posAt (offer .positions) 0) (minOf ramp) ≡ true
-    last : eq (posAt (offer .positions) (n - 1)) (maxOf ramp) ≡ true
+    shape : Shaped (minOf ramp) (maxOf ramp) offer
     points : pointsVerdict ramp asked offer ≡ Yes
 
   passed : verdictOf ramp asked offer ≡ Yes → Passed
-  unfolding verdictOf listVerdict endsVerdict
+  unfolding verdictOf listVerdict
   passed e =
       let a = fine-of (rampCheck ramp) _ e in
-      let b = taken (sized n m) _ WrongLength no-length (a .1) in
-      let c = left (ltb (firstBad offer) n) (BadStop (firstBad offer)) _ (no-stop (firstBad offer)) (b .1) in
-      let d = taken (eq (posAt (offer .positions) 0) (minOf ramp)) _ WrongFirst no-first (c .1) in
-      let f = taken (eq (posAt (offer .positions) (n - 1)) (maxOf ramp)) _ WrongLast no-last (d .1) in
-      record { fine = a .0; long = b .0; stops = ltb-false (firstBad offer) n (c .0); first = d .0; last = f .0; points = f .1 }
+      let b = shape-yes (minOf ramp) (maxOf ramp) offer (pointsVerdict ramp asked offer) (a .1) in
+      record { fine = a .0; shape = b .0; points = b .1 }
 
   passes : Passed → verdictOf ramp asked offer ≡ Yes
-  unfolding verdictOf listVerdict endsVerdict
-  passes w = rw (w .fine, w .long, le-ltb (firstBad offer) n (w .stops), w .first, w .last) (w .points)
+  unfolding verdictOf listVerdict
+  passes w = rw (w .fine) (yes-shape (minOf ramp) (maxOf ramp) offer (pointsVerdict ramp asked offer) (w .shape) ∙ w .points)
 
   -- near, as a test and as a fact
   told-near : (t : Float) → closeAt ramp asked offer t ≡ true → Near ramp asked offer t
@@ -97,18 +69,18 @@ module _ (ramp : Ramp) (asked : Float) (offer : Offer) where
   stands : Passed → Stands ramp asked offer
   unfolding pointsVerdict
   stands w =
-      let s = size n m (w .long) in
+      let s = size n m (w .shape .long) in
       let near = all-yes (closeAt ramp asked offer) (pointCount ramp asked) (freshPoint ramp asked) (maxOf ramp) (w .points) in
       record {
         fine = w .fine;
         least = s .least;
         most = s .most;
         four = s .four;
-        finite-at = λ i l. as-T _ (each-good offer (w .stops) i l .position);
-        colour-finite = λ i l. as-T _ (each-good offer (w .stops) i l .colour);
-        rising = rising offer (w .stops);
-        first = as-T _ (w .first);
-        last = as-T _ (w .last);
+        finite-at = λ i l. as-T _ (each-good offer (w .shape .stops) i l .position);
+        colour-finite = λ i l. as-T _ (each-good offer (w .shape .stops) i l .colour);
+        rising = rising offer (w .shape .stops);
+        first = as-T _ (w .shape .first);
+        last = as-T _ (w .shape .last);
         near-rows = λ i j h l. told-near (freshPoint ramp asked i j) (near .rows i j h l);
         near-max = told-near (maxOf ramp) (near .end);
       }
@@ -123,10 +95,13 @@ module _ (ramp : Ramp) (asked : Float) (offer : Offer) where
   stood w =
       record {
         fine = w .fine;
-        long = from-size n m (record { least = w .least; most = w .most; four = w .four });
-        stops = omega (arith, all-good offer (good-at w));
-        first = is-true _ (w .first);
-        last = is-true _ (w .last);
+        shape =
+            record {
+              long = from-size n m (record { least = w .least; most = w .most; four = w .four });
+              stops = omega (arith, all-good offer (good-at w));
+              first = is-true _ (w .first);
+              last = is-true _ (w .last);
+            };
         points =
             yes-all (closeAt ramp asked offer) (pointCount ramp asked) (freshPoint ramp asked) (maxOf ramp)
             (record { rows = λ i j h l. near-told (freshPoint ramp asked i j) (w .near-rows i j h l); end = near-told (maxOf ramp) (w .near-max) });
@@ -153,24 +128,18 @@ module _ (ramp : Ramp) (asked mine : Float) (offer : Offer) (e : thresholdOf ask
       by-threshold x = allVerdict (close (colourOf ramp) (colourOf (offeredRamp offer)) x) (λ i. length (points x i)) (λ i j. getD (points x i) j nan) (maxOf ramp)
 
   same-threshold : verdictOf ramp asked offer ≡ verdictOf ramp mine offer
-  unfolding verdictOf listVerdict endsVerdict
-  same-threshold = ap before-points same-points
-    where
-      before-points : Verdict → Verdict
-      before-points v =
-          onFine (rampCheck ramp)
-          (cond (sized (length (offer .positions)) (length (offer .channels)))
-          (cond (ltb (firstBad offer) (length (offer .positions))) (BadStop (firstBad offer))
-          (cond (eq (posAt (offer .positions) 0) (minOf ramp)) (cond (eq (posAt (offer .positions) (length (offer .positions) - 1)) (maxOf ramp)) v WrongLast) WrongFirst))
-          WrongLength) Refused
+  unfolding verdictOf listVerdict
+  same-threshold = ap (λ (v : Verdict). onFine (rampCheck ramp) (shapeVerdict (minOf ramp) (maxOf ramp) offer v) Refused) same-points
 
 same-verdict : (ramp : Ramp) (asked : Float) (one other : Offer) → SameStops one other → verdictOf ramp asked one ≡ verdictOf ramp asked other
-unfolding verdictOf
-same-verdict ramp asked one other w = ap (λ (v : Verdict). onFine (rampCheck ramp) v Refused) (go (sized (length (one .positions)) (length (one .channels))) refl)
-  where
-    go : (b : Bool) → sized (length (one .positions)) (length (one .channels)) ≡ b → listVerdict ramp asked one ≡ listVerdict ramp asked other
-    go true e = ap (listVerdict ramp asked) (same-offer one other (size _ _ e .four) w)
-    go false e = sym (wrong-length ramp asked one e) ∙ wrong-length ramp asked other (ap₂ sized (sym (w .as-many)) (sym (w .as-long)) ∙ e)
+unfolding verdictOf listVerdict
+same-verdict ramp asked one other w =
+    ⊎-elim
+    (λ e. ap (verdictOf ramp asked) e)
+    (λ n. ap (λ (v : Verdict). onFine (rampCheck ramp) v Refused)
+    (sym (wrong-length (minOf ramp) (maxOf ramp) one (pointsVerdict ramp asked one) (n .0))
+    ∙ wrong-length (minOf ramp) (maxOf ramp) other (pointsVerdict ramp asked other) (n .1)))
+    (same-or-unsized one other w)
 
 -- the answer is a function of the ramp, the threshold in force and the stops
 pub one-answer : (ramp : Ramp) (asked mine : Float) (one other : Offer) (r s : Verdict) → thresholdOf asked ≡ thresholdOf mine → SameStops one other

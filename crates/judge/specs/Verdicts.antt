@@ -67,6 +67,22 @@ module _ (ramp : Ramp) (asked : Float) where
   abbrev pub freshPoint : ℕ → ℕ → Float
   freshPoint i j = getD (freshRow i) j nan
 
+-- ---- the shape of a list, between the ends of a ramp; `after` is what is said where nothing is wrong with it
+module _ (lo hi : Float) (offer : Offer) (after : Verdict) where
+  -- the end that is wrong; values are compared, so -0 is 0
+  unfoldable pub endsVerdict : Verdict
+  endsVerdict =
+      cond (eq (posAt (offer .positions) 0) lo)
+      (cond (eq (posAt (offer .positions) (length (offer .positions) - 1)) hi) after WrongLast)
+      WrongFirst
+
+  -- before that the wrong length, then the first failing stop
+  unfoldable pub shapeVerdict : Verdict
+  shapeVerdict =
+      cond (sized (length (offer .positions)) (length (offer .channels)))
+      (cond (ltb (firstBad offer) (length (offer .positions))) (BadStop (firstBad offer)) endsVerdict)
+      WrongLength
+
 -- ---- the call: a ramp, a threshold as it was asked for, and the list that is offered
 module _ (ramp : Ramp) (asked : Float) (offer : Offer) where
   abbrev pub closeAt : Float → Bool
@@ -76,19 +92,9 @@ module _ (ramp : Ramp) (asked : Float) (offer : Offer) where
   unfoldable pub pointsVerdict : Verdict
   pointsVerdict = allVerdict closeAt (pointCount ramp asked) (freshPoint ramp asked) (maxOf ramp)
 
-  -- before it the end that is wrong; values are compared, so -0 is 0
-  unfoldable pub endsVerdict : Verdict
-  endsVerdict =
-      cond (eq (posAt (offer .positions) 0) (minOf ramp))
-      (cond (eq (posAt (offer .positions) (length (offer .positions) - 1)) (maxOf ramp)) pointsVerdict WrongLast)
-      WrongFirst
-
-  -- before that the wrong length, then the first failing stop
+  -- before it what is wrong with its shape
   unfoldable pub listVerdict : Verdict
-  listVerdict =
-      cond (sized (length (offer .positions)) (length (offer .channels)))
-      (cond (ltb (firstBad offer) (length (offer .positions))) (BadStop (firstBad offer)) endsVerdict)
-      WrongLength
+  listVerdict = shapeVerdict (minOf ramp) (maxOf ramp) offer pointsVerdict
 
   -- before all of it the ramp's refusal
   unfoldable pub verdictOf : Verdict

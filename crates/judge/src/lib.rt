@@ -7,7 +7,7 @@ ghost use mathlib.Core.Path.{_≡_};
 ghost use Rattle.stops.specs.Lent.{rampIn, lentRamp};
 ghost use Rattle.stops.specs.declared.Checked.the-variants.{Fine};
 ghost use Rattle.judge.specs.Lists.{offerIn, lentOffer};
-ghost use Rattle.judge.specs.Verdicts.{rampCheck, pointsVerdict, listVerdict};
+ghost use Rattle.judge.specs.Verdicts.{rampCheck, shapeVerdict, pointsVerdict, listVerdict};
 ghost use Rattle.judge.specs.inner.Steps.{Sound};
 ghost use Rattle.judge.specs.Promises.{Judges};
 
@@ -68,7 +68,29 @@ fn judge_colours(
     )
 }
 
-// The verdict on a list, of a ramp that may be sampled: its length, then its stops, then its ends, then its colours.
+// The verdict on a list's shape, before its colours are asked for: its length, then its stops, then its ends, which are to be
+// those of a ramp from min to max. `Yes` where nothing is wrong.
+pub fn check_list(min: f32, max: f32, places: &[f32], colours: &[f32]) -> Verdict
+    ensures { λ r. ⌜ r ≡ shapeVerdict min max (lentOffer places colours) Verdict.Yes ⌝ }
+{
+    let n = places.len();
+    if !checks::is_sized(n, colours.len()) {
+        return Verdict::WrongLength;
+    }
+    let stop = checks::first_bad(places, colours);
+    if stop < n {
+        return Verdict::BadStop { stop };
+    }
+    if places[0] != min {
+        return Verdict::WrongFirst;
+    }
+    if places[n - 1] != max {
+        return Verdict::WrongLast;
+    }
+    Verdict::Yes
+}
+
+// The verdict on a list, of a ramp that may be sampled: its shape, then its colours.
 fn judge_list(
     kind: Kind,
     positions: &[f32],
@@ -81,21 +103,13 @@ fn judge_list(
     requires { ⌜ rampCheck (rampIn kind positions channels codes) ≡ Fine ⌝ }
     ensures { λ r. ⌜ r ≡ listVerdict (lentRamp kind positions channels codes) threshold (lentOffer places colours) ⌝ }
 {
-    let n = places.len();
-    if !checks::is_sized(n, colours.len()) {
-        return Verdict::WrongLength;
+    let min = gradient::min_of(kind, positions);
+    let max = gradient::max_of(kind, positions);
+    let shape = check_list(min, max, places, colours);
+    match shape {
+        Verdict::Yes => judge_colours(kind, positions, channels, codes, threshold, places, colours),
+        _ => shape,
     }
-    let stop = checks::first_bad(places, colours);
-    if stop < n {
-        return Verdict::BadStop { stop };
-    }
-    if places[0] != gradient::min_of(kind, positions) {
-        return Verdict::WrongFirst;
-    }
-    if places[n - 1] != gradient::max_of(kind, positions) {
-        return Verdict::WrongLast;
-    }
-    judge_colours(kind, positions, channels, codes, threshold, places, colours)
 }
 
 // Whether a list shows a ramp within a threshold: yes, or what is wrong. Refusals 1 to 4 are of the ramp.

@@ -1,12 +1,12 @@
 -- The first fault among the points kept, with room for one stop or for many, and what is told of them. Assumes nothing.
 use mathlib.Core.Path.{_≡_, refl, ap, ap₂, _∙_}
 use mathlib.Core.Bool.{Bool, true, false, cond, _&&_}
-use mathlib.Core.List.{List, [], _∷_, _++_, map}
+use mathlib.Core.List.{List, [], _∷_, _++_}
 use Prim.Native.Nat.{ℕ, zero, suc, _+_, _≤_, _<_}
 use native.Mathlib.Omega.{arith}
 use borrow.Author.Tests.{lt-leb}
 use lib.Dec.{leb}
-use lib.ListN.{length, take, drop}
+use lib.ListN.{length, take, drop, getD}
 use lib.Seq.{sets, sets-eq, take-at}
 use lib.Ieee.{Float, lt}
 use lib.Ieee.Scale.{finite}
@@ -17,7 +17,7 @@ use Rattle.stops.specs.Stops.{finiteRgba}
 use Rattle.sampling.specs.Midpoints.{Gradient}
 use Rattle.thinning.specs.Kept.{stopRefusal, firstRefusal, refusalFrom}
 use Rattle.next_stop.specs.Step.{stopWith}
-use Rattle.next_stop.specs.Chain.{toldStops}
+use Rattle.next_stop.specs.Chain.{toldStops, stopsAt, faultsFrom}
 use Rattle.next_stop.specs.declared.Told.{Told}
 use Rattle.next_stop.specs.declared.Told.the-variants as told
 use Rattle.next_stop.proofs.Chaining.{toldFrom, faultIn}
@@ -63,14 +63,11 @@ module _ (g : Gradient) where
       ap₂ firstRefusal r (no-seven room (n + 1) t ks (omega arith))
 
   -- ---- what is told of the points kept
-  abbrev pub stopsAt : List Float → List Stop
-  stopsAt = map (λ (t : Float). stopWith t (g t))
-
   both-zero : (a b : ℕ) → firstRefusal a b ≡ 0 → (a ≡ 0) × (b ≡ 0)
   both-zero zero b h = (refl, h)
   both-zero (suc a) b h = absurd (omega arith)
 
-  pub all-told : (last : Float) (ks : List Float) → faultIn g last ks ≡ 0 → toldFrom g last ks ≡ toldStops (stopsAt ks)
+  pub all-told : (last : Float) (ks : List Float) → faultIn g last ks ≡ 0 → toldFrom g last ks ≡ toldStops (stopsAt g ks)
   unfolding toldFrom faultIn
   all-told last [] z = refl
   all-told last (t ∷ ks) z =
@@ -80,29 +77,41 @@ module _ (g : Gradient) where
   -- the stops before the first fault, and that
   pub record Faulty (k : ℕ) (last : Float) (ks : List Float) : Type 0 where
     pub before : ℕ
-    pub there : before < length (stopsAt ks)
-    pub told : toldFrom g last ks ≡ toldStops (take before (stopsAt ks)) ++ told.Refused k ∷ []
+    pub there : before < length (stopsAt g ks)
+    pub none-before : (i : ℕ) → i < before → getD (faultsFrom last (stopsAt g ks)) i 0 ≡ 0
+    pub faulty : getD (faultsFrom last (stopsAt g ks)) before 0 ≡ k
+    pub told : toldFrom g last ks ≡ toldStops (take before (stopsAt g ks)) ++ told.Refused k ∷ []
 
   pub some-told : (k : ℕ) (last : Float) (ks : List Float) → faultIn g last ks ≡ suc k → Faulty (suc k) last ks
-  unfolding toldFrom faultIn
+  unfolding toldFrom faultIn faultsFrom
   some-told k last [] z = absurd (omega arith)
   some-told k last (t ∷ ks) z = by (stopRefusal 1 0 last t (g t)) refl (some-told k t ks)
     where
       by : (r : ℕ) → stopRefusal 1 0 last t (g t) ≡ r → (faultIn g t ks ≡ suc k → Faulty (suc k) t ks) → Faulty (suc k) last (t ∷ ks)
       by zero e ih =
           let f = ih (rw e at z) in
-          record { before = suc (f .before); there = omega (arith, f .there); told = rw e (ap (λ (l : List Told). told.Stop (stopWith t (g t)) ∷ l) (f .told)) }
+          record {
+            before = suc (f .before);
+            there = omega (arith, f .there);
+            none-before = each (f .before) (f .none-before);
+            faulty = f .faulty;
+            told = rw e (ap (λ (l : List Told). told.Stop (stopWith t (g t)) ∷ l) (f .told));
+          }
+        where
+          each : (n : ℕ) → ((i : ℕ) → i < n → getD (faultsFrom t (stopsAt g ks)) i 0 ≡ 0) → (i : ℕ) → i < suc n → getD (faultsFrom last (stopsAt g (t ∷ ks))) i 0 ≡ 0
+          each n h zero l = e
+          each n h (suc i) l = h i (omega arith)
       by (suc r) e ih =
           let y : suc r ≡ suc k = rw e at z in
-          record { before = 0; there = omega arith; told = rw (e, y) }
+          record { before = 0; there = omega arith; none-before = λ i l. absurd (omega arith); faulty = e ∙ y; told = rw (e, y) }
 
   -- the list's positions and channels
-  pub positions-are : (ks : List Float) → positionsIn (stopsAt ks) ≡ ks
+  pub positions-are : (ks : List Float) → positionsIn (stopsAt g ks) ≡ ks
   unfolding positionsIn
   positions-are [] = refl
   positions-are (t ∷ ks) = ap (λ (l : List Float). t ∷ l) (positions-are ks)
 
-  pub channels-are : (ks : List Float) → channelsIn (stopsAt ks) ≡ coloursOf g ks
+  pub channels-are : (ks : List Float) → channelsIn (stopsAt g ks) ≡ coloursOf g ks
   unfolding channelsIn coloursOf
   channels-are [] = refl
   channels-are (t ∷ ks) = ap (λ (l : List Float). channelsOf (g t) ++ l) (channels-are ks)

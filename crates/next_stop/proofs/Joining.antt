@@ -1,11 +1,11 @@
 -- Calls chained from the start give the whole list: its stops one after the other, its refusal, its evaluations. Each theorem is of any results that the
 -- contracts of `thin` and `next_stop` allow. Assumes nothing.
-use mathlib.Core.Path.{_≡_, refl, sym, ap, ap₂, _∙_, subst}
+use mathlib.Core.Path.{_≡_, refl, sym, ap, _∙_, subst}
 use mathlib.Core.List.{List, [], _∷_}
-use mathlib.Core.Logic.{_⊎_, inl, inr, ⊎-elim}
+use mathlib.Core.Logic.{_⊎_, ⊎-elim}
 use Prim.Native.Nat.{ℕ, zero, suc, _+_, _*_, _≤_}
 use native.Mathlib.Omega.{arith}
-use lib.ListN.{length, drop, getD, replicate, length-map}
+use lib.ListN.{length, drop, getD, length-map}
 use lib.Seq.{sets}
 use lib.Ieee.{Float}
 use Rattle.float.specs.F32.{f0}
@@ -23,7 +23,7 @@ use Rattle.thinning.specs.Kept.{thinned, weighed, keptOf, weighedOf, listEvalua
 use Rattle.places.specs.Places.{firstPlace, pointAt}
 use Rattle.places.proofs.Following.{first-within, first-before, list-head, list-most, list-some}
 use Rattle.linearize.specs.Lent.{Output}
-use Rattle.linearize.specs.Desk.{answerBy, listedOf, numberOfListed, pointsIn, room, thinOutput}
+use Rattle.linearize.specs.Desk.{answerBy, listedOf, numberOfListed, numberBy, pointsIn, room, thinOutput}
 use Rattle.linearize.specs.Promises.{Thins}
 use Rattle.linearize.specs.declared.Listed.{Listed}
 use Rattle.linearize.specs.declared.Listed.the-variants as listed
@@ -31,14 +31,14 @@ use Rattle.linearize.proofs.Bounds.{stops-bound}
 use Rattle.linearize.proofs.Calls.{kept-room}
 use Rattle.linearize.proofs.Checks.{ready}
 use Rattle.next_stop.specs.First.{pointsAfter}
-use Rattle.next_stop.specs.Step.{isWithin, placedCheck, stopWith, firstNext, handedOf}
-use Rattle.next_stop.specs.Chain.{Chained, toldBy, ListTold, Broken}
+use Rattle.next_stop.specs.Step.{isWithin, stopWith, firstNext}
+use Rattle.next_stop.specs.Single.{Early}
+use Rattle.next_stop.specs.Chain.{Chained, ListTold, stopsAt, faultsFrom, faultsOf, Broken}
 use Rattle.next_stop.specs.declared.ListPlace.the-variants as place
-use Rattle.next_stop.specs.declared.Told.the-variants as told
 use Rattle.next_stop.specs.declared.Handed.{Handed}
-use Rattle.next_stop.proofs.Numbers.{Early, thin-early}
+use Rattle.next_stop.proofs.Numbers.{thin-early, none-late}
 use Rattle.next_stop.proofs.Chaining.{toldFrom, faultIn, none-yet, Tells, step-is, then-tells, tells-from}
-use Rattle.next_stop.proofs.Faults.{same-fault, fault-not-seven, no-seven, stopsAt, all-told, some-told, positions-are, channels-are, written-front}
+use Rattle.next_stop.proofs.Faults.{same-fault, fault-not-seven, no-seven, all-told, some-told, positions-are, channels-are, written-front}
 
 -- ---- a list that was made
 done-means : (c : Checked) (k s v n e : ℕ) → listed.Done n e ≡ answerBy c k s v → (c ≡ checked.Fine) × ((k ≡ 0) × ((n ≡ s) × (e ≡ v)))
@@ -97,13 +97,26 @@ module _ (ramp : Ramp) (asked : Float) (was : Held) where
     refusal-is n = ap (λ (l : List Float). refusalFrom g n 0 (getD l 0 f0) (keptOf g far ts)) ts-head
 
     -- with room for 4,609 stops the whole form's refusal is the first fault: there is no 7
-    pub room-enough : (n : ℕ) → 4609 ≤ n → refusalOf g far n ts ≡ 7 → ⊥
-    room-enough n h z =
+    list-not-seven : (n : ℕ) → 4609 ≤ n → refusalOf g far n ts ≡ 7 → ⊥
+    list-not-seven n h z =
         let ok = ready ramp asked was fine in
         fault-not-seven g first (keptOf g far ts)
         (sym (no-seven g n 0 first (keptOf g far ts) (omega (arith, h, stops-bound g far ts (omega (arith, list-some (was .rows) (was .counts) (maxOf ramp) ok)) (list-most (was .rows) (was .counts) (maxOf ramp) ok)))) ∙ sym (refusal-is n) ∙ z)
 
+    faults-are : faultsOf (stopsAt g (keptOf g far ts)) ≡ faultsFrom first (stopsAt g (keptOf g far ts))
+    unfolding faultsOf
+    faults-are = subst (λ (l : List Float). faultsOf (stopsAt g l) ≡ faultsFrom first (stopsAt g l)) (sym kept-is) refl
+
   -- ---- the theorems
+
+  -- `thin` with room for 4,609 stops is not refused with 7
+  pub room-enough : (out out′ : Output) (r : Listed) → 4609 ≤ room out → Thins ramp asked was (change out out′) r → numberOfListed r ≡ 7 → ⊥
+  room-enough out out′ r h w z = by (thinCheck ramp asked was) refl (thin-early ramp asked was) (sym (w .told .number) ∙ z)
+    where
+      by : (c : Checked) → thinCheck ramp asked was ≡ c → Early c → numberBy c (refusalOf g far (room out) ts) ≡ 7 → ⊥
+      by checked.Fine fine early e = list-not-seven fine (room out) h e
+      by (checked.Refused n) e early y = none-late n early (omega (arith, y)) (omega (arith, y))
+
   module _ (out out′ : Output) (hs : List Handed) (c : Chained ramp asked was place.Start hs) where
     -- where `thin` makes a list, the steps tell its stops, and then nothing more; and they spend what it spends
     pub joined : (n e : ℕ) → Thins ramp asked was (change out out′) (listed.Done n e) → ListTold n e out′ hs
@@ -135,27 +148,24 @@ module _ (ramp : Ramp) (asked : Float) (was : Held) where
         let fault : faultIn g first (keptOf g far ts) ≡ suc r =
         sym (same-fault g (room out) 0 first (keptOf g far ts) (λ z. nz (kr ∙ sym e ∙ refusal-is fine (room out) ∙ z))) ∙ sym (refusal-is fine (room out)) ∙ e in
         let f = some-told g r first (keptOf g far ts) fault in
-        rw kr (record { before = f .before; faulty = f .there; told = whole fine hs c .told ∙ rw (f .told) })
+        rw kr
+        (record {
+          before = f .before;
+          there = f .there;
+          none-before = λ i l. rw (faults-are fine) (f .none-before i l);
+          faulty = rw (faults-are fine) (f .faulty);
+          told = whole fine hs c .told ∙ rw (f .told);
+        })
 
     -- where it refuses a stop with 8 or 9, they tell the stops before that one, then the refusal, and then nothing more
     pub broken : (k : ℕ) → (k ≡ 8) ⊎ (k ≡ 9) → Thins ramp asked was (change out out′) (listed.Refused k) → Broken k (stopsAt g (keptOf g far ts)) hs
     broken k eight w = by (thinCheck ramp asked was) refl (thin-early ramp asked was) (w .told .answer)
       where
-        late : (n : ℕ) → k ≡ n → (n ≤ 5) ⊎ (n ≡ 20) → ⊥
-        late n e (inl h) = ⊎-elim (λ q. absurd (omega (arith, q, e, h))) (λ q. absurd (omega (arith, q, e, h))) eight
-        late n e (inr h) = ⊎-elim (λ q. absurd (omega (arith, q, e, h))) (λ q. absurd (omega (arith, q, e, h))) eight
+        late : (7 ≤ k) × (k ≤ 9)
+        late = ⊎-elim (λ q. (omega (arith, q), omega (arith, q))) (λ q. (omega (arith, q), omega (arith, q))) eight
 
         by : (x : Checked) → thinCheck ramp asked was ≡ x → Early x → listed.Refused k ≡ answerBy x (refusalOf g far (room out) ts) (length (keptOf g far ts)) (listEvaluations g far ts)
             → Broken k (stopsAt g (keptOf g far ts)) hs
         by checked.Fine fine early h =
             broken-by k fine (λ z. ⊎-elim (λ q. absurd (omega (arith, q, z))) (λ q. absurd (omega (arith, q, z))) eight) (refusalOf g far (room out) ts) refl h
-        by (checked.Refused n) e early h = absurd (late n (ap numberOfListed h) (early .number))
-
--- a refusal of the check is told at every step, and the place stays the start
-pub refused-stays : (ramp : Ramp) (asked : Float) (was : Held) (k : ℕ) → thinCheck ramp asked was ≡ checked.Refused k → (hs : List Handed) → Chained ramp asked was place.Start hs
-    → toldBy hs ≡ replicate (length hs) (told.Refused k)
-unfolding Chained handedOf isWithin placedCheck
-refused-stays ramp asked was k e [] c = refl
-refused-stays ramp asked was k e (h ∷ hs) c =
-    let f : h ≡ record { told = told.Refused k; evaluations = 0; place = place.Start } = c .0 .handed ∙ rw e in
-    ap₂ _∷_ (ap (λ (x : Handed). x .told) f) (refused-stays ramp asked was k e hs (subst (λ (x : Handed). Chained ramp asked was (x .place) hs) f (c .1)))
+        by (checked.Refused n) e early h = let kn : k ≡ n = ap numberOfListed h in absurd (none-late n early (omega (arith, kn, late .0)) (omega (arith, kn, late .1)))

@@ -5,3 +5,4 @@ pub mod Chaining
 pub mod Numbers
 pub mod Faults
 pub mod Joining
+pub mod Refused

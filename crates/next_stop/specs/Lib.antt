@@ -1,4 +1,5 @@
 pub mod First
 pub mod Step
 pub mod Chain
+pub mod Single
 pub mod inner

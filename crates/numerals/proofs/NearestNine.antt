@@ -1,7 +1,6 @@
 -- Nine digits written are the nearest decimal of nine digits, a tie to the even one. Assumes nothing.
 use mathlib.Core.Path.{_≡_, refl, sym, ap, _∙_, subst}
 use mathlib.Core.Bool.{Bool, true, false, cond, not}
-use mathlib.Core.List.{List}
 use Prim.Native.Nat.{ℕ, zero, suc, _+_, _-_, _*_, _/_, _%_, _^_, _≤_, _<_, compare, Ordering, Ordering·lt, Ordering·eq, Ordering·gt}
 use native.Mathlib.Nat.{le-trans, le-of-eq, mul-comm, mul-assoc, mul-right-comm, mul-sub, add-mul, mul-one, one-mul, mul-pos, mul-le-mul-right, mul-le-mul-left, mul-lt-mul-of-pos-right, mod-lt, div-add-mod', eq-of-mul-eq-mul-right}
 use native.Mathlib.Omega.{arith}
@@ -12,8 +11,7 @@ use lib.Ieee.{nearest}
 use lib.Ieee.Nearest.{closest, closest-mono}
 use Rattle.decimal.proofs.Scale.{ten-le}
 use Rattle.numerals.specs.Written.{places, plainDecimal, nine, signed}
-use Rattle.numerals.specs.Nearest.{decimalGap, NearestNine}
-use Rattle.decimal.specs.Form.{Form}
+use Rattle.numerals.specs.Nearest.{decimalGap, NearestNine, NineText}
 use Rattle.numerals.proofs.Tens.{ten-pos}
 use Rattle.numerals.proofs.Texts.{plain-form}
 use Rattle.numerals.proofs.Halves.{Cmp, cmp, Within, closest-half}
@@ -165,13 +163,7 @@ module _ (num den k : ℕ) (some : 0 < den) (reach : 10 ^ 8 * den ≤ num * 10 ^
           clash : (x y z : ℕ) → x ≤ y → y < z → z ≡ x → ⊥
           clash x y z a b c = omega arith
 
--- ---- of a number of the range: what is written is a form of its nearest nine digits
-pub record NineText (t : List ℕ) (s : Bool) (num den : ℕ) : Type 0 where
-  pub d : ℕ
-  pub k : ℕ
-  pub form : Form t s d k
-  pub nearest : NearestNine num den d k
-
+-- ---- of a number of the range
 module _ (s : Bool) (num den : ℕ) (some : 0 < den) (low : 8796093 * den ≤ num * 2 ^ 43) (high : num ≤ 1000000 * den) where
   abbrev k-of : ℕ
   k-of = places 15 num den 0

@@ -15,7 +15,8 @@ use Rattle.decimal.specs.declared.Token.{Token}
 use Rattle.decimal.specs.declared.Token.the-variants.{Number}
 use Rattle.decimal.specs.Decimal.{readOf}
 use Rattle.numerals.specs.Written.{inRange, writable, places, nine, signed, textOf, TextIs}
-use Rattle.numerals.proofs.NearestNine.{NineText, nine-nearest}
+use Rattle.numerals.specs.Nearest.{NineText}
+use Rattle.numerals.proofs.NearestNine.{nine-nearest}
 use Rattle.numerals.proofs.Trip as trip
 
 -- the bytes that are written

@@ -7,7 +7,7 @@ use native.Mathlib.Omega.{arith}
 use lib.Dec.{T}
 use lib.ListN.{length}
 use lib.Seq.{sets}
-use lib.Ieee.{Float, neg, le}
+use lib.Ieee.{Float, binary32, fits, neg, le}
 use lib.Ieee.Bits.{is-true}
 use lib.Ieee.Scale.{finite}
 use Rattle.float.proofs.Order as order
@@ -46,11 +46,12 @@ use Rattle.refresh.specs.AfterEdit.{Shaped}
 use Rattle.ordinary.specs.Ordinary.{FiniteOnDomain, NeverRefused}
 use Rattle.ordinary.proofs.Climbing.{Climbs, from-lower, item-low, item-high, in-order, kept-climb}
 use Rattle.ordinary.proofs.Rising as domains
+use Rattle.ordinary.proofs.Singles.{AllSingle, item-single, points-single, kept-single}
 use Rattle.ordinary.proofs.LastCell.{last-cell}
 use Rattle.ordinary.proofs.Unrefused.{no-refusal, two-kept, place-of, colour-of}
 
 -- ---- a list that was made of points that climb
-module _ (g : Gradient) (far : Far) (ts : List Float) (a b : Float) (fa : T (finite a)) (fb : T (finite b)) (climbs : Climbs a ts b) (some : 2 ≤ length ts) (few : length ts ≤ 4609) (out : Output) (space : 4609 ≤ room out) where
+module _ (g : Gradient) (far : Far) (ts : List Float) (a b : Float) (fa : T (finite a)) (fb : T (finite b)) (climbs : Climbs a ts b) (singles : AllSingle ts) (some : 2 ≤ length ts) (few : length ts ≤ 4609) (out : Output) (space : 4609 ≤ room out) where
   abbrev kept : List Float
   kept = keptOf g far ts
 
@@ -69,7 +70,7 @@ module _ (g : Gradient) (far : Far) (ts : List Float) (a b : Float) (fa : T (fin
   rising : Climbs a kept b
   rising = kept-climb g far a b ts climbs
 
-  pub list-stands : (spent : ℕ) → spent ≤ 32146 → ((t : Float) → T (le a t) → T (le t b) → finiteRgba (g t) ≡ true) → NeverRefused made (listed.Done (length kept) spent)
+  pub list-stands : (spent : ℕ) → spent ≤ 32146 → ((t : Float) → T (fits binary32 t) → T (le a t) → T (le t b) → finiteRgba (g t) ≡ true) → NeverRefused made (listed.Done (length kept) spent)
   list-stands spent h colours =
       record {
         done = refl;
@@ -78,7 +79,7 @@ module _ (g : Gradient) (far : Far) (ts : List Float) (a b : Float) (fa : T (fin
         few = h;
         rising = λ i j l m. rw (place-at i (omega arith), place-at j m) (in-order a b kept rising i j l m);
         finite-at = λ i l. rw (place-at i l) (is-true (finite (posAt kept i)) (order.finite-between a (posAt kept i) b fa fb (item-low a b kept rising i l) (item-high a b kept rising i l)));
-        colour-finite = λ i l. ap finiteRgba (colour-at i l) ∙ colours (posAt kept i) (item-low a b kept rising i l) (item-high a b kept rising i l);
+        colour-finite = λ i l. ap finiteRgba (colour-at i l) ∙ colours (posAt kept i) (item-single kept (kept-single g far ts singles) i l) (item-low a b kept rising i l) (item-high a b kept rising i l);
       }
 
 -- ---- the ramp
@@ -115,6 +116,10 @@ module _ (ramp : Ramp) (ok : FiniteOnDomain ramp) where
         from-lower lo (edgeOf lo hi 0) hi ts (domains.edge-first lo hi (ok .near) (ok .first-single))
         (domains.points-climb lo hi (ok .near) (colourOf ramp) (farOf asked) (last-cell lo hi (ok .near) (ok .first-single) (ok .last-single) (colourOf ramp) (farOf asked)))
 
+    singles : AllSingle ts
+    unfolding fresh
+    singles = points-single (colourOf ramp) (farOf asked) lo hi (ok .near) (ok .last-single)
+
     some : 2 ≤ length ts
     unfolding fresh
     some = omega (arith, list-some (rowsOf (colourOf ramp) (farOf asked) lo hi) (countsOf (colourOf ramp) (farOf asked) lo hi) hi (sampled-ready (colourOf ramp) (farOf asked) lo hi))
@@ -125,14 +130,14 @@ module _ (ramp : Ramp) (ok : FiniteOnDomain ramp) where
 
     unrefused : (n : ℕ) → 4609 ≤ n → refusalOf (colourOf ramp) (farOf asked) n ts ≡ 0
     unrefused n h =
-        no-refusal (colourOf ramp) n lo hi low-finite high-finite (ok .finite-colours) (farOf asked) ts climbs
+        no-refusal (colourOf ramp) n lo hi low-finite high-finite (ok .finite-colours) (farOf asked) ts climbs singles
         (omega (arith, stops-bound (colourOf ramp) (farOf asked) ts some few))
 
     module _ (was is : Held) (out out′ : Output) (r : Listed) (shaped : Shaped was) (space : 4609 ≤ room out) (w : Flattens ramp asked (change was is) (change out out′) r) where
       answer : r ≡ listed.Done (length (keptOf (colourOf ramp) (farOf asked) ts)) (flattenEvaluations ramp asked)
       answer = w .told .answer ∙ rw (fine was shaped, unrefused (room out) space)
 
-      outputs : out′ ≡ made (colourOf ramp) (farOf asked) ts lo hi low-finite high-finite climbs some few out space
+      outputs : out′ ≡ made (colourOf ramp) (farOf asked) ts lo hi low-finite high-finite climbs singles some few out space
       unfolding flattenOutput positionsWritten channelsWritten
       outputs = w .output ∙ rw (fine was shaped, unrefused (room out) space)
 
@@ -140,7 +145,7 @@ module _ (ramp : Ramp) (ok : FiniteOnDomain ramp) where
       spent = omega (arith, flatten-most ramp asked was out out′ r is w, ap evaluationsOfListed answer)
 
       pub flattened : NeverRefused out′ r
-      flattened = rw (answer, outputs) (list-stands (colourOf ramp) (farOf asked) ts lo hi low-finite high-finite climbs some few out space (flattenEvaluations ramp asked) spent (ok .finite-colours))
+      flattened = rw (answer, outputs) (list-stands (colourOf ramp) (farOf asked) ts lo hi low-finite high-finite climbs singles some few out space (flattenEvaluations ramp asked) spent (ok .finite-colours))
 
       -- what holds of the ramp's colours holds of the colours emitted
       pub emitted : (P : Rgba → Type 0) → ((t : Float) → P (colourOf ramp t)) → (i : ℕ) → i < stopsOfListed r → P (colourAt (out′ .channels) i)
@@ -148,7 +153,7 @@ module _ (ramp : Ramp) (ok : FiniteOnDomain ramp) where
           let n : i < length (keptOf (colourOf ramp) (farOf asked) ts) = subst (λ (k : ℕ). i < k) (ap stopsOfListed answer) l in
           let e : colourAt (out′ .channels) i ≡ colourOf ramp (posAt (keptOf (colourOf ramp) (farOf asked) ts) i) =
           ap (λ (o : Output). colourAt (o .channels) i) outputs
-          ∙ colour-at (colourOf ramp) (farOf asked) ts lo hi low-finite high-finite climbs some few out space i n in
+          ∙ colour-at (colourOf ramp) (farOf asked) ts lo hi low-finite high-finite climbs singles some few out space i n in
           subst P (sym e) (holds (posAt (keptOf (colourOf ramp) (farOf asked) ts) i))
 
     -- ---- thinning what a sampling left
@@ -175,6 +180,6 @@ module _ (ramp : Ramp) (ok : FiniteOnDomain ramp) where
             let far = farOf asked in
             let none = unrefused (room out) space in
             let answer : r ≡ listed.Done (length (keptOf g far ts)) (listEvaluations g far ts) = thinning .told .answer ∙ rw (passing, none) in
-            let outputs : out′ ≡ made g far ts lo hi low-finite high-finite climbs some few out space = thinning .output ∙ rw (passing, none) in
+            let outputs : out′ ≡ made g far ts lo hi low-finite high-finite climbs singles some few out space = thinning .output ∙ rw (passing, none) in
             rw (answer, outputs)
-            (list-stands g far ts lo hi low-finite high-finite climbs some few out space (listEvaluations g far ts) (omega (arith, list-bound g far ts some few)) (ok .finite-colours))
+            (list-stands g far ts lo hi low-finite high-finite climbs singles some few out space (listEvaluations g far ts) (omega (arith, list-bound g far ts some few)) (ok .finite-colours))

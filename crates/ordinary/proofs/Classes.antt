@@ -55,7 +55,7 @@ module _ (ramp : Ramp) (ok : Moderate ramp) where
       record {
         passes = ok .passes;
         near = ok .near;
-        finite-colours = λ t l m. finite-everywhere ramp sound (ok .places) span (ok .of-pairs) (ok .within) t;
+        finite-colours = λ t f l m. finite-everywhere ramp sound (ok .places) span (ok .of-pairs) (ok .within) t;
         first-single = first-single;
         last-single = last-single;
       }

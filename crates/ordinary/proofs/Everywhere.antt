@@ -40,7 +40,7 @@ all-finite : (c : Rgba) → Each (λ x. T (finite x)) c → finiteRgba c ≡ tru
 all-finite c h = rw (is-true (finite (c .r)) (h .red), is-true (finite (c .g)) (h .green), is-true (finite (c .b)) (h .blue), is-true (finite (c .a)) (h .alpha))
 
 -- ---- finite
-record Sized (l x : Float) : Type 0 where
+pub record Sized (l x : Float) : Type 0 where
   whole : T (finite x)
   low : T (le (neg l) x)
   high : T (le x l)
@@ -65,7 +65,7 @@ flat-or-not true c d h k = h
 flat-or-not false c d h k = k
 
 -- between two stops, by the kind
-pair-finite : (kind : Kind) (ps cs : List Float) (n k : ℕ) (t : Float) → ofPairs kind ≡ true → Share (shareOf (stopAt ps cs (k - 1)) (stopAt ps cs k) t)
+pub pair-finite : (kind : Kind) (ps cs : List Float) (n k : ℕ) (t : Float) → ofPairs kind ≡ true → Share (shareOf (stopAt ps cs (k - 1)) (stopAt ps cs k) t)
     → Each (Sized (largest kind)) (colourAt cs (k - 1)) → Each (Sized (largest kind)) (colourAt cs k) → finiteRgba (colourAt cs (k - 1)) ≡ true
     → finiteRgba (pairOf kind cs n k (stopAt ps cs (k - 1)) (stopAt ps cs k) t) ≡ true
 unfolding pairOf linearPair smoothPair sharpPair

@@ -2,6 +2,7 @@ pub mod UnitBlend
 pub mod Blends
 pub mod Climbing
 pub mod Rising
+pub mod Singles
 pub mod Unrefused
 pub mod Colours
 pub mod Everywhere

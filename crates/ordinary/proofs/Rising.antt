@@ -160,7 +160,7 @@ module _ (lo hi : Float) (domain : isDomain lo hi ≡ true) where
     unfolding cellRow cellCount rowOf
     cell-points i = take-append-seam (pointsOf g far (edgeOf lo hi i) (edgeOf lo hi (i + 1))) _
 
-    row-points : (i : ℕ) → i < 36 → rowPoints rows counts i ≡ pointsOf g far (edgeOf lo hi i) (edgeOf lo hi (i + 1))
+    pub row-points : (i : ℕ) → i < 36 → rowPoints rows counts i ≡ pointsOf g far (edgeOf lo hi i) (edgeOf lo hi (i + 1))
     row-points i l =
         rw (count-at g far lo hi i l)
         (sym (take-take (cellCount g far lo hi i) 128 (drop (i * 128) rows) (cell-count-most g far lo hi i)) ∙ ap (take (cellCount g far lo hi i)) (row-at g far lo hi i l) ∙ cell-points i)

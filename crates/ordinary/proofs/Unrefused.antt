@@ -7,7 +7,7 @@ use native.Mathlib.Omega.{arith}
 use lib.Dec.{T, leb}
 use lib.ListN.{length, getD, drop, length-append, List·getD-append}
 use lib.Seq.{sets, sets-eq}
-use lib.Ieee.{Float, nan, le, lt}
+use lib.Ieee.{Float, nan, binary32, fits, le, lt}
 use lib.Ieee.Bits.{is-true}
 use lib.Ieee.Scale.{finite}
 use Rattle.refusals.specs.Refusals.{noRoom, listNotFinite, listFalling}
@@ -19,27 +19,29 @@ use Rattle.sampling.specs.Midpoints.{Gradient, Far}
 use Rattle.thinning.specs.Kept.{stays, thinned, keptOf, stopRefusal, firstRefusal, refusalFrom, refusalOf}
 use Rattle.thinning.proofs.Stops.{stop-fine}
 use Rattle.ordinary.proofs.Climbing.{Climbs, rises, thinned-climb}
+use Rattle.ordinary.proofs.Singles.{AllSingle, thinned-single}
 
 -- ---- no refusal
 then-none : (a b : ℕ) → 0 ≡ a → b ≡ 0 → firstRefusal a b ≡ 0
 then-none a b h k = rw (← h) k
 
--- of colours that are finite from `low` to b
-module _ (g : Gradient) (room : ℕ) (low b : Float) (fl : T (finite low)) (fb : T (finite b)) (colours : (t : Float) → T (le low t) → T (le t b) → finiteRgba (g t) ≡ true) where
-  none-from : (n : ℕ) (a : Float) (ts : List Float) → T (le low a) → Climbs a ts b → n + length ts ≤ room → refusalFrom g room n a ts ≡ 0
-  unfolding refusalFrom
-  none-from n a [] la h l = refl
-  none-from n a (t ∷ ts) la h l =
+-- of colours that are finite at every f32 from `low` to b
+module _ (g : Gradient) (room : ℕ) (low b : Float) (fl : T (finite low)) (fb : T (finite b)) (colours : (t : Float) → T (fits binary32 t) → T (le low t) → T (le t b) → finiteRgba (g t) ≡ true) where
+  none-from : (n : ℕ) (a : Float) (ts : List Float) → T (le low a) → Climbs a ts b → AllSingle ts → n + length ts ≤ room → refusalFrom g room n a ts ≡ 0
+  unfolding refusalFrom AllSingle
+  none-from n a [] la h s l = refl
+  none-from n a (t ∷ ts) la h s l =
       let lt = order.le-trans low a t la (h .0) in
       let tb = rises t b ts (h .1) in
       then-none (stopRefusal room n a t (g t)) (refusalFrom g room (n + 1) t ts)
-      (stop-fine room n a t (g t) (omega arith) (is-true (finite t) (order.finite-between low t b fl fb lt tb)) (colours t lt tb) (order.le→not-lt t a (h .0)))
-      (none-from (n + 1) t ts lt (h .1) (omega arith))
+      (stop-fine room n a t (g t) (omega arith) (is-true (finite t) (order.finite-between low t b fl fb lt tb)) (colours t (s .0) lt tb) (order.le→not-lt t a (h .0)))
+      (none-from (n + 1) t ts lt (h .1) (s .1) (omega arith))
 
-  pub no-refusal : (far : Far) (ts : List Float) → Climbs low ts b → length (keptOf g far ts) ≤ room → refusalOf g far room ts ≡ 0
-  unfolding refusalOf keptOf refusalFrom
-  no-refusal far [] h l = refl
-  no-refusal far (p ∷ ps) h l = none-from 0 p (p ∷ thinned g far p ps) (h .0) (order.le-refl p (order.no-nan-r low p (h .0)), thinned-climb g far p b ps (h .1)) (omega arith)
+  pub no-refusal : (far : Far) (ts : List Float) → Climbs low ts b → AllSingle ts → length (keptOf g far ts) ≤ room → refusalOf g far room ts ≡ 0
+  unfolding refusalOf keptOf refusalFrom AllSingle
+  no-refusal far [] h s l = refl
+  no-refusal far (p ∷ ps) h s l =
+      none-from 0 p (p ∷ thinned g far p ps) (h .0) (order.le-refl p (order.no-nan-r low p (h .0)), thinned-climb g far p b ps (h .1)) (s .0, thinned-single g far p ps (s .1)) (omega arith)
 
 -- ---- 9 is no refusal of a list that climbs, whatever its colours and the room are
 neither-nine : (k r : ℕ) → (k ≡ listFalling → ⊥) → (r ≡ listFalling → ⊥) → firstRefusal k r ≡ listFalling → ⊥

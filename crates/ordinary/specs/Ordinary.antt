@@ -73,11 +73,11 @@ pub record Moderate (ramp : Ramp) : Type 0 where
   pub within : AllFrom (neg (largest (ramp .kind))) (largest (ramp .kind)) (ramp .channels)
   pub places : Singles (ramp .positions)
 
--- the widest class: a ramp of any kind, which refusals 1 to 4 let pass, whose colours are finite on its domain
+-- the widest class: a ramp of any kind, which refusals 1 to 4 let pass, whose colours are finite at every f32 of its domain
 pub record FiniteOnDomain (ramp : Ramp) : Type 0 where
   pub passes : checkOf ramp ≡ Fine
   pub near : isDomain (minOf ramp) (maxOf ramp) ≡ true
-  pub finite-colours : (t : Float) → T (le (minOf ramp) t) → T (le t (maxOf ramp)) → finiteRgba (colourOf ramp t) ≡ true
+  pub finite-colours : (t : Float) → T (fits binary32 t) → T (le (minOf ramp) t) → T (le t (maxOf ramp)) → finiteRgba (colourOf ramp t) ≡ true
   pub first-single : T (fits binary32 (minOf ramp))
   pub last-single : T (fits binary32 (maxOf ramp))
 

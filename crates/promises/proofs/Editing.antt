@@ -14,7 +14,7 @@ pub kept : (κs : Lfts 1) (a : _) → Coincide (of-kept.Learnt κs a) answer
 kept κs a = coincide (λ r e w. w)
 
 pub check : (κs : Lfts 1) (a : _) → Coincide (of-check.Learnt κs a) answer
-check κs a = coincide (λ r e w. w)
+check κs a = coincide (λ r e w. w .answer)
 
 -- the answer and both outputs
 pub copy : (κs : Lfts 4) (a : _) → Coincide (of-copy.Learnt κs a) (λ r e. r with now (e .1 .1 .1 .1 .0) with now (e .1 .1 .1 .1 .1 .0))

@@ -2,7 +2,7 @@
 use contract.Lifetimes.{Lfts}
 use denote.Ref.{now}
 use Prim.Native.Nat.{ℕ}
-use mathlib.Core.Path.{_≡_, sym, _∙_, ap}
+use mathlib.Core.Path.{sym, _∙_, ap}
 use Rattle.sqrt.proofs.Theorems.{cutoff-unique}
 use Rattle.stops.specs.declared.Kind.{Kind}
 use Rattle.plain.specs.Kinds.{kindOf, onKind, Shows, ShowsOf}
@@ -14,6 +14,7 @@ use Rattle.promises.specs.Law.{Coincide, coincide, answer, _with_, both}
 use Rattle.colorgrad_c.proofs.leaves.colorgrad_root.Reads as of-root
 use Rattle.colorgrad_c.proofs.leaves.colorgrad_cutoff.Reads as of-cutoff
 use Rattle.colorgrad_c.proofs.leaves.colorgrad_threshold.Reads as of-threshold
+use Rattle.colorgrad_c.proofs.leaves.colorgrad_hold.Reads as of-hold
 use Rattle.colorgrad_c.proofs.leaves.colorgrad_token_told.Reads as of-token
 use Rattle.colorgrad_c.proofs.about.colorgrad_version.Reads as of-version
 use Rattle.colorgrad_c.proofs.about.colorgrad_message_told.Reads as of-message
@@ -29,6 +30,8 @@ use Rattle.colorgrad_c.proofs.tool.colorgrad_desk.Reads as of-desk
 use Rattle.colorgrad_c.proofs.lists.colorgrad_sample_told.Reads as of-sample
 use Rattle.colorgrad_c.proofs.lists.colorgrad_thin_told.Reads as of-thin
 use Rattle.colorgrad_c.proofs.lists.colorgrad_flatten_told.Reads as of-flatten
+use Rattle.colorgrad_c.proofs.lists.colorgrad_thin_within_told.Reads as of-thin-within
+use Rattle.colorgrad_c.proofs.lists.colorgrad_flatten_within_told.Reads as of-flatten-within
 use Rattle.colorgrad_c.proofs.steps.colorgrad_next_stop_told.Reads as of-next-stop
 use Rattle.colorgrad_c.proofs.judging.colorgrad_judge_told.Reads as of-judge
 use Rattle.colorgrad_c.proofs.edits.colorgrad_edit_told.Reads as of-edit
@@ -42,6 +45,9 @@ cutoff κs a = λ r s e f. cutoff-unique (a .0) r s
 
 pub threshold : (κs : Lfts 0) (a : _) → Coincide (of-threshold.Learnt κs a) answer
 threshold κs a = coincide (λ r e w. w)
+
+pub hold : (κs : Lfts 0) (a : _) → Coincide (of-hold.Learnt κs a) answer
+hold κs a = coincide (λ r e w. w)
 
 pub version : (κs : Lfts 0) (a : _) → Coincide (of-version.Learnt κs a) answer
 version κs a = coincide (λ r e w. w)
@@ -115,9 +121,21 @@ thin κs a =
     (λ kind. coincide (λ r e w. both (w .told .answer) (both (positions-of (w .output)) (channels-of (w .output)))))
     (coincide (λ r e w. both (w .0) (both (positions-of (w .1)) (channels-of (w .1)))))
 
+pub thin-within : (κs : Lfts 9) (a : _) → Coincide (of-thin-within.Learnt κs a) (λ r e. (r with now (e .1 .1 .1 .1 .1 .1 .1 .1 .1 .1 .1 .0)) with now (e .1 .1 .1 .1 .1 .1 .1 .1 .1 .0) with now (e .1 .1 .1 .1 .1 .1 .1 .1 .1 .1 .0))
+thin-within κs a =
+    by-code _ (a .0)
+    (λ kind. coincide (λ r e w. both (w .told .answer) (both (positions-of (w .output)) (channels-of (w .output)))))
+    (coincide (λ r e w. both (w .0) (both (positions-of (w .1)) (channels-of (w .1)))))
+
 -- with the record and both outputs
 pub flatten : (κs : Lfts 9) (a : _) → Coincide (of-flatten.Learnt κs a) (λ r e. (r with now (e .1 .1 .1 .1 .1 .1 .1 .1 .1 .1 .0)) with now (e .1 .1 .1 .1 .1 .0) with now (e .1 .1 .1 .1 .1 .1 .0) with now (e .1 .1 .1 .1 .1 .1 .1 .0) with now (e .1 .1 .1 .1 .1 .1 .1 .1 .0) with now (e .1 .1 .1 .1 .1 .1 .1 .1 .1 .0))
 flatten κs a =
+    by-code _ (a .0)
+    (λ kind. coincide (λ r e w. both (w .told .answer) (both (rows-of (w .left)) (both (counts-of (w .left)) (both (marks-of (w .left)) (both (positions-of (w .output)) (channels-of (w .output))))))))
+    (coincide (λ r e w. both (w .0) (both (rows-of (w .1 .0)) (both (counts-of (w .1 .0)) (both (marks-of (w .1 .0)) (both (positions-of (w .1 .1)) (channels-of (w .1 .1))))))))
+
+pub flatten-within : (κs : Lfts 9) (a : _) → Coincide (of-flatten-within.Learnt κs a) (λ r e. (r with now (e .1 .1 .1 .1 .1 .1 .1 .1 .1 .1 .1 .0)) with now (e .1 .1 .1 .1 .1 .1 .0) with now (e .1 .1 .1 .1 .1 .1 .1 .0) with now (e .1 .1 .1 .1 .1 .1 .1 .1 .0) with now (e .1 .1 .1 .1 .1 .1 .1 .1 .1 .0) with now (e .1 .1 .1 .1 .1 .1 .1 .1 .1 .1 .0))
+flatten-within κs a =
     by-code _ (a .0)
     (λ kind. coincide (λ r e w. both (w .told .answer) (both (rows-of (w .left)) (both (counts-of (w .left)) (both (marks-of (w .left)) (both (positions-of (w .output)) (channels-of (w .output))))))))
     (coincide (λ r e w. both (w .0) (both (rows-of (w .1 .0)) (both (counts-of (w .1 .0)) (both (marks-of (w .1 .0)) (both (positions-of (w .1 .1)) (channels-of (w .1 .1))))))))

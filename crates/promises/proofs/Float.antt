@@ -8,6 +8,8 @@ use Rattle.float.proofs.whole.Reads as of-whole
 use Rattle.float.proofs.from_whole.Reads as of-from-whole
 use Rattle.float.proofs.from_bits.Reads as of-from-bits
 use Rattle.float.proofs.to_bits.Reads as of-to-bits
+use Rattle.float.proofs.above.Reads as of-above
+use Rattle.float.proofs.below.Reads as of-below
 
 pub is-finite : (κs : Lfts 0) (a : _) → Coincide (of-is-finite.Learnt κs a) answer
 is-finite κs a = coincide (λ r e w. w)
@@ -29,3 +31,9 @@ from-bits κs a = coincide (λ r e w. w)
 
 pub to-bits : (κs : Lfts 0) (a : _) → Coincide (of-to-bits.Learnt κs a) answer
 to-bits κs a = coincide (λ r e w. w)
+
+pub above : (κs : Lfts 0) (a : _) → Coincide (of-above.Learnt κs a) answer
+above κs a = coincide (λ r e w. w)
+
+pub below : (κs : Lfts 0) (a : _) → Coincide (of-below.Learnt κs a) answer
+below κs a = coincide (λ r e w. w)

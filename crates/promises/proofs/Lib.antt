@@ -22,11 +22,14 @@ pub mod Sampling
 pub mod Thinning
 pub mod Places
 pub mod Linearize
+pub mod Weighed
+pub mod Within
 pub mod NextStop
 pub mod Reach
 pub mod Editing
 pub mod Refresh
 pub mod Judge
+pub mod Apart
 pub mod Paint
 pub mod Desk
 pub mod Plain

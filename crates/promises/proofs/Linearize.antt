@@ -8,9 +8,13 @@ use Rattle.linearize.proofs.after.Reads as of-after
 use Rattle.linearize.proofs.relist.Reads as of-relist
 use Rattle.linearize.proofs.flatten.Reads as of-flatten
 use Rattle.records.proofs.check_thin.Reads as of-check-thin
+use Rattle.records.proofs.check_counts.Reads as of-check-counts
 
 pub check-thin : (κs : Lfts 6) (a : _) → Coincide (of-check-thin.Learnt κs a) answer
 check-thin κs a = coincide (λ r e w. w .answer)
+
+pub check-counts : (κs : Lfts 1) (a : _) → Coincide (of-check-counts.Learnt κs a) answer
+check-counts κs a = coincide (λ r e w. w)
 
 -- the answer and both outputs
 pub thin : (κs : Lfts 8) (a : _) → Coincide (of-thin.Learnt κs a) (λ r e. r with now (e .1 .1 .1 .1 .1 .1 .1 .1 .0) with now (e .1 .1 .1 .1 .1 .1 .1 .1 .1 .0))

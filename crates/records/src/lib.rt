@@ -15,7 +15,7 @@ ghost use Rattle.sampling.specs.Sampling.{andThen, marksIn};
 ghost use Rattle.records.specs.Fitness.{countsCheck, marksCheck, thinCheck};
 
 // Refusal 5 of a count that is 0 or above 128.
-fn check_counts(counts: &[u8]) -> Checked
+pub fn check_counts(counts: &[u8]) -> Checked
     ensures { λ r. ⌜ r ≡ countsCheck (old counts) ⌝ }
 {
     let mut i = 0;

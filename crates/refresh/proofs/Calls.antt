@@ -34,7 +34,8 @@ use Rattle.reach.specs.Stretch.{cellClear}
 use Rattle.editing.specs.Edited.{edited}
 use Rattle.editing.specs.Rules.{editCheck}
 use Rattle.editing.specs.Reached.{away, clearCell}
-use Rattle.editing.proofs.EditSound.{Sound, edit-sound}
+use Rattle.editing.specs.Sound.{Sound}
+use Rattle.editing.proofs.EditSound.{edit-sound}
 use Rattle.refresh.specs.RefreshDesk.{numberOfRefreshed, refreshCheck, renewed, refreshAnswer, refreshHeld, refreshOutput, Refreshes, RefreshLists}
 use Rattle.refresh.specs.AfterEdit.{Shaped, OneList, ByThreshold, Fresh, RefreshedThenThinned, FreshList, SameCell}
 use Rattle.editing.specs.declared.Edit.{Edit}

@@ -23,13 +23,14 @@ use Rattle.reach.proofs.Kept.{checked-kept}
 use Rattle.editing.specs.Edited.{stopsAfter, edited}
 use Rattle.editing.specs.Rules.{editCheck}
 use Rattle.editing.specs.Reached.{stretchOf, cellsKept, clearCell}
-use Rattle.editing.specs.Copied.{copyCheck, Copies}
+use Rattle.editing.specs.Copied.{copyCheck, copyAnswer, Copies}
 use Rattle.editing.specs.declared.Edit.{Edit}
 use Rattle.editing.specs.declared.copy.Copied.{Copied}
 use Rattle.editing.specs.declared.copy.Copied.the-variants as copied
 use Rattle.editing.proofs.Splices.{written-is}
 use Rattle.editing.proofs.Copying.{copy-check, fits-are}
-use Rattle.editing.proofs.EditSound.{Sound, edit-sound}
+use Rattle.editing.specs.Sound.{Sound}
+use Rattle.editing.proofs.EditSound.{edit-sound}
 use Rattle.refresh.specs.RefreshDesk.{refreshCheck}
 
 -- ---- the check of a refresh
@@ -76,6 +77,7 @@ module _ (ramp : Ramp) (e : Edit) (fine : checkOf ramp ≡ checked.Fine) (places
   copied-done (checked.Refused m) k n h = let z : _≡_ {A = ℕ} 0 1 = cc in absurd (omega arith)
 
   pub edit-refused : (n : ℕ) → r ≡ copied.Refused n → editCheck ramp e ≡ checked.Refused n
+  unfolding copyAnswer
   edit-refused n is = copied-refused (editCheck ramp e) (stopsAfter (length (ramp .positions)) e) n (sym is ∙ w .answer ∙ rw checked-by)
 
   -- what a copy that was made holds
@@ -86,7 +88,7 @@ module _ (ramp : Ramp) (e : Edit) (fine : checkOf ramp ≡ checked.Fine) (places
     pub channels-are : take (4 * n) colours′ ≡ edited ramp e .channels
 
   pub copy-holds : (n : ℕ) → r ≡ copied.Stops n → Holds n
-  unfolding mostStops
+  unfolding mostStops copyAnswer
   copy-holds n is =
       let d = copied-done (editCheck ramp e) (stopsAfter (length (ramp .positions)) e) n (sym is ∙ w .answer ∙ rw checked-by) in
       let ok = edit-sound ramp e fine (d .0) in

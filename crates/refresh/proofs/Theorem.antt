@@ -26,7 +26,7 @@ use Rattle.editing.specs.Reached.{away}
 use Rattle.refresh.specs.RefreshDesk.{refreshCheck, renewed}
 use Rattle.editing.specs.declared.Edit.{Edit}
 use Rattle.refresh.proofs.Agree.{same-row, same-count, refreshed-rows, refreshed-counts}
-use Rattle.editing.proofs.EditSound.{Sound}
+use Rattle.editing.specs.Sound.{Sound}
 use Rattle.refresh.proofs.EditChecks.{same-marks}
 
 module _ (ramp : Ramp) (e : Edit) (ok : Sound ramp e) (asked : Float) where

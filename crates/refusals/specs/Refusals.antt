@@ -1,7 +1,8 @@
 -- The numbers of refusals, each with when it is given. Document 01, 'When the desk says no'; the names are those of include/colorgrad.h.
 use Prim.Native.Nat.{ℕ}
 
--- stops fewer than 2, more than 2,048, or odd in number for sharp; lent GIMP segments 0, above 256 or of a kind not carried; building sharp, room below 2n; or lent lengths disagree
+-- stops fewer than 2, more than 2,048, or odd in number for sharp; lent GIMP segments 0, above 256 or of a kind not carried; building sharp, room below 2n; a list to write of fewer than 2 stops or more than 257;
+-- an edit that adds a stop beyond 2,048; or lent lengths disagree
 abbrev pub misshapen : ℕ
 misshapen = 1
 
@@ -9,7 +10,7 @@ misshapen = 1
 abbrev pub notFinite : ℕ
 notFinite = 2
 
--- a stop's position is below the one before (not asked of GIMP segments)
+-- a stop's position is below the one before (not asked of GIMP segments), in a list to write too; an edit that moves or adds a stop below the one before it or above the one after
 abbrev pub falling : ℕ
 falling = 3
 
@@ -17,7 +18,7 @@ falling = 3
 abbrev pub farDomain : ℕ
 farDomain = 4
 
--- record length is not 4,608, 36 and 3, or, to thin or refresh, a count is 0 or above 128
+-- record length is not 4,608, 36 and 3, or, to thin or refresh, a count is 0 or above 128; one stop at a time, a place outside the record's rows and counts
 abbrev pub badRecord : ℕ
 badRecord = 5
 
@@ -25,7 +26,7 @@ badRecord = 5
 abbrev pub badEdit : ℕ
 badEdit = 6
 
--- one more stop is kept than the output has room for
+-- one more stop is kept than the output has room for; painting, more points than the output has room for colours; writing a list, more bytes than the output has
 abbrev pub noRoom : ℕ
 noRoom = 7
 
@@ -80,3 +81,19 @@ unwritable = 19
 -- to thin or refresh: the record's words are not the bits of the threshold in force, of min and of max
 abbrev pub otherThreshold : ℕ
 otherThreshold = 20
+
+-- a list within a hold: two stops that follow each other do not show what lies between them
+abbrev pub notShown : ℕ
+notShown = 21
+
+-- asking which depths a list made one: the list is turned down by `judge` before it asks for colours
+abbrev pub badList : ℕ
+badList = 22
+
+-- the same: no depths, or one that is not finite, outside min..max, or below the one before
+abbrev pub badDepths : ℕ
+badDepths = 23
+
+-- the same: a step that is not finite or below 0
+abbrev pub badStep : ℕ
+badStep = 24

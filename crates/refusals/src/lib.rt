@@ -1,25 +1,26 @@
 // Document 01's numbers of refusals and its limits, each once, under the names of include/colorgrad.h. The sampler's own
 // numbers are constants of its type.
 
-// A ramp whose stops or segments are too few, too many, odd for sharp or of a kind not carried; lengths that disagree.
+// A ramp whose stops or segments are too few, too many, with an edit made too, odd for sharp or of a kind not carried; a list
+// to write of too few or too many stops; lengths that disagree.
 pub const MISSHAPEN: u8 = 1;
 
 // A position or channel of the input is not finite.
 pub const NOT_FINITE: u8 = 2;
 
-// A stop's position is below the one before.
+// A stop's position is below the one before, in a ramp, in one with an edit made, or in a list to write.
 pub const FALLING: u8 = 3;
 
 // The domain reaches beyond plus or minus 1e38.
 pub const FAR_DOMAIN: u8 = 4;
 
-// A record of other lengths, or a count that is 0 or above 128.
+// A record of other lengths, a count that is 0 or above 128, or a place that the record has not.
 pub const BAD_RECORD: u8 = 5;
 
 // An edit of a kind of ramp that it cannot be made of, of no stop that may be edited so, or with a number that is not finite.
 pub const BAD_EDIT: u8 = 6;
 
-// One more stop is kept than the output has room for.
+// The output has no room for one more stop that is kept, for the colours painted, or for the text written.
 pub const NO_ROOM: u8 = 7;
 
 // An emitted position or colour is not finite.
@@ -60,6 +61,18 @@ pub const UNWRITABLE: u8 = 19;
 
 // A record of another threshold in force, or of other ends of the domain.
 pub const OTHER_THRESHOLD: u8 = 20;
+
+// Two stops of a list that follow each other do not show what lies between them.
+pub const NOT_SHOWN: u8 = 21;
+
+// A list that a judge turns down before it asks for colours.
+pub const BAD_LIST: u8 = 22;
+
+// No depths, or one that is not finite, outside the ramp's domain, or below the one before.
+pub const BAD_DEPTHS: u8 = 23;
+
+// A step that is not finite or below 0.
+pub const BAD_STEP: u8 = 24;
 
 // Stops of a ramp.
 pub const MOST_STOPS: usize = 2048;

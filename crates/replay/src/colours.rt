@@ -5,7 +5,7 @@ use blend::Rgba;
 use stops::Checked;
 use stops::Kind;
 
-fn is_colour(c: Rgba) -> bool {
+pub fn is_colour(c: Rgba) -> bool {
     let r = words::word();
     let g = words::word();
     let b = words::word();

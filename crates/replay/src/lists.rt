@@ -16,10 +16,6 @@ const SMALL_ROOM: u32 = 2;
 // What stands in lent memory before a call, so that what stays and what is set to zero both show.
 const RUBBISH: f32 = 7.5;
 
-fn is_number(n: usize, word: u32) -> bool {
-    n == word as usize
-}
-
 // Whether the answer is the next three words: refusal, stops, evaluations.
 fn is_answer(made: Listed) -> bool {
     let refusal = words::word();
@@ -34,10 +30,10 @@ fn is_answer(made: Listed) -> bool {
             if refusal != 0 {
                 return false;
             }
-            if !is_number(n, stops) {
+            if !words::is_number(n, stops) {
                 return false;
             }
-            is_number(m, evaluations)
+            words::is_number(m, evaluations)
         }
     }
 }

@@ -1,11 +1,15 @@
-// Runs the answers that the published Rust gave, as `compare/` stored them, and counts those that are equal here.
+// Runs the answers that `compare/` stored, and counts those that are equal here: the published Rust's, and of what the Rust has
+// not got those that were worked out from document 02.
 mod bands;
 mod colours;
 mod edits;
 mod lists;
 mod ramps;
+mod steps;
 mod texts;
+mod verdicts;
 mod words;
+mod written;
 
 // How many answers were compared, and how many of them were equal.
 pub struct Tally {
@@ -41,6 +45,9 @@ fn next(sort: u32, before: Tally) -> Tally {
     if sort == ramps::BANDS {
         return bands::run(before);
     }
+    if sort == ramps::WRITTEN {
+        return written::run(before);
+    }
     ramps::run(sort, before)
 }
 
@@ -62,4 +69,8 @@ fn main() {
     print(b"refreshed ", records(ramps::REFRESHED));
     print(b"texts ", records(ramps::TEXTS));
     print(b"sharp ", records(ramps::BANDS));
+    print(b"waves ", records(ramps::COLOURS));
+    print(b"written ", records(ramps::WRITTEN));
+    print(b"verdicts ", records(ramps::VERDICTS));
+    print(b"steps ", records(ramps::STEPS));
 }

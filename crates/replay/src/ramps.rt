@@ -2,6 +2,8 @@
 use crate::Tally;
 use crate::colours;
 use crate::lists;
+use crate::steps;
+use crate::verdicts;
 use crate::words;
 use stops::Kind;
 
@@ -16,6 +18,12 @@ pub const REFRESHED: u32 = 4;
 pub const TEXTS: u32 = 5;
 
 pub const BANDS: u32 = 6;
+
+pub const WRITTEN: u32 = 7;
+
+pub const VERDICTS: u32 = 8;
+
+pub const STEPS: u32 = 9;
 
 // One more than a ramp may have, 2,048 stops or 256 segments, so that the refusal of it is stored too.
 const MOST_POSITIONS: usize = 2049;
@@ -51,6 +59,12 @@ fn answers(
     }
     if sort == THINNED {
         return lists::thinned(kind, positions, channels, codes, before);
+    }
+    if sort == VERDICTS {
+        return verdicts::answers(kind, positions, channels, codes, before);
+    }
+    if sort == STEPS {
+        return steps::answers(kind, positions, channels, codes, before);
     }
     lists::refreshed(kind, positions, channels, codes, before)
 }

@@ -7,10 +7,6 @@ const MOST_BYTES: usize = 4096;
 
 const MOST_SEGMENTS: usize = 256;
 
-fn is_number(n: usize, word: u32) -> bool {
-    n == word as usize
-}
-
 // Whether the answer is the next three words: refusal, line, segments.
 fn is_answer(answer: Answer) -> bool {
     let refusal = words::word();
@@ -21,13 +17,13 @@ fn is_answer(answer: Answer) -> bool {
             if n as u32 != refusal {
                 return false;
             }
-            is_number(at, line)
+            words::is_number(at, line)
         }
         Answer::Read(n) => {
             if refusal != 0 {
                 return false;
             }
-            is_number(n, segments)
+            words::is_number(n, segments)
         }
     }
 }
@@ -56,7 +52,7 @@ fn answers(text: &[u8], before: Tally) -> Tally {
     let coded = coloured.with(words::are_bytes(&codes, k));
     let name = ggr::name(text);
     let n = words::word();
-    let measured = coded.with(is_number(name.len(), n));
+    let measured = coded.with(words::is_number(name.len(), n));
     measured.with(words::are_bytes(name, n))
 }
 

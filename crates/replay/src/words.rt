@@ -120,7 +120,11 @@ pub fn cut_bytes(s: &[u8], n: usize) -> &[u8] {
     s
 }
 
-fn both(a: bool, b: bool) -> bool {
+pub fn is_number(n: usize, word: u32) -> bool {
+    n == word as usize
+}
+
+pub fn both(a: bool, b: bool) -> bool {
     if a { b } else { false }
 }
 

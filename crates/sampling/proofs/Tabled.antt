@@ -69,7 +69,7 @@ module _ (kind : Kind) (ps cs : List Float) (base : ℕ) (table : Table) (t : Fl
       go CatmullRom = segment-colour ps cs t (Between k) 1 (segment-same cs (length ps) base table k h)
       go Gimp = refl
 
-  placed-is : (w : Place) → (placedPoint kind ps cs base table t w .t ≡ t) × (placedPoint kind ps cs base table t w .colour ≡ colourIn kind ps cs t w)
+  pub placed-is : (w : Place) → (placedPoint kind ps cs base table t w .t ≡ t) × (placedPoint kind ps cs base table t w .colour ≡ colourIn kind ps cs t w)
   unfolding colourIn
   placed-is (End i) = (refl, refl)
   placed-is Nowhere = (refl, refl)

@@ -68,7 +68,7 @@ fn within(
 }
 
 // The point at t, whose place among the stops is known.
-fn placed(
+pub fn placed(
     kind: Kind,
     positions: &[f32],
     channels: &[f32],

@@ -6,6 +6,7 @@ use stops::Checked;
 use stops::Kind;
 ghost use mathlib.Core.Path.{_≡_};
 ghost use Rattle.sqrt.specs.Cutoff.{IsCutoff};
+ghost use Rattle.stops.specs.Answers.{Checks};
 ghost use Rattle.stops.specs.Lent.{lentRamp};
 ghost use Rattle.sampling.specs.Constants.{thresholdOf};
 ghost use Rattle.sampling.specs.Sampling.{beyondOf, shapeCheck, sampleCheck};
@@ -152,7 +153,7 @@ pub fn check_sample(
     counts: usize,
     marks: usize,
 ) -> Checked
-    ensures { λ r. ⌜ r ≡ sampleCheck (lentRamp kind positions channels codes) rows counts marks ⌝ }
+    ensures { λ r. ⌜ Checks (sampleCheck (lentRamp kind positions channels codes) rows counts marks) r ⌝ }
 {
     match gradient::check(kind, positions, channels, codes) {
         Checked::Refused(n) => Checked::Refused(n),

@@ -11,7 +11,7 @@ use borrow.Author.Tests.{eqb-true, ne-eqb}
 use Rattle.refusals.specs.Refusals.{badSegment}
 use Rattle.float.specs.F32.{f0}
 use Rattle.rows.specs.declared.Parting.the-variants.{Spaces}
-use Rattle.text.specs.Text.{lines}
+use Rattle.text.specs.Text.{lines, firstOf}
 use Rattle.rows.specs.Rows.{Numbers, all, none, partsAt, rowEnd, RowAt}
 use Rattle.text.proofs.Bytes.{no}
 use Rattle.text.proofs.Lines.{lines-after}
@@ -19,7 +19,7 @@ use Rattle.rows.proofs.Numbers.{row-is, row-not, row-next}
 use Rattle.blend.specs.declared.Rgba.{Rgba}
 use Rattle.segment.specs.declared.SegmentRead.{SegmentRead}
 use Rattle.segment.specs.declared.SegmentRead.the-variants.{Fault}
-use Rattle.segment.specs.Line.{build, fromNumbers, segmentOnLine, SegmentAt}
+use Rattle.segment.specs.Line.{build, fromNumbers, segmentOnLine, numberOfSegment, SegmentAt}
 use Rattle.segment.specs.inner.Steps.{segmentLength}
 
 -- neither 13 numbers nor 15
@@ -41,7 +41,8 @@ module _ (fg bg : Rgba) {s : List ℕ} {at : ℕ} {d : List Float} {n next : ℕ
   pub segment-none : t ≡ false → SegmentAt fg bg s at (Fault badSegment) next
   unfolding segmentOnLine partsAt
   segment-none h = record {
-    is = not-segment fg bg _ (λ k i. row-not w k (most k i) (λ q. no (i ∙ ap segmentLength (sym q) ∙ sym e ∙ h)));
+    is = none-there;
+    number = ap numberOfSegment none-there;
     goes-on = w .goes-on;
     rest = λ g i. absurd (let z : _≡_ {A = ℕ} 0 1 = cc in omega arith);
   } where
@@ -51,6 +52,9 @@ module _ (fg bg : Rgba) {s : List ℕ} {at : ℕ} {d : List Float} {n next : ℕ
       go true f u g i = omega (arith, eqb-true k 13 f)
       go false f true g i = omega (arith, eqb-true k 15 g)
       go false f false g i = no i
+
+    none-there : Fault badSegment ≡ segmentOnLine fg bg (firstOf (lines (drop at s)))
+    none-there = not-segment fg bg _ (λ k i. row-not w k (most k i) (λ q. no (i ∙ ap segmentLength (sym q) ∙ sym e ∙ h)))
 
   some : t ≡ true → 0 < n
   some h = go n (sym h ∙ e) where
@@ -62,8 +66,10 @@ module _ (fg bg : Rgba) {s : List ℕ} {at : ℕ} {d : List Float} {n next : ℕ
   unfolding segmentOnLine partsAt rowEnd
   segment-some h o b =
       let r = row-is w (some h) in
+      let there : o ≡ segmentOnLine fg bg (firstOf (lines (drop at s))) = b ∙ by-length fg bg (take n d) d n (r .1) (sym h ∙ e) (r .2) ∙ ap (fromNumbers fg bg) (sym (r .0)) in
       record {
-        is = b ∙ by-length fg bg (take n d) d n (r .1) (sym h ∙ e) (r .2) ∙ ap (fromNumbers fg bg) (sym (r .0));
+        is = there;
+        number = ap numberOfSegment there;
         goes-on = w .goes-on;
         rest = λ g i. ap (λ (m : ℕ). lines (drop m s)) (row-next w (some h)) ∙ lines-after s at;
       }

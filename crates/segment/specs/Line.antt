@@ -78,8 +78,14 @@ fromNumbers fg bg (all xs) =
 unfoldable pub segmentOnLine : Rgba → Rgba → List ℕ → SegmentRead
 segmentOnLine fg bg l = fromNumbers fg bg (numbers (words l))
 
+-- document 01's number of what a line holds, 0 for a segment; its line is the reader's to tell
+abbrev pub numberOfSegment : SegmentRead → ℕ
+numberOfSegment (Valid g) = 0
+numberOfSegment (Fault number) = number
+
 -- the line at `at` holds this; `next` is where the line after it starts, or `at` where there are no numbers, and after a valid segment the lines go on there
 pub record SegmentAt (fg bg : Rgba) (s : List ℕ) (at : ℕ) (o : SegmentRead) (next : ℕ) : Type 0 where
   pub is : o ≡ segmentOnLine fg bg (firstOf (lines (drop at s)))
+  pub number : numberOfSegment o ≡ numberOfSegment (segmentOnLine fg bg (firstOf (lines (drop at s))))
   pub goes-on : next ≡ cond (eqb (length (rowAt Spaces s at)) 0) at (rowEnd Spaces s at)
   pub rest : (g : Segment) → o ≡ Valid g → lines (drop next s) ≡ restOf (lines (drop at s))

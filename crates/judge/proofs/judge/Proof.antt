@@ -18,15 +18,15 @@ enum-told : tie.Need-enum-told
 enum-told c = search needs
 
 judge-list-requires : tie.Need-judge-list-requires
-judge-list-requires c κs = sym (c .before .before .check-sample .ensures) ∙ c .enum-told .given .1
+judge-list-requires c κs = sym (c .before .before .check-sample .ensures .answer) ∙ c .enum-told .given .1
 
 returns : tie.Need-returns
-returns c = judge-refused _ _ _ _ (sym (c .before .before .before .check-sample .ensures) ∙ c .before .n .given .1)
+returns c = judge-refused _ _ _ _ (sym (c .before .before .before .check-sample .ensures .answer) ∙ c .before .n .given .1)
 
 returns-2 : tie.Need-returns-2
 returns-2 c =
     let told = c .before in
-    judge-done _ _ _ (sym (told .before .before .check-sample .ensures) ∙ told .enum-told .given .1) (c .judge-list .ensures)
+    judge-done _ _ _ (sym (told .before .before .check-sample .ensures .answer) ∙ told .enum-told .given .1) (c .judge-list .ensures)
 
 pub judge-spec : {M : Type 1} → statement M
 judge-spec =

@@ -23,7 +23,7 @@ same-length : tie.Need-same-length
 same-length c = search needs
 
 returns : tie.Need-returns
-returns c = relist-bad _ _ _ _ _ _ _ (sym (c .before .before .before .kept-good .ensures) ∙ not-true _ (c .before .before .if1 .taken)) (c .before .check-sample .ensures) (c .refused-by .ensures)
+returns c = relist-bad _ _ _ _ _ _ _ (sym (c .before .before .before .kept-good .ensures) ∙ not-true _ (c .before .before .if1 .taken)) (c .before .check-sample .ensures .answer) (c .refused-by .ensures)
 
 resample-requires : tie.Need-resample-requires
 resample-requires c κs = search needs

@@ -22,19 +22,19 @@ check-counts-requires c κs = search needs
 check-marks-requires : tie.Need-check-marks-requires
 check-marks-requires c κs =
     let told = c .before in
-    record-lengths _ _ _ _ (sym (told .before .before .check-sample .ensures) ∙ told .enum-told .given .1) .three
+    record-lengths _ _ _ _ (sym (told .before .before .check-sample .ensures .answer) ∙ told .enum-told .given .1) .three
 
 in-order-requires : tie.Need-in-order-requires
 in-order-requires c κs = search needs
 
 returns : tie.Need-returns
-returns c = checks (sample-refuses _ _ _ _ (sym (c .before .before .before .check-sample .ensures) ∙ c .before .n .given .1))
+returns c = checks (sample-refuses _ _ _ _ (sym (c .before .before .before .check-sample .ensures .answer) ∙ c .before .n .given .1))
 
 returns-2 : tie.Need-returns-2
 returns-2 c =
     let marked = c .before in
     let told = marked .before .before in
-    checks (sample-passes _ _ _ _ _ _ (sym (told .before .before .check-sample .ensures) ∙ told .enum-told .given .1) (marked .before .check-counts .ensures) (marked .check-marks .ensures) (c .in-order .ensures))
+    checks (sample-passes _ _ _ _ _ _ (sym (told .before .before .check-sample .ensures .answer) ∙ told .enum-told .given .1) (marked .before .check-counts .ensures) (marked .check-marks .ensures) (c .in-order .ensures))
 
 pub check-thin-spec : {M : Type 1} → statement M
 check-thin-spec =

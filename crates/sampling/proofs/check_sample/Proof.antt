@@ -1,5 +1,6 @@
 -- `check_sample` meets its contract: the ramp's own refusal first. Assumes nothing.
 use mathlib.Core.Path.{sym, _∙_}
+use Rattle.stops.proofs.Checking.{checks}
 use Rattle.sampling.proofs.Checks.{first-refuses, first-passes}
 use borrow.Author.Needs.{needs}
 use Rattle.sampling.proofs.check_sample.Statement.{statement}
@@ -24,10 +25,10 @@ check-shape-requires : tie.Need-check-shape-requires
 check-shape-requires c κs = search needs
 
 returns : tie.Need-returns
-returns c = first-refuses _ _ _ _ _ (sym (c .before .before .before .check .ensures .answer) ∙ c .before .n .given .1)
+returns c = checks (first-refuses _ _ _ _ _ (sym (c .before .before .before .check .ensures .answer) ∙ c .before .n .given .1))
 
 returns-2 : tie.Need-returns-2
-returns-2 c = first-passes _ _ _ _ _ _ _ (sym (c .before .before .before .before .before .check .ensures .answer) ∙ c .before .before .before .enum-told .given .1) (c .before .before .min-of .ensures) (c .before .max-of .ensures) (c .check-shape .ensures)
+returns-2 c = checks (first-passes _ _ _ _ _ _ _ (sym (c .before .before .before .before .before .check .ensures .answer) ∙ c .before .before .before .enum-told .given .1) (c .before .before .min-of .ensures) (c .before .max-of .ensures) (c .check-shape .ensures))
 
 pub check-sample-spec : {M : Type 1} → statement M
 check-sample-spec =

@@ -30,7 +30,7 @@ max-of-requires c κs = search needs
 resample-cells-requires : tie.Need-resample-cells-requires
 resample-cells-requires c κs =
     let told = c .before .before .before .before .before in
-    let fine = sym (told .before .before .check-sample .ensures) ∙ told .enum-told .given .1 in
+    let fine = sym (told .before .before .check-sample .ensures .answer) ∙ told .enum-told .given .1 in
     let l = record-lengths _ _ _ _ fine in
     ((l .long, l .many), ramp-fine _ _ _ _ fine)
 
@@ -38,7 +38,7 @@ put-requires : tie.Need-put-requires
 put-requires c κs =
     let sampled = c .before .before .before .before .before in
     let told = sampled .before .before .before .before .before .before in
-    record-lengths _ _ _ _ (sym (told .before .before .check-sample .ensures) ∙ told .enum-told .given .1) .three
+    record-lengths _ _ _ _ (sym (told .before .before .check-sample .ensures .answer) ∙ told .enum-told .given .1) .three
 
 mul-evaluations : tie.Need-mul-evaluations
 mul-evaluations c =
@@ -46,7 +46,7 @@ mul-evaluations c =
     omega (arith, renewed-bound _ _ _ _ _ _ _ (sampled .resample-cells .ensures))
 
 returns : tie.Need-returns
-returns c = resample-refused _ _ _ _ _ (sym (c .before .before .before .check-sample .ensures) ∙ c .before .n .given .1)
+returns c = resample-refused _ _ _ _ _ (sym (c .before .before .before .check-sample .ensures .answer) ∙ c .before .n .given .1)
 
 same-length : tie.Need-same-length
 same-length c = search needs
@@ -65,7 +65,7 @@ returns-2 c =
     let least = most .before in
     let cut = least .before in
     let told = cut .before in
-    resample-done _ _ _ _ _ _ _ _ _ (sym (told .before .before .check-sample .ensures) ∙ told .enum-told .given .1) (far-by-cutoff _ _ (cut .cutoff-of .ensures)) (least .min-of .ensures) (most .max-of .ensures) (sampled .resample-cells .ensures) (marked .put .ensures)
+    resample-done _ _ _ _ _ _ _ _ _ (sym (told .before .before .check-sample .ensures .answer) ∙ told .enum-told .given .1) (far-by-cutoff _ _ (cut .cutoff-of .ensures)) (least .min-of .ensures) (most .max-of .ensures) (sampled .resample-cells .ensures) (marked .put .ensures)
 
 pub resample-spec : {M : Type 1} → statement M
 resample-spec =

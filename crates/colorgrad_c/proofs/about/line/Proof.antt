@@ -1,6 +1,5 @@
 -- `line` meets its contract: line k is line k - i from `at` on. Assumes nothing.
 use borrow.Author.Needs.{needs}
-use native.Mathlib.Omega.{arith}
 use Prim.Native.Nat.{_-_}
 use Rattle.colorgrad_c.proofs.Messages.{Passed, passed-none, passed-more, passed-all}
 use Rattle.colorgrad_c.proofs.about.line.Statement.{statement}

@@ -22,7 +22,7 @@ copy-fits-requires c κs = search needs
 returns : tie.Need-returns
 returns c =
     let told = c .before .before in
-    no-copy _ _ _ _ _ _ (sym (told .before .before .check .ensures) ∙ told .enum-told .given .1) (failed (c .if1 .taken) (c .before .copy-fits .ensures))
+    no-copy _ _ _ _ _ _ (sym (told .before .before .check .ensures .answer) ∙ told .enum-told .given .1) (failed (c .if1 .taken) (c .before .copy-fits .ensures))
 
 copy-positions-requires : tie.Need-copy-positions-requires
 copy-positions-requires c κs =
@@ -31,7 +31,7 @@ copy-positions-requires c κs =
     let checked = told .before .before in
     let a = checked .before .before .before .before .before .args in
     let fits = passed (room .if1 .left) (room .before .copy-fits .ensures) in
-    let fine = sym (checked .check .ensures) ∙ told .enum-told .given .1 in
+    let fine = sym (checked .check .ensures .answer) ∙ told .enum-told .given .1 in
     (stop-there (a .kind) (a .positions .now) (a .edit) fine, room-is _ _ _ _ fits .some)
 
 copy-channels-requires : tie.Need-copy-channels-requires
@@ -41,7 +41,7 @@ copy-channels-requires c κs =
     let checked = told .before .before in
     let a = checked .before .before .before .before .before .args in
     let fits = passed (room .if1 .left) (room .before .copy-fits .ensures) in
-    let fine = sym (checked .check .ensures) ∙ told .enum-told .given .1 in
+    let fine = sym (checked .check .ensures .answer) ∙ told .enum-told .given .1 in
     let l = stop-there (a .kind) (a .positions .now) (a .edit) fine in
     let r = room-is _ _ _ _ fits in
     (omega (arith, l, r .four), r .wide)
@@ -53,11 +53,11 @@ stops-after-requires c κs =
     let checked = told .before .before in
     let a = checked .before .before .before .before .before .args in
     let fits = passed (room .if1 .left) (room .before .copy-fits .ensures) in
-    let fine = sym (checked .check .ensures) ∙ told .enum-told .given .1 in
+    let fine = sym (checked .check .ensures .answer) ∙ told .enum-told .given .1 in
     (stop-there (a .kind) (a .positions .now) (a .edit) fine, room-is _ _ _ _ fits .most)
 
 returns-2 : tie.Need-returns-2
-returns-2 c = copy-refused _ _ _ _ _ _ _ (sym (c .before .before .before .check .ensures) ∙ c .before .number .given .1)
+returns-2 c = copy-refused _ _ _ _ _ _ _ (sym (c .before .before .before .check .ensures .answer) ∙ c .before .number .given .1)
 
 same-length : tie.Need-same-length
 same-length c = search needs
@@ -72,7 +72,7 @@ returns-3 c =
     let checked = told .before .before in
     let a = checked .before .before .before .before .before .args in
     let fits = passed (room .if1 .left) (room .before .copy-fits .ensures) in
-    let fine = sym (checked .check .ensures) ∙ told .enum-told .given .1 in
+    let fine = sym (checked .check .ensures .answer) ∙ told .enum-told .given .1 in
     let placed = c .before .before .before .before .before .before .before .copy-positions in
     let coloured = c .before .before .before .copy-channels in
     copy-done (a .kind) (a .positions .now) (a .channels .now) (a .edit) (a .places .now) (a .colours .now) fine fits (placed .last .1 .1 .0) (coloured .last .1 .1 .0) _ (placed .ensures) (coloured .ensures) (c .stops-after .ensures)

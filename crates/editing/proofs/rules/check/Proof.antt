@@ -1,4 +1,5 @@
 -- `check` meets its contract: edit by edit. Assumes nothing.
+use Rattle.stops.proofs.Checking.{checks}
 use Rattle.editing.proofs.EditRules.{as-edit}
 use borrow.Author.Needs.{needs}
 use Rattle.editing.proofs.rules.check.Statement.{statement}
@@ -29,16 +30,16 @@ check-remove-requires : tie.Need-check-remove-requires
 check-remove-requires c κs = search needs
 
 returns : tie.Need-returns
-returns c = as-edit _ _ (c .before .before .edit .given .1) (c .check-colour .ensures)
+returns c = checks (as-edit _ _ (c .before .before .edit .given .1) (c .check-colour .ensures))
 
 returns-2 : tie.Need-returns-2
-returns-2 c = as-edit _ _ (c .before .before .edit2 .given .1) (c .check-move .ensures)
+returns-2 c = checks (as-edit _ _ (c .before .before .edit2 .given .1) (c .check-move .ensures))
 
 returns-3 : tie.Need-returns-3
-returns-3 c = as-edit _ _ (c .before .before .edit3 .given .1) (c .check-add .ensures)
+returns-3 c = checks (as-edit _ _ (c .before .before .edit3 .given .1) (c .check-add .ensures))
 
 returns-4 : tie.Need-returns-4
-returns-4 c = as-edit _ _ (c .before .before .edit4 .given .1) (c .check-remove .ensures)
+returns-4 c = checks (as-edit _ _ (c .before .before .edit4 .given .1) (c .check-remove .ensures))
 
 pub check-spec : {M : Type 1} → statement M
 check-spec =

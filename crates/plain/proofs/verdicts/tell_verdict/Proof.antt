@@ -1,6 +1,6 @@
 -- `tell_verdict` meets its contract: the numbers, the point, and the refusal. Assumes nothing.
 use mathlib.Core.Path.{ap}
-use mathlib.Core.List.{List, [], _∷_}
+use mathlib.Core.List.{[], _∷_}
 use lib.Ieee.{Float}
 use Rattle.plain.proofs.Stored.{tells-same}
 use borrow.Author.Needs.{needs}

@@ -1,0 +1,5 @@
+pub mod Counting
+pub mod Checking
+pub mod Telling
+pub mod Answering
+pub mod Theorems

@@ -1,0 +1,15 @@
+-- `is_told` meets its contract: of the difference. Assumes nothing.
+use borrow.Author.Needs.{needs}
+use Rattle.apart.proofs.Telling.{told-is}
+use Rattle.apart.proofs.depth.is_told.Statement.{statement}
+use Rattle.apart.proofs.depth.is_told.Tie as tie
+
+distance-requires : tie.Need-distance-requires
+distance-requires c κs = search needs
+
+returns : tie.Need-returns
+returns c = told-is _ _ _ (c .distance .ensures)
+
+pub is-told-spec : {M : Type 1} → statement M
+is-told-spec =
+    tie.close (tie.spec distance-requires returns)

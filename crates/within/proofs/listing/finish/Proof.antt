@@ -1,0 +1,25 @@
+-- `finish` meets its contract: a refusal clears both outputs. Assumes nothing.
+use borrow.Author.Needs.{needs}
+use Rattle.linearize.proofs.Lists.{refused-answer, done-answer, zeroed, left}
+use Rattle.within.proofs.listing.finish.Statement.{statement}
+use Rattle.within.proofs.listing.finish.Tie as tie
+
+returns : tie.Need-returns
+returns c =
+    let at-channels = c .before .before in
+    let at-positions = at-channels .before .before .before .before in
+    let at-test = at-positions .before .before in
+    let a = at-test .before .before .before .args in
+    let bad = at-test .if1 .taken in
+    (refused-answer _ _ _ bad, (zeroed _ (a .out-positions .now) _ bad (at-positions .zero-from .ensures), zeroed _ (a .out-channels .now) _ bad (at-channels .zero-from2 .ensures)))
+
+returns-2 : tie.Need-returns-2
+returns-2 c =
+    let a = c .before .before .before .args in
+    let good = c .if1 .left in
+    (done-answer _ _ _ good, (left _ (a .out-positions .now) good, left _ (a .out-channels .now) good))
+
+pub finish-spec : {M : Type 1} → statement M
+finish-spec =
+    tie.close
+    (tie.spec (λ c κs. search needs) (λ c κs. search needs) (λ c. search needs) (λ c. search needs) returns returns-2)

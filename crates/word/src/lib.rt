@@ -1,0 +1,1 @@
+// Theorems of lists within a hold, in proofs/. There is no code here.
