@@ -14,8 +14,8 @@
  *     if (made.refusal != COLORGRAD_FINE)
  *         puts(colorgrad_message(made.refusal));
  *
- * Stack: some 120 KB for colorgrad_desk, 70 KB to edit, 45 KB to judge, 26 KB to sample, flatten or paint, and below 13 KB
- * for every other call. These were read off the compiled code for x86-64, and are not proved (docs/SPEED.md).
+ * Stack: some 120 KB for colorgrad_desk, 85 KB for lists that keep their word, 70 KB to edit, 45 KB to judge, 26 KB to
+ * sample, flatten or paint, and below 13 KB for every other call. These were read off the compiled code for x86-64, and are not proved (docs/SPEED.md).
  *
  * The calls stand in three headers. This one has those over structs, which are for programs. colorgrad_long.h has the same
  * with each argument by itself, as version 0.1.0 had them, and colorgrad_calls.h those of the library, for bindings. */
