@@ -9,7 +9,7 @@ use Rattle.stops.specs.declared.Kind.{Kind}
 use Rattle.sampling.specs.Lent.{Held, lentHeld}
 use Rattle.linearize.specs.Lent.{Output, lentOutput}
 use Rattle.linearize.specs.Desk.{numberOfListed}
-use Rattle.editing.specs.declared.Edit.{Edit}
+use Rattle.refresh.specs.declared.editing.Edit.{Edit}
 use Rattle.refresh.specs.RefreshDesk.{Refreshes, RefreshLists, numberOfRefreshed}
 use Rattle.refresh.specs.declared.Refreshed.{Refreshed}
 use Rattle.refresh.specs.declared.Refreshed.the-variants as refreshed

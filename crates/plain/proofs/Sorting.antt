@@ -3,7 +3,7 @@ use mathlib.Core.Path.{_≡_, sym, ap}
 use Prim.Native.Nat.{ℕ}
 use borrow.Author.Tests.{ne-eqb}
 use lib.Ieee.{Float}
-use Rattle.editing.specs.declared.Edit.the-variants.{Colour, Move, Add, Remove}
+use Rattle.refresh.specs.declared.editing.Edit.the-variants.{Colour, Move, Add, Remove}
 use Rattle.plain.specs.Edits.{rgbaOf, editOf}
 
 module _ {n : ℕ} (k : ℕ) (p r g b a : Float) where

@@ -4,8 +4,8 @@ use mathlib.Core.Bool.{cond}
 use lib.Dec.{eqb}
 use lib.Ieee.{Float}
 use Rattle.blend.specs.declared.Rgba.{Rgba}
-use Rattle.editing.specs.declared.Edit.{Edit}
-use Rattle.editing.specs.declared.Edit.the-variants.{Colour, Move, Add, Remove}
+use Rattle.refresh.specs.declared.editing.Edit.{Edit}
+use Rattle.refresh.specs.declared.editing.Edit.the-variants.{Colour, Move, Add, Remove}
 
 -- a colour is four numbers
 abbrev pub rgbaOf : Float → Float → Float → Float → Rgba

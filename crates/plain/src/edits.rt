@@ -1,6 +1,6 @@
 // The sorts of edit by their codes.
 use blend::Rgba;
-use editing::Edit;
+use refresh::editing::Edit;
 ghost use mathlib.Core.Path.{_≡_};
 ghost use Rattle.plain.specs.Edits.{editOf};
 

@@ -25,8 +25,6 @@ pub mod Linearize
 pub mod Weighed
 pub mod Within
 pub mod NextStop
-pub mod Reach
-pub mod Editing
 pub mod Refresh
 pub mod Judge
 pub mod Apart
