@@ -10,9 +10,9 @@ use Rattle.judge.specs.Promises.{Judges}
 use Rattle.judge.specs.Verdicts.{numberOfVerdict}
 use Rattle.judge.specs.declared.Verdict.{Verdict}
 use Rattle.judge.specs.declared.Verdict.the-variants as verdict
-use Rattle.plain.specs.Telling.{Reply}
-use Rattle.plain.specs.Kinds.{CodedRamp, TellsBoth}
-use Rattle.plain.specs.Verdicts.{verdictTold, pointOf}
+use Rattle.colorgrad_c.specs.plain.Telling.{Reply}
+use Rattle.colorgrad_c.specs.plain.Kinds.{CodedRamp, TellsBoth}
+use Rattle.colorgrad_c.specs.plain.Verdicts.{verdictTold, pointOf}
 
 -- the promise of `judge`, of a ramp of any kind; a code that names no kind is 1
 abbrev pub CodedJudges : CodedRamp → Float → Offer → Reply (List ℕ × List Float) → Type 0

@@ -17,9 +17,9 @@ use Rattle.sampling.specs.declared.Sampled.{Sampled}
 use Rattle.sampling.specs.declared.Sampled.the-variants as sampled
 use Rattle.linearize.specs.declared.Listed.{Listed}
 use Rattle.linearize.specs.declared.Listed.the-variants as listed
-use Rattle.plain.specs.Telling.{Reply}
-use Rattle.plain.specs.Kinds.{CodedRamp, Tells}
-use Rattle.plain.specs.Lists.{sampledTold, listedTold}
+use Rattle.colorgrad_c.specs.plain.Telling.{Reply}
+use Rattle.colorgrad_c.specs.plain.Kinds.{CodedRamp, Tells}
+use Rattle.colorgrad_c.specs.plain.Lists.{sampledTold, listedTold}
 
 -- the promises of `linearize` and `within`, of a ramp of any kind; a code that names no kind is 1 and changes nothing
 module _ (by : CodedRamp) (asked : Float) (held : Change Held) where

@@ -1,12 +1,12 @@
 // Judging a list that was made elsewhere.
+use crate::plain::kinds;
+use crate::plain::kinds::Coded;
+use crate::plain::verdicts::tell_verdict;
 use judge::Verdict;
-use plain::kinds;
-use plain::kinds::Coded;
-use plain::verdicts::tell_verdict;
 use refusals::MISSHAPEN;
 ghost use Rattle.judge.specs.Lists.{lentOffer};
-ghost use Rattle.plain.specs.Telling.{replies};
-ghost use Rattle.plain.specs.Kinds.{rampBy};
+ghost use Rattle.colorgrad_c.specs.plain.Telling.{replies};
+ghost use Rattle.colorgrad_c.specs.plain.Kinds.{rampBy};
 ghost use Rattle.colorgrad_c.specs.Judging.{CodedJudges};
 
 // Tells the verdict, and the stop, the row and the index that it names; and the t of the point.

@@ -30,7 +30,6 @@ pub mod Judge
 pub mod Apart
 pub mod Paint
 pub mod Desk
-pub mod Plain
 pub mod Face
 pub mod GgrWriting
 pub mod Spelling
