@@ -1,0 +1,34 @@
+//! The tool's lines: with nine digits, to be read again, or as bits.
+
+use super::Piece;
+use crate::fault::Answer;
+use crate::number;
+use crate::ramp::name_of;
+use guineaplume::Refusal;
+use std::fmt::Write;
+
+pub fn text(piece: &Piece) -> Answer<String> {
+    let mut text = format!("kind\t{}\n", name_of(piece.kind));
+    for (i, (position, color)) in piece.stops.iter().enumerate() {
+        text.push_str("stop");
+        for x in std::iter::once(*position).chain(color.to_array()) {
+            let written = number::nine_digits(x);
+            if number::read(&written) != Some(x) {
+                return Err(piece.refused(Refusal::Unwritable, &format!("; stop {i}, counted from 0, has {x:e}")));
+            }
+            let _ = write!(text, "\t{written}");
+        }
+        text.push('\n');
+    }
+    Ok(text)
+}
+
+/// As `flatten` prints it.
+pub fn bits(piece: &Piece) -> String {
+    let mut text = format!("stops\t{}\tevaluations\t{}\n", piece.stops.len(), piece.evaluations.unwrap_or(0));
+    for (position, color) in &piece.stops {
+        let [r, g, b, a] = color.to_array().map(f32::to_bits);
+        let _ = writeln!(text, "stop\t{:08x}\t{r:08x}\t{g:08x}\t{b:08x}\t{a:08x}", position.to_bits());
+    }
+    text
+}
