@@ -53,7 +53,7 @@ pub fn run(options: &Options) -> Vec<Tally> {
 }
 
 /// Every kind in turn, and sinusoidal segments.
-fn any_ramp(random: &mut Random, case: u64) -> Ramp {
+pub fn any_ramp(random: &mut Random, case: u64) -> Ramp {
     match KINDS.get(case as usize / 2 % (KINDS.len() + 1)) {
         Some(kind) => random_or_spoilt(random, *kind),
         None => sine::random_ramp(random),
