@@ -37,6 +37,10 @@ impl Apart {
         self.depths.windows(2).map(|pair| (&pair[0], &pair[1])).filter(|(_, depth)| depth.is_merged)
     }
 
+    pub fn has_merged(&self) -> bool {
+        self.merged().next().is_some()
+    }
+
     pub fn farthest(&self) -> Option<&Depth> {
         self.depths.iter().max_by(|x, y| x.distance.total_cmp(&y.distance))
     }

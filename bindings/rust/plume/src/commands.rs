@@ -170,7 +170,7 @@ pub fn apart(options: &Options) -> Answer<u8> {
     making::notes(&source, options).iter().for_each(|note| output::say(note));
     output::print(report::depths(&said.apart).as_bytes())?;
     output::say(&format!("{}: {}", source.file, report::counted(&said.apart)));
-    Ok(u8::from(said.apart.merged().next().is_some()))
+    Ok(u8::from(said.apart.has_merged()))
 }
 
 /// `show RAMP [LIST]`

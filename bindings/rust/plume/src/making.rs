@@ -59,7 +59,7 @@ impl Said {
 
     /// Judged no, or depths merged.
     pub fn status(&self) -> u8 {
-        let is_faulty = !self.verdict.is_yes() || self.apart.merged().next().is_some();
+        let is_faulty = !self.verdict.is_yes() || self.apart.has_merged();
         if is_faulty { FAULTY } else { 0 }
     }
 
