@@ -1,4 +1,5 @@
-//! GMT colour tables: slices of two values with a colour each, RGB from 0 to 255, with slashes or spaces.
+//! GMT colour tables: slices of two values with a colour each, RGB from 0 to 255, with slashes or spaces, or a name of those
+//! that GMT's own tables use.
 
 use super::{lines, stumble, File, Row, Source};
 use crate::fault::Answer;
@@ -6,6 +7,28 @@ use crate::number;
 use guineaplume::lent::Kind;
 
 const EXPECTED: &str = "expected 'z r g b z r g b' or 'z r/g/b z r/g/b'";
+
+/// X11's, of which green is the full one and gray is 190.
+const NAMES: [(&str, [u8; 3]); 18] = [
+    ("black", [0, 0, 0]),
+    ("white", [255, 255, 255]),
+    ("red", [255, 0, 0]),
+    ("green", [0, 255, 0]),
+    ("blue", [0, 0, 255]),
+    ("cyan", [0, 255, 255]),
+    ("magenta", [255, 0, 255]),
+    ("yellow", [255, 255, 0]),
+    ("gray", [190, 190, 190]),
+    ("bisque2", [238, 213, 183]),
+    ("burlywood", [222, 184, 135]),
+    ("darkorange1", [255, 127, 0]),
+    ("darkorange3", [205, 102, 0]),
+    ("ivory2", [238, 238, 224]),
+    ("mediumaquamarine", [102, 205, 170]),
+    ("mediumseagreen", [60, 179, 113]),
+    ("saddlebrown", [139, 69, 19]),
+    ("snow", [255, 250, 250]),
+];
 
 struct Slice {
     line: usize,
@@ -52,7 +75,7 @@ fn slice(file: &File, line: usize, fields: &[&str]) -> Answer<Slice> {
         _ => fields,
     };
     let halves = match fields.len() {
-        8 => [fields[..4].to_vec(), fields[4..].to_vec()],
+        8 => [owned(&fields[..4]), owned(&fields[4..])],
         4 => [slashed(&fields[..2]), slashed(&fields[2..])],
         found => return file.unread(line, format!("{EXPECTED}; {}", odd(found, fields))),
     };
@@ -71,15 +94,34 @@ fn odd(found: usize, fields: &[&str]) -> String {
     }
 }
 
-fn slashed<'a>(pair: &[&'a str]) -> Vec<&'a str> {
-    std::iter::once(pair[0]).chain(pair[1].split('/')).collect()
+fn owned(half: &[&str]) -> Vec<String> {
+    half.iter().map(|field| field.to_string()).collect()
 }
 
-fn end_of(file: &File, line: usize, half: &[&str]) -> Answer<(f32, [f32; 4])> {
+/// A value and its colour in one field.
+fn slashed(pair: &[&str]) -> Vec<String> {
+    let channels: Vec<String> = match named(pair[1]) {
+        Some(color) => color.iter().map(u8::to_string).collect(),
+        None => pair[1].split('/').map(String::from).collect(),
+    };
+    std::iter::once(pair[0].into()).chain(channels).collect()
+}
+
+/// A colour by its name; gray0 to gray100 are hundredths.
+fn named(name: &str) -> Option<[u8; 3]> {
+    let hundredths = name.strip_prefix("gray").and_then(|number| number.parse::<u32>().ok());
+    if let Some(hundredths) = hundredths.filter(|number| *number <= 100) {
+        // so X11 rounds: gray50 is 127, gray10 is 26
+        return Some([(f64::from(hundredths) * 2.55 + 0.5) as u8; 3]);
+    }
+    NAMES.iter().find(|(one, _)| *one == name).map(|(_, color)| *color)
+}
+
+fn end_of(file: &File, line: usize, half: &[String]) -> Answer<(f32, [f32; 4])> {
     let mut numbers = [0.0; 4];
     if half.len() != 4 {
         let found = half[1..].join("/");
-        let names = if found.contains(char::is_alphabetic) { ", and names of colours are not read" } else { "" };
+        let names = if found.contains(char::is_alphabetic) { ", and no such name of a colour is known" } else { "" };
         return file.unread(line, format!("{EXPECTED}; found {}{names}", stumble::quoted(&found)));
     }
     for (number, field) in numbers.iter_mut().zip(half) {
