@@ -16,21 +16,17 @@ use guineaplume::lent::Kind;
 use guineaplume::Gradient;
 
 /// Does something to each file; a bad one does not stop the others. The answer is the highest status.
-fn each(files: &[String], options: &Options, act: impl Fn(&Source, &mut Target) -> Answer<u8>) -> Answer<u8> {
+fn each(files: &[String], bytes: bool, mut act: impl FnMut(&Source) -> Answer<u8>) -> Answer<u8> {
     if files.is_empty() {
         return Err(Fault::usage("a file is to be named; '-' is standard input"));
     }
-    let mut target = Target::new(options.out.as_deref(), files.len())?;
     let progress = Progress::new(files.len());
     let mut status = 0;
     for (done, file) in files.iter().enumerate() {
         progress.at(done, file);
-        let answer = read::read(file, options.bytes).and_then(|source| {
-            progress.clear();
-            act(&source, &mut target)
-        });
+        let read = read::read(file, bytes);
         progress.clear();
-        status = status.max(answer.unwrap_or_else(|fault| {
+        status = status.max(read.and_then(|source| act(&source)).unwrap_or_else(|fault| {
             eprintln!("{fault}");
             fault.status
         }));
@@ -40,7 +36,8 @@ fn each(files: &[String], options: &Options, act: impl Fn(&Source, &mut Target) 
 
 /// `flatten FILE ..`
 pub fn flatten(options: &Options) -> Answer<u8> {
-    each(&options.words, options, |source, target| listed(source, &[], options, target))
+    let mut target = Target::new(options.out.as_deref(), options.words.len())?;
+    each(&options.words, options.bytes, |source| listed(source, &[], options, &mut target))
 }
 
 /// `edit FILE EDIT ..`
@@ -50,7 +47,8 @@ pub fn edit(options: &Options) -> Answer<u8> {
     if edits.is_empty() {
         return Err(Fault::usage("an edit is to be named: color 3 #1a2b3c, move 3 0.42, add 0.42 #1a2b3c, remove 3"));
     }
-    each(std::slice::from_ref(file), options, |source, target| listed(source, &edits, options, target))
+    let mut target = Target::new(options.out.as_deref(), 1)?;
+    each(std::slice::from_ref(file), options.bytes, |source| listed(source, &edits, options, &mut target))
 }
 
 /// Flattens, writes, and says what came of it.
@@ -63,7 +61,7 @@ fn listed(source: &Source, edits: &[Word], options: &Options, target: &mut Targe
         name: &source.name,
         kind: Kind::Linear,
         stops: made.list.clone(),
-        evaluations: Some(made.evaluations),
+        evaluations: made.evaluations,
         domain: options.domain,
     };
     let (bytes, notes) = match (format, printed(source, edits, options)) {
@@ -88,29 +86,31 @@ fn printed(source: &Source, edits: &[Word], options: &Options) -> Option<Vec<u8>
 
 /// `convert FILE .. --to FORMAT`: a ramp that is mixed linearly is kept as it is, another is flattened.
 pub fn convert(options: &Options) -> Answer<u8> {
-    each(&options.words, options, |source, target| {
-        let format = options.format();
-        let keeps_kind = format == Format::Text && source.ramp.kind != Kind::Gimp;
-        let kept = if keeps_kind { Some(source.ramp.stops()) } else { source.ramp.as_list() };
-        let Some(stops) = kept.filter(|_| source.edit.is_none()) else {
-            let why = if source.edit.is_some() { "it is edited" } else { "it is not mixed linearly" };
-            output::say(&format!("{}: {why}, so it is flattened", source.file));
-            return listed(source, &[], options, target);
-        };
-        let kind = if keeps_kind { source.ramp.kind } else { Kind::Linear };
-        let piece =
-            Piece { file: &source.file, name: &source.name, kind, stops, evaluations: None, domain: options.domain };
-        let (bytes, notes) = piece.written(format)?;
-        target.write(&source.file, &source.name, format.ending(), &bytes)?;
-        source.notes.iter().chain(&notes).for_each(|note| output::say(note));
-        output::say(&format!("{}: {}, kept as they are", source.file, source.ramp.count()));
-        Ok(0)
-    })
+    let mut target = Target::new(options.out.as_deref(), options.words.len())?;
+    each(&options.words, options.bytes, |source| converted(source, options, &mut target))
+}
+
+fn converted(source: &Source, options: &Options, target: &mut Target) -> Answer<u8> {
+    let format = options.format();
+    let keeps_kind = format == Format::Text && source.ramp.kind != Kind::Gimp;
+    let kept = if keeps_kind { Some(source.ramp.stops()) } else { source.ramp.as_list() };
+    let Some(stops) = kept.filter(|_| source.edit.is_none()) else {
+        let why = if source.edit.is_some() { "it is edited" } else { "it is not mixed linearly" };
+        output::say(&format!("{}: {why}, so it is flattened", source.file));
+        return listed(source, &[], options, target);
+    };
+    let kind = if keeps_kind { source.ramp.kind } else { Kind::Linear };
+    let (file, name, domain) = (source.file.as_str(), source.name.as_str(), options.domain);
+    let (bytes, notes) = Piece { file, name, kind, stops, evaluations: 0, domain }.written(format)?;
+    target.write(file, name, format.ending(), &bytes)?;
+    source.notes.iter().chain(&notes).for_each(|note| output::say(note));
+    output::say(&format!("{file}: {}, kept as they are", source.ramp.count()));
+    Ok(0)
 }
 
 /// `check FILE ..`
 pub fn check(options: &Options) -> Answer<u8> {
-    each(&options.words, &Options::default(), |source, _| {
+    each(&options.words, options.bytes, |source| {
         let (min, max) = source.ramp.domain();
         let kind = name_of(source.ramp.kind);
         let ends = (number::short(min), number::short(max));

@@ -20,10 +20,13 @@ fn off(apart: &Apart) -> String {
     let threshold = short(apart.threshold);
     let far: Vec<&Depth> = apart.moved().collect();
     if far.is_empty() {
-        let farthest = apart.farthest().map_or(String::new(), |depth| {
-            format!("; the farthest, {}, is {} off", short(depth.position), about(depth.distance))
-        });
-        return format!("none of your stops is farther off than {threshold}{farthest}");
+        return match apart.farthest() {
+            Some(depth) if depth.distance > 0.0 => {
+                let (position, distance) = (short(depth.position), about(depth.distance));
+                format!("none of your stops is farther off than {threshold}; the farthest, {position}, is {distance} off")
+            }
+            _ => "each of your stops has its own colour".into(),
+        };
     }
     let named: Vec<String> =
         far.iter().take(NAMED).map(|depth| format!("{} ({})", short(depth.position), about(depth.distance))).collect();

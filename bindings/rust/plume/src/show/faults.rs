@@ -6,7 +6,7 @@ use crate::number::{about, short};
 
 const MARK: f32 = 18.0;
 /// Below this many pixels two marks are one.
-const NEAR: f32 = 26.0;
+const NEAR: f32 = 44.0;
 const ROWS: usize = 12;
 const COLUMNS: usize = 3;
 
@@ -48,7 +48,7 @@ fn row(canvas: &mut Canvas, runs: &[Run], pattern: &str) {
         let label = if run.first == run.last { run.first.to_string() } else { format!("{}–{}", run.first, run.last) };
         let words = 8.0 * label.chars().count() as f32 + 6.0;
         let middle = (run.from + run.to) / 2.0;
-        let width = (run.to - run.from + 12.0).max(words + 8.0);
+        let width = (run.to - run.from + 12.0).max(words + 20.0);
         let style = format!("fill=\"url(#{pattern})\" stroke=\"#000\"");
         canvas.rect(middle - width / 2.0, top, width, MARK, &style);
         canvas.rect(middle - words / 2.0, top + 2.0, words, MARK - 4.0, "fill=\"#fff\"");

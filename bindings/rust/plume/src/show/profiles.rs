@@ -63,7 +63,7 @@ fn legend(canvas: &mut Canvas, ramp: &Ramp, list: &Stops) {
     canvas.line(LEFT + 190.0, y, LEFT + 220.0, y, LIST);
     canvas.rect(LEFT + 201.0, y - 4.0, 8.0, 8.0, SQUARE);
     canvas.text(LEFT + 228.0, y + 4.5, format!("list, {} stops", list.len()), "");
-    canvas.y += 24.0;
+    canvas.y += 32.0;
 }
 
 /// Channels may lie outside 0..1.

@@ -69,8 +69,8 @@ pub struct Piece<'a> {
     pub name: &'a str,
     pub kind: Kind,
     pub stops: Stops,
-    /// How many colours its making asked for; none for a ramp that was converted.
-    pub evaluations: Option<usize>,
+    /// How many colours its making asked for; 0 for a ramp that was converted.
+    pub evaluations: usize,
     /// Where it shall run from and to.
     pub domain: Option<(f32, f32)>,
 }

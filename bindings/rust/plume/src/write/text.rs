@@ -25,7 +25,7 @@ pub fn text(piece: &Piece) -> Answer<String> {
 
 /// As `flatten` prints it.
 pub fn bits(piece: &Piece) -> String {
-    let mut text = format!("stops\t{}\tevaluations\t{}\n", piece.stops.len(), piece.evaluations.unwrap_or(0));
+    let mut text = format!("stops\t{}\tevaluations\t{}\n", piece.stops.len(), piece.evaluations);
     for (position, color) in &piece.stops {
         let [r, g, b, a] = color.to_array().map(f32::to_bits);
         let _ = writeln!(text, "stop\t{:08x}\t{r:08x}\t{g:08x}\t{b:08x}\t{a:08x}", position.to_bits());
