@@ -47,11 +47,19 @@ impl Apart {
 }
 
 /// Asks the library at the depths: the ramp's own positions where none are named.
-pub fn apart(file: &str, ramp: &Ramp, list: &Stops, threshold: f32, step: f32, depths: Option<&[f32]>) -> Answer<Apart> {
+pub fn apart(
+    file: &str,
+    ramp: &Ramp,
+    list: &Stops,
+    threshold: f32,
+    step: f32,
+    depths: Option<&[f32]>,
+) -> Answer<Apart> {
     let own = ramp.depths();
     let depths = depths.unwrap_or(&own);
     let (positions, colors): (Vec<f32>, Vec<Color>) = list.iter().copied().unzip();
-    let told = ramp.apart(threshold, step, depths, &positions, &colors).map_err(|refusal| Fault::refused(file, refusal))?;
+    let told =
+        ramp.apart(threshold, step, depths, &positions, &colors).map_err(|refusal| Fault::refused(file, refusal))?;
     let shown = ramp.colors_at(depths).into_iter().zip(mixed(list, depths));
     let depths = told.depths().iter().zip(shown).map(|(depth, (ramp, list))| Depth {
         position: depth.position,
@@ -65,10 +73,12 @@ pub fn apart(file: &str, ramp: &Ramp, list: &Stops, threshold: f32, step: f32, d
 
 /// The colours of a list, for people: a list may have more stops than a ramp, so it is asked piece by piece.
 pub fn mixed(list: &Stops, ts: &[f32]) -> Vec<Color> {
-    ts.iter().map(|t| {
-        // as the linear rule does: the left one of equal positions
-        let right = list.partition_point(|(position, _)| position < t).clamp(1, list.len() - 1);
-        let pair = Ramp::of_stops(Kind::Linear, &list[right - 1..=right]);
-        pair.lent().at(*t).unwrap_or_default()
-    }).collect()
+    ts.iter()
+        .map(|t| {
+            // as the linear rule does: the left one of equal positions
+            let right = list.partition_point(|(position, _)| position < t).clamp(1, list.len() - 1);
+            let pair = Ramp::of_stops(Kind::Linear, &list[right - 1..=right]);
+            pair.lent().at(*t).unwrap_or_default()
+        })
+        .collect()
 }

@@ -31,7 +31,7 @@ pub fn hex(color: Color) -> String {
 /// How far apart two colours are, by the library's measure: half the root of the sum of the squared differences of clamped
 /// channels. What is told by it is for people; what is decided is asked of the library.
 pub fn distance(x: Color, y: Color) -> f32 {
-    let clamped = |color: Color| color.to_array().map(|channel| channel.max(0.0).min(1.0));
+    let clamped = |color: Color| color.to_array().map(number::clamped);
     let squares = clamped(x).into_iter().zip(clamped(y)).map(|(a, b)| (a - b) * (a - b));
     lent::root(squares.fold(0.0, |sum, square| sum + square)) / 2.0
 }
@@ -39,9 +39,17 @@ pub fn distance(x: Color, y: Color) -> f32 {
 /// The lightness L* of a colour, 0 to 100, alpha aside: sRGB, D65.
 pub fn lightness(color: Color) -> f32 {
     let linear = |channel: f32| {
-        let channel = channel.max(0.0).min(1.0);
-        if channel <= 0.04045 { channel / 12.92 } else { ((channel + 0.055) / 1.055).powf(2.4) }
+        let channel = number::clamped(channel);
+        if channel <= 0.04045 {
+            channel / 12.92
+        } else {
+            ((channel + 0.055) / 1.055).powf(2.4)
+        }
     };
     let y = 0.2126 * linear(color.r) + 0.7152 * linear(color.g) + 0.0722 * linear(color.b);
-    if y <= 216.0 / 24389.0 { y * 24389.0 / 27.0 } else { 116.0 * y.cbrt() - 16.0 }
+    if y <= 216.0 / 24389.0 {
+        y * 24389.0 / 27.0
+    } else {
+        116.0 * y.cbrt() - 16.0
+    }
 }

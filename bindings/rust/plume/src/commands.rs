@@ -115,7 +115,9 @@ pub fn check(options: &Options) -> Answer<u8> {
         let kind = name_of(source.ramp.kind);
         let ends = (number::short(min), number::short(max));
         source.notes.iter().for_each(|note| output::say(note));
-        output::print(format!("{}: {kind}, {}, {} to {}: fine\n", source.file, source.ramp.count(), ends.0, ends.1).as_bytes())?;
+        output::print(
+            format!("{}: {kind}, {}, {} to {}: fine\n", source.file, source.ramp.count(), ends.0, ends.1).as_bytes(),
+        )?;
         Ok(0)
     })
 }
@@ -180,7 +182,11 @@ pub fn show(options: &Options) -> Answer<u8> {
     let is_own = list.is_none();
     let list = list.unwrap_or_else(|| made.list.clone());
     let said = Said::of(&source.file, &made.ramp, &list, made.threshold, options)?;
-    let sort = if is_own { report::sort(made.way, made.threshold) } else { format!("{}, threshold {}", options.words[1], made.threshold) };
+    let sort = if is_own {
+        report::sort(made.way, made.threshold)
+    } else {
+        format!("{}, threshold {}", options.words[1], made.threshold)
+    };
     let picture = show::picture(&source.name, &made, &list, &said, &sort);
     let mut target = Target::new(options.out.as_deref(), 1)?;
     target.write(&source.file, &source.name, "svg", picture.as_bytes())?;

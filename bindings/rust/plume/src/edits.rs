@@ -44,7 +44,8 @@ fn position(text: &str) -> Answer<f32> {
 }
 
 fn color_of(text: &str) -> Answer<Color> {
-    color::of_hex(text).ok_or_else(|| Fault::usage(format!("expected a color as '#rrggbb' or '#rrggbbaa'; found '{text}'")))
+    color::of_hex(text)
+        .ok_or_else(|| Fault::usage(format!("expected a color as '#rrggbb' or '#rrggbbaa'; found '{text}'")))
 }
 
 impl Word {

@@ -58,7 +58,8 @@ fn run(words: &[String]) -> Answer<u8> {
         ("help", [command, ..]) => help(command),
         (command, rest) if rest.iter().any(|word| word == "--help" || word == "-h") => help(command),
         (command, rest) => {
-            let (name, takes, act) = COMMANDS.iter().find(|(name, ..)| *name == command).ok_or_else(|| unknown(command))?;
+            let (name, takes, act) =
+                COMMANDS.iter().find(|(name, ..)| *name == command).ok_or_else(|| unknown(command))?;
             act(&Options::read(name, takes, rest)?)
         }
     }

@@ -8,7 +8,7 @@ use crate::ramp::{stops_of, Ramp, Stops};
 use crate::read::Source;
 use crate::report;
 use crate::sheet::{Sheet, Way};
-use guineaplume::lent::{self, CELLS, Kind};
+use guineaplume::lent::{self, Kind, CELLS};
 use guineaplume::{Color, Gradient, Verdict};
 
 /// A ramp, edits made, with its list.
@@ -60,7 +60,11 @@ impl Said {
     /// Judged no, or depths merged.
     pub fn status(&self) -> u8 {
         let is_faulty = !self.verdict.is_yes() || self.apart.has_merged();
-        if is_faulty { FAULTY } else { 0 }
+        if is_faulty {
+            FAULTY
+        } else {
+            0
+        }
     }
 
     pub fn line(&self, made: &Made) -> String {

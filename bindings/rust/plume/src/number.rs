@@ -33,13 +33,19 @@ pub fn about(x: f32) -> String {
     format!("{x:.digits$}")
 }
 
+/// Taken into 0..1; not-a-number is 0.
+#[allow(clippy::manual_clamp)]
+pub fn clamped(channel: f32) -> f32 {
+    channel.max(0.0).min(1.0)
+}
+
 /// How a channel becomes a byte, everywhere: clamped to 0..1, times 255, to the nearest whole number, ties to even.
 pub fn byte(channel: f32) -> u8 {
     // exact: 24 bits times 8
-    let scaled = f64::from(channel.max(0.0).min(1.0)) * 255.0;
+    let scaled = f64::from(clamped(channel)) * 255.0;
     let below = scaled.floor();
     let is_up = match scaled - below {
-        rest if rest == 0.5 => below % 2.0 == 1.0,
+        0.5 => below % 2.0 == 1.0,
         rest => rest > 0.5,
     };
     below as u8 + u8::from(is_up)

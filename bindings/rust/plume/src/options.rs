@@ -85,7 +85,11 @@ impl Options {
     }
 
     pub fn way(&self) -> Way {
-        if self.is_published { Way::Published } else { Way::Within(self.hold.unwrap_or(HOLD)) }
+        if self.is_published {
+            Way::Published
+        } else {
+            Way::Within(self.hold.unwrap_or(HOLD))
+        }
     }
 
     pub fn step(&self) -> f32 {

@@ -44,7 +44,11 @@ impl Ramp {
 
     /// How many stops or segments it has.
     pub fn len(&self) -> usize {
-        if self.kind == Kind::Gimp { self.codes.len() / 2 } else { self.positions.len() }
+        if self.kind == Kind::Gimp {
+            self.codes.len() / 2
+        } else {
+            self.positions.len()
+        }
     }
 
     /// The same in words.
@@ -130,6 +134,18 @@ pub fn stretched(stops: &[(f32, Color)], (min, max): (f32, f32)) -> Option<Stops
     Some(taken)
 }
 
+/// A list shows a hard edge by a stop at the next f32: with the position written twice the same colours are seen, and tables
+/// have no slices of no width.
+pub fn with_edges(stops: &[(f32, Color)]) -> Stops {
+    let mut edges: Stops = stops.to_vec();
+    for i in 1..stops.len() {
+        if stops[i].0 == above(stops[i - 1].0) {
+            edges[i].0 = edges[i - 1].0;
+        }
+    }
+    edges
+}
+
 /// The next f32.
 fn above(x: f32) -> f32 {
     match x.to_bits() {
@@ -151,5 +167,7 @@ mod tests {
         assert_eq!((taken[0], taken[3]), (-6000.0, 0.0));
         assert_eq!(taken[2], above(taken[1]));
         assert_eq!(stretched(&[(3.0, black), (3.0, black)], (0.0, 1.0)), None);
+        let edges: Vec<f32> = with_edges(&stops).iter().map(|(x, _)| *x).collect();
+        assert_eq!(edges, [0.0, 0.389, 0.389, 1.0]);
     }
 }

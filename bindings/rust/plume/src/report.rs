@@ -23,7 +23,9 @@ fn off(apart: &Apart) -> String {
         return match apart.farthest() {
             Some(depth) if depth.distance > 0.0 => {
                 let (position, distance) = (short(depth.position), about(depth.distance));
-                format!("none of your stops is farther off than {threshold}; the farthest, {position}, is {distance} off")
+                format!(
+                    "none of your stops is farther off than {threshold}; the farthest, {position}, is {distance} off"
+                )
             }
             _ => "each of your stops has its own colour".into(),
         };
@@ -37,8 +39,10 @@ fn off(apart: &Apart) -> String {
 
 /// The pairs that became one, where there are any.
 pub fn merged(apart: &Apart) -> Option<String> {
-    let pairs: Vec<String> =
-        apart.merged().map(|(before, depth)| format!("{} and {}", short(before.position), short(depth.position))).collect();
+    let pairs: Vec<String> = apart
+        .merged()
+        .map(|(before, depth)| format!("{} and {}", short(before.position), short(depth.position)))
+        .collect();
     let more = if pairs.len() > NAMED { ", .." } else { "" };
     let named = pairs.iter().take(NAMED).cloned().collect::<Vec<_>>().join(", ");
     let words = if pairs.len() == 1 { "pair of depths became" } else { "pairs of depths became" };

@@ -38,7 +38,8 @@ impl Sheet {
 
     pub fn edit(&mut self, edit: Edit) -> Result<(), Refusal> {
         let redone = redone(&self.ramp, edit, &self.record)?;
-        let (rows, counts, marks) = (self.record.rows().to_vec(), self.record.counts().to_vec(), self.record.marks().to_vec());
+        let (rows, counts, marks) =
+            (self.record.rows().to_vec(), self.record.counts().to_vec(), self.record.marks().to_vec());
         let (mut rows, mut counts, mut marks) = (rows, counts, marks);
         let lent = lent::RecordMut { rows: &mut rows, counts: &mut counts, marks: &mut marks };
         self.ramp.lent().refresh(edit, self.threshold(), lent)?;

@@ -89,7 +89,9 @@ fn slice(file: &File, line: usize, fields: &[&str]) -> Answer<Slice> {
 fn odd(found: usize, fields: &[&str]) -> String {
     match fields.iter().find(|field| number::read(field).is_none() && !field.contains('/')) {
         Some(field) => format!("found {}", stumble::quoted(field)),
-        None if found == 5 => "found 5 numbers: a stop of the tool's text has 'stop' before it, and CSV has a header".into(),
+        None if found == 5 => {
+            "found 5 numbers: a stop of the tool's text has 'stop' before it, and CSV has a header".into()
+        }
         None => format!("found {found} fields"),
     }
 }
@@ -132,7 +134,9 @@ fn end_of(file: &File, line: usize, half: &[String]) -> Answer<(f32, [f32; 4])> 
     }
     let [value, r, g, b] = numbers;
     match [r, g, b].iter().find(|channel| !(0.0..=255.0).contains(*channel)) {
-        Some(channel) => file.unread(line, format!("expected channels from 0 to 255; found {}", number::short(*channel))),
+        Some(channel) => {
+            file.unread(line, format!("expected channels from 0 to 255; found {}", number::short(*channel)))
+        }
         None => Ok((value, [r, g, b, 255.0])),
     }
 }
@@ -144,7 +148,8 @@ fn add(file: &File, rows: &mut Vec<Row>, slice: Slice) -> Answer<()> {
     match rows.last() {
         Some(before) if before.position != from => {
             let (end, from) = (number::short(before.position), number::short(from));
-            return file.unread(line, format!("expected a slice from {end} on, where the one before it ends; found {from}"));
+            return file
+                .unread(line, format!("expected a slice from {end} on, where the one before it ends; found {from}"));
         }
         Some(before) if before.channels == first => {}
         _ => rows.push(Row { line, position: from, channels: first }),

@@ -78,7 +78,11 @@ fn header(file: &File, line: usize, said: &str) -> Answer<Header> {
 fn row(file: &File, line: usize, said: &str, header: &Header) -> Answer<Row> {
     let fields: Vec<&str> = said.split(header.parted).map(bare).collect();
     if fields.len() != header.columns {
-        let comma = if header.parted == ',' && fields.len() > header.columns { ": a number has a point, not a comma" } else { "" };
+        let comma = if header.parted == ',' && fields.len() > header.columns {
+            ": a number has a point, not a comma"
+        } else {
+            ""
+        };
         let words = format!("expected {} fields, as in the header; found {}{comma}", header.columns, fields.len());
         return file.unread(line, words);
     }

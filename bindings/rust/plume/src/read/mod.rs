@@ -108,7 +108,11 @@ impl File<'_> {
         }
         let has_alpha = rows.iter().any(|row| row.channels[3] > 0.0);
         let note = format!("{}: no alpha is above 1, so alpha is taken as 0..1, the colours as 0..255", self.file);
-        if self.bytes && !says_bytes && has_alpha && !has_byte_alpha { vec![note] } else { Vec::new() }
+        if self.bytes && !says_bytes && has_alpha && !has_byte_alpha {
+            vec![note]
+        } else {
+            Vec::new()
+        }
     }
 
     fn too_bright(&self, row: &Row) -> Option<String> {
@@ -145,7 +149,9 @@ fn sort_of(text: &[u8]) -> Sort {
         "kind" | "threshold" | "edit" => Sort::Text,
         "stop" if first.contains(char::is_numeric) => Sort::Text,
         "b" | "f" | "n" if first.trim().len() > 1 && !first.contains(',') => Sort::Cpt,
-        _ if word.starts_with(|c: char| c.is_ascii_digit() || "+-.".contains(c)) && !first.contains([',', ';']) => Sort::Cpt,
+        _ if word.starts_with(|c: char| c.is_ascii_digit() || "+-.".contains(c)) && !first.contains([',', ';']) => {
+            Sort::Cpt
+        }
         _ if is_parted => Sort::Csv,
         _ => Sort::Unknown,
     }

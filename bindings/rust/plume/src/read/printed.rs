@@ -7,7 +7,8 @@ use guineaplume::lent::Kind;
 pub fn read(file: &File) -> Answer<Source> {
     let mut rows = Vec::new();
     for (line, said) in lines(file.text).skip(1) {
-        let numbers: Option<Vec<f32>> = said.strip_prefix("stop\t").and_then(|rest| rest.split('\t').map(bits).collect());
+        let numbers: Option<Vec<f32>> =
+            said.strip_prefix("stop\t").and_then(|rest| rest.split('\t').map(bits).collect());
         match numbers.map(<[f32; 5]>::try_from) {
             Some(Ok([position, channels @ ..])) => rows.push(Row { line, position, channels }),
             _ => {

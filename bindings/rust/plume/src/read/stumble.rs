@@ -61,7 +61,9 @@ pub fn of_number(field: &str) -> String {
         }
         _ if inner != field && number::read(inner).is_some() => format!("found spaces around a number: {shown}"),
         _ if inner.ends_with('%') => format!("a channel runs from 0 to 1, without a percent sign: found {shown}"),
-        _ if inner.bytes().filter(u8::is_ascii_digit).count() > 18 => format!("a number has at most 18 digits: found {shown}"),
+        _ if inner.bytes().filter(u8::is_ascii_digit).count() > 18 => {
+            format!("a number has at most 18 digits: found {shown}")
+        }
         _ if inner.contains(['e', 'E']) && inner.parse::<f32>().is_ok() => {
             format!("a number has no exponent: found {shown}")
         }

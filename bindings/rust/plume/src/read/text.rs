@@ -9,7 +9,8 @@ use guineaplume::lent::Kind;
 use guineaplume::Edit;
 
 const STOP: Expected = Expected { words: "'stop' and 5 numbers parted by tabs", first: "stop", numbers: 5 };
-const EDIT: Expected = Expected { words: "'edit', the stop's number and 4 numbers parted by tabs", first: "edit", numbers: 5 };
+const EDIT: Expected =
+    Expected { words: "'edit', the stop's number and 4 numbers parted by tabs", first: "edit", numbers: 5 };
 const THRESHOLD: Expected = Expected { words: "'threshold', a tab and a number", first: "threshold", numbers: 1 };
 
 pub fn read(file: &File) -> Answer<Source> {

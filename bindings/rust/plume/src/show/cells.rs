@@ -18,7 +18,13 @@ pub fn cells(canvas: &mut Canvas, redone: &[bool; CELLS]) {
     let width = (RIGHT - LEFT) / CELLS as f32;
     for (i, is_redone) in redone.iter().enumerate() {
         let fill = if *is_redone { "url(#redone)" } else { "none" };
-        canvas.rect(LEFT + i as f32 * width, canvas.y, width, HEIGHT, &format!("fill=\"{fill}\" stroke=\"#000\" stroke-width=\"0.8\""));
+        canvas.rect(
+            LEFT + i as f32 * width,
+            canvas.y,
+            width,
+            HEIGHT,
+            &format!("fill=\"{fill}\" stroke=\"#000\" stroke-width=\"0.8\""),
+        );
     }
     canvas.y += HEIGHT;
     axis(canvas);

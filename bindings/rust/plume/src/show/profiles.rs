@@ -46,10 +46,13 @@ pub fn all(canvas: &mut Canvas, ramp: &Ramp, list: &Stops) {
         panels.push(channel("Alpha", |c| c.a));
     }
     for panel in panels {
-        let shown = |colors: &[Color]| -> Vec<(f32, f32)> { ts.iter().copied().zip(colors.iter().map(|c| (panel.of)(*c))).collect() };
+        let shown = |colors: &[Color]| -> Vec<(f32, f32)> {
+            ts.iter().copied().zip(colors.iter().map(|c| (panel.of)(*c))).collect()
+        };
         let (ramps, lists) = (shown(&ramps), shown(&lists));
         let depths = ramp.depths();
-        let marks: Vec<(f32, f32)> = depths.iter().copied().zip(ramp.colors_at(&depths).into_iter().map(panel.of)).collect();
+        let marks: Vec<(f32, f32)> =
+            depths.iter().copied().zip(ramp.colors_at(&depths).into_iter().map(panel.of)).collect();
         let squares: Vec<(f32, f32)> = list.iter().map(|(position, color)| (*position, (panel.of)(*color))).collect();
         draw(canvas, &widened(panel, &ramps, &lists), [&ramps, &lists, &marks, &squares]);
     }
@@ -79,8 +82,12 @@ fn draw(canvas: &mut Canvas, panel: &Panel, [ramps, lists, marks, squares]: [&[(
         canvas.line(LEFT, y, RIGHT, y, GRID);
         canvas.text(LEFT - 8.0, y + 4.5, short((value * 1000.0).round() / 1000.0), SMALL);
     }
-    let y = |value: f32| bottom - (value.clamp(panel.low, panel.high) - panel.low) / (panel.high - panel.low) * panel.height;
-    let place = |canvas: &Canvas, line: &[(f32, f32)]| -> Vec<(f32, f32)> { line.iter().map(|(t, value)| (canvas.x(*t), y(*value))).collect() };
+    let y = |value: f32| {
+        bottom - (value.clamp(panel.low, panel.high) - panel.low) / (panel.high - panel.low) * panel.height
+    };
+    let place = |canvas: &Canvas, line: &[(f32, f32)]| -> Vec<(f32, f32)> {
+        line.iter().map(|(t, value)| (canvas.x(*t), y(*value))).collect()
+    };
     let (solid, dashed) = (place(canvas, ramps), place(canvas, lists));
     canvas.path(&solid, "", RAMP);
     canvas.path(&dashed, "", LIST);
@@ -103,7 +110,12 @@ pub fn off(canvas: &mut Canvas, ramp: &Ramp, list: &Stops, threshold: f32) {
     let far: Vec<f32> = pairs.map(|(x, y)| distance(x, y)).collect();
     let high = far.iter().copied().fold(1.25 * threshold, f32::max);
     let (top, bottom) = (canvas.y + 20.0, canvas.y + 20.0 + HEIGHT);
-    canvas.text(LEFT, top - 6.0, format!("How far off the list is; dashed: the threshold, {}", short(threshold)), "font-weight=\"600\"");
+    canvas.text(
+        LEFT,
+        top - 6.0,
+        format!("How far off the list is; dashed: the threshold, {}", short(threshold)),
+        "font-weight=\"600\"",
+    );
     let y = |value: f32| bottom - value / high * HEIGHT;
     let mut area: Vec<(f32, f32)> = ts.iter().zip(&far).map(|(t, value)| (canvas.x(*t), y(*value))).collect();
     area.extend([(RIGHT, bottom), (LEFT, bottom)]);

@@ -16,7 +16,10 @@ pub fn ggr(piece: &Piece) -> Answer<String> {
     let channels: Vec<f32> = piece.stops.iter().flat_map(|(_, color)| color.to_array().map(whole)).collect();
     let mut text = vec![0; lent::written_bytes(positions.len().min(MOST_WRITTEN))];
     let bytes = lent::write_ggr(&positions, &channels, &mut text).map_err(|refusal| {
-        let many = format!("; it has {} stops, and a GIMP gradient at most {MOST_WRITTEN}", positions.len());
+        let many = format!(
+            "; it has {} stops, and a GIMP gradient at most {MOST_WRITTEN}: a greater --hold gives fewer",
+            positions.len()
+        );
         piece.refused(refusal, if refusal == Refusal::Misshapen { &many } else { "" })
     })?;
     text.truncate(bytes);
@@ -26,5 +29,9 @@ pub fn ggr(piece: &Piece) -> Answer<String> {
 
 /// A half-way point below the least is not written either, so twice that is where positions start.
 fn place(x: f32) -> f32 {
-    if x < 2.0 * LEAST { 0.0 } else { x }
+    if x < 2.0 * LEAST {
+        0.0
+    } else {
+        x
+    }
 }

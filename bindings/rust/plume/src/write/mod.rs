@@ -8,7 +8,7 @@ mod tables;
 mod text;
 
 use crate::fault::{Answer, Fault};
-use crate::ramp::{stretched, Stops};
+use crate::ramp::{stretched, with_edges, Stops};
 use guineaplume::lent::Kind;
 use guineaplume::Refusal;
 
@@ -58,6 +58,11 @@ impl Format {
         matches!(self, Format::Ggr | Format::Svg | Format::Css)
     }
 
+    /// Whether every position is that of the list, to the last bit.
+    fn is_exact(self) -> bool {
+        matches!(self, Format::Text | Format::Bits | Format::Json)
+    }
+
     fn has_alpha(self) -> bool {
         self != Format::Cpt
     }
@@ -79,9 +84,13 @@ impl Piece<'_> {
     /// The file's text, and what is to be said of it.
     pub fn written(mut self, format: Format) -> Answer<(Vec<u8>, Vec<String>)> {
         let notes = self.notes(format);
+        if !format.is_exact() {
+            self.stops = with_edges(&self.stops);
+        }
         if let Some(domain) = if format.is_unit() { Some((0.0, 1.0)) } else { self.domain } {
             let stops = stretched(&self.stops, domain);
-            self.stops = stops.ok_or_else(|| Fault::misused(self.file, "all stops stand at one position: it has no domain"))?;
+            self.stops =
+                stops.ok_or_else(|| Fault::misused(self.file, "all stops stand at one position: it has no domain"))?;
         }
         let text = match format {
             Format::Text => text::text(&self)?,
@@ -104,7 +113,10 @@ impl Piece<'_> {
             notes.push(format!("{}: a colour table has no alpha: it is left out", self.file));
         }
         if is_clear && format == Format::Css {
-            notes.push(format!("{}: browsers mix css colours after multiplying by alpha: svg shows it as it is", self.file));
+            notes.push(format!(
+                "{}: browsers mix css colours after multiplying by alpha: svg shows it as it is",
+                self.file
+            ));
         }
         if self.domain.is_some() && format.is_unit() {
             notes.push(format!("{}: --domain is not used: this format runs from 0 to 1", self.file));

@@ -1,26 +1,33 @@
-//! The tool's lines: with nine digits, to be read again, or as bits.
+//! The tool's lines: with nine digits, to be read again; or as bits.
 
 use super::Piece;
 use crate::fault::Answer;
 use crate::number;
-use crate::ramp::name_of;
+use crate::ramp::{name_of, with_edges};
 use guineaplume::Refusal;
 use std::fmt::Write;
 
 pub fn text(piece: &Piece) -> Answer<String> {
     let mut text = format!("kind\t{}\n", name_of(piece.kind));
+    let edges = with_edges(&piece.stops);
     for (i, (position, color)) in piece.stops.iter().enumerate() {
+        // the f32 just above 0 has 45 digits: such an edge is the position twice
+        let position = if is_written(*position) { *position } else { edges[i].0 };
         text.push_str("stop");
-        for x in std::iter::once(*position).chain(color.to_array()) {
-            let written = number::nine_digits(x);
-            if number::read(&written) != Some(x) {
+        for x in std::iter::once(position).chain(color.to_array()) {
+            if !is_written(x) {
                 return Err(piece.refused(Refusal::Unwritable, &format!("; stop {i}, counted from 0, has {x:e}")));
             }
-            let _ = write!(text, "\t{written}");
+            let _ = write!(text, "\t{}", number::nine_digits(x));
         }
         text.push('\n');
     }
     Ok(text)
+}
+
+/// Whether it is read back as it is.
+fn is_written(x: f32) -> bool {
+    number::read(&number::nine_digits(x)) == Some(x)
 }
 
 /// As `flatten` prints it.
