@@ -27,7 +27,7 @@ fn off(apart: &Apart) -> String {
                     "none of your stops is farther off than {threshold}; the farthest, {position}, is {distance} off"
                 )
             }
-            _ => "each of your stops has its own colour".into(),
+            _ => "each of your stops is shown in its own colour".into(),
         };
     }
     let named: Vec<String> =

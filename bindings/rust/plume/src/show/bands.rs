@@ -36,29 +36,32 @@ pub fn list(canvas: &mut Canvas, list: &Stops) {
     canvas.y += 8.0;
 }
 
-/// Columns of one colour that touch are one box.
 fn band(canvas: &mut Canvas, colors: &[Color], name: &str) {
-    let width = (RIGHT - LEFT) / COLUMNS as f32;
     let top = canvas.y;
     canvas.text(LEFT - 8.0, top + HEIGHT / 2.0 + 5.0, name, NAME);
     if colors.iter().any(|color| bytes(*color)[3] < 255) {
         canvas.rect(LEFT, top, RIGHT - LEFT, HEIGHT, "fill=\"url(#clear)\"");
     }
+    // edges are not softened, so that no gap shows between two columns
+    canvas.group("shape-rendering=\"crispEdges\"", |canvas| columns(canvas, colors, top));
+    canvas.rect(LEFT, top, RIGHT - LEFT, HEIGHT, FRAME);
+    canvas.y += HEIGHT;
+}
+
+/// Columns of one colour that touch are one box.
+fn columns(canvas: &mut Canvas, colors: &[Color], top: f32) {
+    let width = (RIGHT - LEFT) / COLUMNS as f32;
     let mut from = 0;
     for i in 1..=colors.len() {
-        let is_same = colors.get(i).is_some_and(|color| bytes(*color) == bytes(colors[from]));
-        if is_same {
+        if colors.get(i).is_some_and(|color| bytes(*color) == bytes(colors[from])) {
             continue;
         }
         let opacity = match bytes(colors[from])[3] {
             255 => String::new(),
             byte => format!(" fill-opacity=\"{:.4}\"", f32::from(byte) / 255.0),
         };
-        // edges are not softened, so no gap shows between two boxes
-        let style = format!("fill=\"{}\"{opacity} shape-rendering=\"crispEdges\"", hex(colors[from]));
-        canvas.rect(LEFT + from as f32 * width, top, (i - from) as f32 * width, HEIGHT, &style);
+        let style = format!("fill=\"{}\"{opacity}", hex(colors[from]));
+        canvas.column((LEFT + from as f32 * width, (i - from) as f32 * width), (top, HEIGHT), &style);
         from = i;
     }
-    canvas.rect(LEFT, top, RIGHT - LEFT, HEIGHT, FRAME);
-    canvas.y += HEIGHT;
 }

@@ -46,13 +46,25 @@ impl Canvas {
         self.add(format_args!("<text x=\"{x:.2}\" y=\"{y:.2}\" {style}>{words}</text>"));
     }
 
-    /// A line through points, or an area of them.
+    /// A line through points, or an area of them; what lies on the way is left out.
     pub fn path(&mut self, points: &[(f32, f32)], close: &str, style: &str) {
         let mut d = String::new();
-        for (i, (x, y)) in points.iter().enumerate() {
-            let _ = write!(d, "{}{x:.2} {y:.2}", if i == 0 { 'M' } else { 'L' });
+        for (i, (x, y)) in bends(points).iter().enumerate() {
+            let _ = write!(d, "{}{x:.1} {y:.2}", if i == 0 { 'M' } else { 'L' });
         }
         self.add(format_args!("<path d=\"{d}{close}\" {style}/>"));
+    }
+
+    /// A box of one colour, in few bytes: a band has hundreds.
+    pub fn column(&mut self, (x, width): (f32, f32), (y, height): (f32, f32), style: &str) {
+        self.add(format_args!("<path d=\"M{x} {y}h{width}v{height}h-{width}z\" {style}/>"));
+    }
+
+    /// What is drawn meanwhile shares a style.
+    pub fn group(&mut self, style: &str, draw: impl FnOnce(&mut Canvas)) {
+        self.add(format_args!("<g {style}>"));
+        draw(self);
+        self.add(format_args!("</g>"));
     }
 
     pub fn circle(&mut self, x: f32, y: f32) {
@@ -88,6 +100,26 @@ const DEFINITIONS: &str = "<defs>
 <pattern id=\"clear\" width=\"16\" height=\"16\" patternUnits=\"userSpaceOnUse\"><rect width=\"16\" height=\"16\" fill=\"#fff\"/><path d=\"M0 0H8V16H16V8H0Z\" fill=\"#ccc\"/></pattern>
 </defs>
 ";
+
+/// The points at which a line bends by more than can be seen.
+fn bends(points: &[(f32, f32)]) -> Vec<(f32, f32)> {
+    const SEEN: f32 = 0.05;
+    let mut kept: Vec<(f32, f32)> = points.first().copied().into_iter().collect();
+    let mut from = 0;
+    for to in 2..points.len() {
+        let (a, b) = (points[from], points[to]);
+        let is_straight = points[from + 1..to].iter().all(|(x, y)| {
+            let share = if b.0 > a.0 { (x - a.0) / (b.0 - a.0) } else { f32::NAN };
+            (a.1 + (b.1 - a.1) * share - y).abs() < SEEN
+        });
+        if !is_straight {
+            from = to - 1;
+            kept.push(points[from]);
+        }
+    }
+    kept.extend(points.last().filter(|_| points.len() > 1));
+    kept
+}
 
 fn escaped(text: &str) -> String {
     text.replace('&', "&amp;").replace('<', "&lt;").replace('>', "&gt;")
