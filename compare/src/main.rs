@@ -36,6 +36,7 @@ mod refused;
 mod report;
 mod roots;
 mod sample;
+mod sample_within;
 mod sharp;
 mod shown;
 mod sine;

@@ -1,8 +1,8 @@
 //! How many lists show two depths as one: published ones beside those that keep their word, of fresh records and of stale ones,
 //! as two tables.
 
-use crate::apart::{counted, Asked};
-use crate::judge::{own_list, List};
+use crate::apart::{counted, Asked, MERGED};
+use crate::judge::{distance, own_list, List};
 use crate::lists::MOST_POINTS;
 use crate::lists_within::colours;
 use crate::options::Options;
@@ -29,14 +29,15 @@ struct Count {
     /// Pairs that the ramp tells apart, and of these the merged ones.
     pairs: usize,
     merged: usize,
+    /// How far apart in the ramp a merged pair is at most.
+    widest: f32,
 }
 
 /// The published list, and the one that keeps its word.
 type Both = [Option<List>; 2];
 
 pub fn run(options: &Options) -> bool {
-    println!("| ramps | threshold | lists | with a merged pair | merged of the pairs apart | with a depth moved |");
-    println!("|---|---|---|---|---|---|");
+    head();
     let mut right = true;
     for (name, ramps) in sorts::all(options) {
         right &= rows(&name, ramps.map(|ramp| (ramp, None)), own);
@@ -46,12 +47,18 @@ pub fn run(options: &Options) -> bool {
         right &= rows(&name, sorts::some(options, make).map(|ramp| (ramp, None)), mid_band);
     }
     println!("\nOne tint changed behind the record:\n");
-    println!("| ramps | threshold | lists | with a merged pair | merged of the pairs apart | with a depth moved |");
-    println!("|---|---|---|---|---|---|");
+    head();
     for (name, make) in sorts::ATLAS {
         right &= rows(name, accidents(options, make), own);
     }
     right
+}
+
+fn head() {
+    println!(
+        "| ramps | threshold | lists | with a merged pair | pairs merged | apart at most | with a depth moved |\n\
+         |---|---|---|---|---|---|---|"
+    );
 }
 
 /// The ramp's own positions.
@@ -106,10 +113,12 @@ fn rows(name: &str, ramps: impl Iterator<Item = (Ramp, Option<Ramp>)>, depths: f
         };
         let refused = if within.refused > 0 { format!(", and {} refused", within.refused) } else { String::new() };
         println!(
-            "| {name} | {threshold} | {}{refused} | {} | {} | {} |",
+            "| {name} | {threshold} | {}{refused} | {} | {} | {:.4} / {:.4} | {} |",
             within.lists,
             both(|count| (count.merging, count.lists)),
             both(|count| (count.merged as u64, count.pairs as u64)),
+            published.widest,
+            within.widest,
             both(|count| (count.moving, count.lists)),
         );
     }
@@ -153,6 +162,11 @@ fn look(count: &mut Count, ramp: &Ramp, g: &Boxed, asked: &Asked, list: Option<L
     count.moving += (moved > 0) as u64;
     count.pairs += want.len() - 1 - close;
     count.merged += merged;
+    let widths = (1..want.len()).filter(|i| want[*i] & MERGED != 0).map(|i| {
+        let [before, here] = [asked.depths[i - 1], asked.depths[i]].map(|t| oracle::at(g, t));
+        distance(before, here)
+    });
+    count.widest = widths.fold(count.widest, f32::max);
     let right = told == (0, counted(&want)) && faults == want;
     if !right {
         println!("DIFFERS {told:?} {faults:?}, not {want:?}, {asked:?}, of {ramp:?}");

@@ -11,7 +11,8 @@ ghost use Rattle.sampling.specs.Lent.{lentHeld};
 ghost use Rattle.plain.specs.Telling.{reply};
 ghost use Rattle.plain.specs.Kinds.{rampBy};
 ghost use Rattle.plain.specs.Edits.{editOf};
-ghost use Rattle.colorgrad_c.specs.Edits.{CodedRefreshes, CodedRelists, lent};
+ghost use Rattle.colorgrad_c.specs.Lists.{lent};
+ghost use Rattle.colorgrad_c.specs.Edits.{CodedRefreshes, CodedRelists};
 
 // Tells the evaluations.
 #[no_mangle]

@@ -9,12 +9,12 @@ use Rattle.within.proofs.Questions.{reach-none, reach-stops, reach-stay
 use Prim.Native.Nat.{ℕ, _<_}
 use borrow.Fn.Kinds.{In}
 use borrow.Fn.PlainCycle.{Measures, is, falls, and}
-use Rattle.within.proofs.asking.reach_from.Reads as reach-from
-use Rattle.within.proofs.asking.reach_from.Kinds as reach-from-kinds
-use Rattle.within.proofs.asking.+reach_from.Lts-reach_from as reach-from-lts
+use Rattle.within.proofs.steps.reach_from.Reads as reach-from
+use Rattle.within.proofs.steps.reach_from.Kinds as reach-from-kinds
+use Rattle.within.proofs.steps.+reach_from.Lts-reach_from as reach-from-lts
 use Rattle.within.proofs.asking.ask.Reads as ask-reads
-use Rattle.within.proofs.asking.+reach_from.{statement}
-use Rattle.within.proofs.asking.+reach_from.Tie.{close}
+use Rattle.within.proofs.steps.+reach_from.{statement}
+use Rattle.within.proofs.steps.+reach_from.Tie.{close}
 
 abbrev μ-reach-from : Measures 6 reach-from-kinds.ps ℕ
 μ-reach-from κs a = a .1 .1 .1 .1 .1 .1 .1 .1 .1 .1 .1 .0

@@ -1,8 +1,8 @@
 -- `left_after` meets its contract, by the mark. Assumes nothing.
 use borrow.Author.Needs.{needs}
 use Rattle.within.proofs.Lenting.{after-lent, after-other}
-use Rattle.within.proofs.asking.left_after.Statement.{statement}
-use Rattle.within.proofs.asking.left_after.Tie as tie
+use Rattle.within.proofs.lent.left_after.Statement.{statement}
+use Rattle.within.proofs.lent.left_after.Tie as tie
 
 returns : tie.Need-returns
 returns c = after-lent _ _ (c .if1 .taken)

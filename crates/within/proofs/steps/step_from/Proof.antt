@@ -11,8 +11,8 @@ use Rattle.weighed.specs.Points.{Site}
 use Rattle.within.specs.Shown.{Near}
 use Rattle.within.specs.inner.Weighing.{nearBy, sitesFrom}
 use Rattle.within.proofs.Questions.{same-points, reach-all, lent-step, lent-shown, any-step, any-shown, one-step, one-shown}
-use Rattle.within.proofs.asking.step_from.Statement.{statement}
-use Rattle.within.proofs.asking.step_from.Tie as tie
+use Rattle.within.proofs.steps.step_from.Statement.{statement}
+use Rattle.within.proofs.steps.step_from.Tie as tie
 
 -- the start, the colours, the test and the points left, from the first question
 module _ (c : tie.After-ask) where

@@ -3,8 +3,8 @@ use Prim.Native.Nat.{_-_}
 use native.Mathlib.Omega.{arith}
 use borrow.Author.Needs.{needs}
 use Rattle.within.proofs.Lenting.{Scanning, scan-none, scan-start, scan-found, scan-next, scan-max, scan-past}
-use Rattle.within.proofs.asking.to_lent.Statement.{statement}
-use Rattle.within.proofs.asking.to_lent.Tie as tie
+use Rattle.within.proofs.lent.to_lent.Statement.{statement}
+use Rattle.within.proofs.lent.to_lent.Tie as tie
 
 abbrev Inv-loop : tie.InvT-loop
 Inv-loop marks from count r left₀ i₀ left i = Scanning marks from count r i left

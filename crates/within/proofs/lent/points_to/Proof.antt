@@ -1,8 +1,8 @@
 -- `points_to` meets its contract: lent positions are sought, or any point is so many on. Assumes nothing.
 use borrow.Author.Needs.{needs}
 use Rattle.within.proofs.Questions.{points-lent, points-past, points-all}
-use Rattle.within.proofs.asking.points_to.Statement.{statement}
-use Rattle.within.proofs.asking.points_to.Tie as tie
+use Rattle.within.proofs.lent.points_to.Statement.{statement}
+use Rattle.within.proofs.lent.points_to.Tie as tie
 
 returns : tie.Need-returns
 returns c = points-lent _ _ _ _ (c .before .if1 .taken) (c .to-lent .ensures)
