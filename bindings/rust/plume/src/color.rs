@@ -36,10 +36,11 @@ pub fn distance(x: Color, y: Color) -> f32 {
     lent::root(squares.fold(0.0, |sum, square| sum + square)) / 2.0
 }
 
-/// The lightness L* of a colour, 0 to 100, alpha aside: sRGB, D65.
+/// The lightness L* of a colour, 0 to 100, alpha aside: sRGB, D65. In double precision, so that pictures are the same
+/// wherever they are drawn.
 pub fn lightness(color: Color) -> f32 {
     let linear = |channel: f32| {
-        let channel = number::clamped(channel);
+        let channel = f64::from(number::clamped(channel));
         if channel <= 0.04045 {
             channel / 12.92
         } else {
@@ -47,9 +48,6 @@ pub fn lightness(color: Color) -> f32 {
         }
     };
     let y = 0.2126 * linear(color.r) + 0.7152 * linear(color.g) + 0.0722 * linear(color.b);
-    if y <= 216.0 / 24389.0 {
-        y * 24389.0 / 27.0
-    } else {
-        116.0 * y.cbrt() - 16.0
-    }
+    let lightness = if y <= 216.0 / 24389.0 { y * 24389.0 / 27.0 } else { 116.0 * y.cbrt() - 16.0 };
+    lightness as f32
 }

@@ -58,3 +58,12 @@ fn published_bits_are_those_of_the_tool() {
     let ran = plume(&["flatten", "examples/shelf.tsv", "--published", "--to", "bits", "-t", "0.01"]);
     assert!(ran.out == file("examples/printed/shelf.txt"));
 }
+
+#[test]
+fn the_pictures_of_the_pages_are_as_drawn() {
+    for name in ["depths", "lost-band"] {
+        let ran = plume(&["show", &format!("examples/{name}.tsv"), "--published"]);
+        let stored = file(&format!("docs/pictures/{name}.svg"));
+        assert!(ran.out == stored, "docs/pictures/{name}.svg: draw it anew by the command of docs/EDITOR.md");
+    }
+}
