@@ -5,6 +5,7 @@ use crate::fault::{Answer, Fault};
 use crate::number;
 use crate::ramp::Ramp;
 use guineaplume::{Color, Edit};
+use std::fmt;
 
 /// One edit, before it is known among which stops it falls.
 #[derive(Clone, Copy, Debug, PartialEq)]
@@ -46,6 +47,18 @@ fn position(text: &str) -> Answer<f32> {
 fn color_of(text: &str) -> Answer<Color> {
     color::of_hex(text)
         .ok_or_else(|| Fault::usage(format!("expected a color as '#rrggbb' or '#rrggbbaa'; found '{text}'")))
+}
+
+/// As it was written.
+impl fmt::Display for Word {
+    fn fmt(&self, f: &mut fmt::Formatter<'_>) -> fmt::Result {
+        match *self {
+            Word::Color(stop, color) => write!(f, "color {stop} {}", color::hex(color)),
+            Word::Move(stop, position) => write!(f, "move {stop} {position}"),
+            Word::Add(position, color) => write!(f, "add {position} {}", color::hex(color)),
+            Word::Remove(stop) => write!(f, "remove {stop}"),
+        }
+    }
 }
 
 impl Word {

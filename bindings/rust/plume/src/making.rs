@@ -9,7 +9,7 @@ use crate::read::Source;
 use crate::report;
 use crate::sheet::{Sheet, Way};
 use guineaplume::lent::{self, Kind, CELLS};
-use guineaplume::{Color, Gradient, Verdict};
+use guineaplume::{Color, Gradient, Refusal, Verdict};
 
 /// A ramp, edits made, with its list.
 pub struct Made {
@@ -25,21 +25,30 @@ pub struct Made {
 
 /// Flattens a source: its own edit first, then the words of others.
 pub fn make(source: &Source, edits: &[Word], options: &Options) -> Answer<Made> {
-    let refused = |refusal| Fault::refused(&source.file, refusal);
+    let refused = |refusal| Fault::refused_since(&source.file, 0, refusal, more(refusal));
     let asked = options.threshold(source.threshold);
     let way = match options.way() {
         Way::Within(hold) => Way::Within(lent::hold(hold, asked)),
         Way::Published => Way::Published,
     };
     let mut sheet = Sheet::open(source.ramp.clone(), asked, way).map_err(refused)?;
-    if let Some(edit) = source.edit {
-        sheet.edit(edit).map_err(refused)?;
+    if let Some((edit, line)) = source.edit {
+        sheet.edit(edit).map_err(|refusal| Fault::refused_since(&source.file, line, refusal, more(refusal)))?;
     }
     for word in edits {
+        let refused = |refusal| Fault::refused_since(&source.file, 0, refusal, &format!("; the edit is '{word}'"));
         sheet.edit(word.of(&sheet.ramp)).map_err(refused)?;
     }
     let (list, evaluations) = (stops_of(&sheet.list), sheet.list.evaluations());
     Ok(Made { threshold: sheet.threshold(), way, evaluations, redone: sheet.redone, ramp: sheet.ramp, list })
+}
+
+/// What helps against a refusal of a list.
+fn more(refusal: Refusal) -> &'static str {
+    match refusal {
+        Refusal::NoRoom => "; a list has at most 4,609 stops: a greater --hold gives fewer, --published never more",
+        _ => "",
+    }
 }
 
 /// What is said of a list beside its ramp.

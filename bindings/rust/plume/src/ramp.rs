@@ -127,9 +127,9 @@ pub fn stretched(stops: &[(f32, Color)], (min, max): (f32, f32)) -> Option<Stops
     let mut taken: Stops = stops.iter().map(|(position, color)| (place(*position), *color)).collect();
     for i in 1..taken.len() {
         let stood_apart = stops[i - 1].0 < stops[i].0;
-        if stood_apart && taken[i].0 <= taken[i - 1].0 {
-            taken[i].0 = above(taken[i - 1].0).min(max);
-        }
+        let before = taken[i - 1].0;
+        let least = if stood_apart { above(before).min(max) } else { before };
+        taken[i].0 = taken[i].0.max(least);
     }
     Some(taken)
 }
@@ -167,6 +167,10 @@ mod tests {
         assert_eq!((taken[0], taken[3]), (-6000.0, 0.0));
         assert_eq!(taken[2], above(taken[1]));
         assert_eq!(stretched(&[(3.0, black), (3.0, black)], (0.0, 1.0)), None);
+        // as many as a narrow domain has, and none falls
+        let crowd: Stops = (0..9).map(|i| (f32::from_bits(1.0f32.to_bits() + i / 2), black)).collect();
+        let taken = stretched(&crowd, (1e6, 1e6 + 0.125)).unwrap();
+        assert!(taken.windows(2).all(|pair| pair[0].0 <= pair[1].0) && taken[8].0 == 1e6 + 0.125);
         let edges: Vec<f32> = with_edges(&stops).iter().map(|(x, _)| *x).collect();
         assert_eq!(edges, [0.0, 0.389, 0.389, 1.0]);
     }

@@ -62,8 +62,8 @@ fn edits_are_made_one_after_the_other() {
     // the same as the tool's own edit
     let edited = plume(&["edit", "examples/depths.tsv", "color", "6", "#1a6199", "--published"]);
     assert_eq!(edited.status, 1);
-    plume(&["edit", "examples/depths.tsv", "remove", "0"]).ends(3, &["refused 6: "]);
-    plume(&["edit", "examples/depths.tsv", "move", "3", "0.9"]).ends(3, &["refused 3: "]);
+    plume(&["edit", "examples/depths.tsv", "remove", "0"]).ends(3, &["refused 6: ", "; the edit is 'remove 0'"]);
+    plume(&["edit", "examples/depths.tsv", "move", "3", "0.9"]).ends(3, &["refused 3: ", "; the edit is 'move 3 0.9'"]);
     plume(&["edit", "examples/depths.tsv", "paint", "3"]).ends(2, &["expected an edit: color, move, add or remove"]);
     plume(&["edit", "examples/depths.tsv", "color", "3"]).ends(2, &["the edit 'color' lacks a color"]);
     plume(&["edit", "examples/depths.tsv"]).ends(2, &["an edit is to be named"]);

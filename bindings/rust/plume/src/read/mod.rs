@@ -25,8 +25,8 @@ pub struct Source {
     pub ramp: Ramp,
     /// The threshold that the file asks for.
     pub threshold: Option<f32>,
-    /// The edit that the file asks for.
-    pub edit: Option<Edit>,
+    /// The edit that the file asks for, and its line.
+    pub edit: Option<(Edit, usize)>,
     /// The file itself, where it is the tool's text.
     pub text: Option<Vec<u8>>,
     /// What is to be said of it although it was read.

@@ -23,7 +23,7 @@ pub fn read(file: &File) -> Answer<Source> {
             "threshold" if rows.is_empty() && threshold.is_none() => {
                 threshold = Some(numbers::<1>(file, line, &said, &THRESHOLD)?[0]);
             }
-            "edit" if !rows.is_empty() => edit = Some(edit_of(file, line, &said)?),
+            "edit" if !rows.is_empty() => edit = Some((edit_of(file, line, &said)?, line)),
             _ => {
                 let [position, channels @ ..] = numbers::<5>(file, line, &said, &STOP)?;
                 rows.push(Row { line, position, channels });

@@ -14,7 +14,7 @@ pub fn text(piece: &Piece) -> Answer<String> {
         // the f32 just above 0 has 45 digits: such an edge is the position twice
         let position = if is_written(*position) { *position } else { edges[i].0 };
         text.push_str("stop");
-        for x in std::iter::once(position).chain(color.to_array()) {
+        for x in std::iter::once(position).chain(color.to_array().map(seen)) {
             if !is_written(x) {
                 return Err(piece.refused(Refusal::Unwritable, &format!("; stop {i}, counted from 0, has {x:e}")));
             }
@@ -23,6 +23,15 @@ pub fn text(piece: &Piece) -> Answer<String> {
         text.push('\n');
     }
     Ok(text)
+}
+
+/// A channel of so many digits that the tool would not read it, and so small that nobody sees it, is 0.
+fn seen(channel: f32) -> f32 {
+    if channel.abs() < 1e-6 && !is_written(channel) {
+        0.0
+    } else {
+        channel
+    }
 }
 
 /// Whether it is read back as it is.
