@@ -4,7 +4,7 @@ use crate::color::distance;
 use crate::fault::{Answer, Fault};
 use crate::ramp::{Ramp, Stops};
 use guineaplume::lent::{self, Kind};
-use guineaplume::{Color, Gradient};
+use guineaplume::Color;
 
 /// What is said of the depths, one after the other.
 #[derive(Clone, Debug, PartialEq)]
@@ -58,9 +58,11 @@ pub fn apart(
     let own = ramp.depths();
     let depths = depths.unwrap_or(&own);
     let (positions, colors): (Vec<f32>, Vec<Color>) = list.iter().copied().unzip();
-    let told =
-        ramp.apart(threshold, step, depths, &positions, &colors).map_err(|refusal| Fault::refused(file, refusal))?;
-    let shown = ramp.colors_at(depths).into_iter().zip(mixed(list, depths));
+    let told = ramp
+        .gradient()
+        .apart(threshold, step, depths, &positions, &colors)
+        .map_err(|refusal| Fault::refused(file, refusal))?;
+    let shown = ramp.gradient().colors_at(depths).into_iter().zip(mixed(list, depths));
     let depths = told.depths().iter().zip(shown).map(|(depth, (ramp, list))| Depth {
         position: depth.position,
         distance: distance(ramp, list),
@@ -71,14 +73,13 @@ pub fn apart(
     Ok(Apart { depths: depths.collect(), threshold: lent::threshold(threshold), step })
 }
 
-/// The colours of a list, for people: a list may have more stops than a ramp, so it is asked piece by piece.
+/// The colours of a list, for people: a list may have more stops than a ramp, so it is asked pair by pair.
 pub fn mixed(list: &Stops, ts: &[f32]) -> Vec<Color> {
-    ts.iter()
-        .map(|t| {
-            // as the linear rule does: the left one of equal positions
-            let right = list.partition_point(|(position, _)| position < t).clamp(1, list.len() - 1);
-            let pair = Ramp::of_stops(Kind::Linear, &list[right - 1..=right]);
-            pair.lent().at(*t).unwrap_or_default()
-        })
-        .collect()
+    let at = |t: f32| {
+        // as the linear rule does: the left one of equal positions
+        let right = list.partition_point(|(position, _)| *position < t).clamp(1, list.len() - 1);
+        let pair = Ramp::of_stops(Kind::Linear, &list[right - 1..=right]);
+        pair.map_or(list[right].1, |pair| pair.gradient().at(t))
+    };
+    ts.iter().copied().map(at).collect()
 }

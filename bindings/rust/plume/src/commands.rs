@@ -13,7 +13,6 @@ use crate::sheet::Way;
 use crate::show;
 use crate::write::{Format, Piece};
 use guineaplume::lent::Kind;
-use guineaplume::Gradient;
 
 /// Does something to each file; a bad one does not stop the others. The answer is the highest status.
 fn each(files: &[String], bytes: bool, mut act: impl FnMut(&Source) -> Answer<u8>) -> Answer<u8> {
@@ -92,14 +91,14 @@ pub fn convert(options: &Options) -> Answer<u8> {
 
 fn converted(source: &Source, options: &Options, target: &mut Target) -> Answer<u8> {
     let format = options.format();
-    let keeps_kind = format == Format::Text && source.ramp.kind != Kind::Gimp;
+    let keeps_kind = format == Format::Text && source.ramp.kind() != Kind::Gimp;
     let kept = if keeps_kind { Some(source.ramp.stops()) } else { source.ramp.as_list() };
     let Some(stops) = kept.filter(|_| source.edit.is_none()) else {
         let why = if source.edit.is_some() { "it is edited" } else { "it is not mixed linearly" };
         output::say(&format!("{}: {why}, so it is flattened", source.file));
         return listed(source, &[], options, target);
     };
-    let kind = if keeps_kind { source.ramp.kind } else { Kind::Linear };
+    let kind = if keeps_kind { source.ramp.kind() } else { Kind::Linear };
     let (file, name, domain) = (source.file.as_str(), source.name.as_str(), options.domain);
     let (bytes, notes) = Piece { file, name, kind, stops, evaluations: 0, domain }.written(format)?;
     target.write(file, name, format.ending(), &bytes)?;
@@ -111,8 +110,8 @@ fn converted(source: &Source, options: &Options, target: &mut Target) -> Answer<
 /// `check FILE ..`
 pub fn check(options: &Options) -> Answer<u8> {
     each(&options.words, options.bytes, |source| {
-        let (min, max) = source.ramp.domain();
-        let kind = name_of(source.ramp.kind);
+        let (min, max) = source.ramp.gradient().domain();
+        let kind = name_of(source.ramp.kind());
         let ends = (number::short(min), number::short(max));
         source.notes.iter().for_each(|note| output::say(note));
         output::print(

@@ -69,7 +69,7 @@ impl Word {
             Word::Move(stop, position) => Edit::Move { stop, position },
             Word::Remove(stop) => Edit::Remove { stop },
             Word::Add(position, color) => {
-                let stop = ramp.positions.partition_point(|p| *p <= position);
+                let stop = ramp.positions().partition_point(|p| *p <= position);
                 Edit::Add { stop, position, color }
             }
         }

@@ -9,7 +9,7 @@ use crate::read::Source;
 use crate::report;
 use crate::sheet::{Sheet, Way};
 use guineaplume::lent::{self, Kind, CELLS};
-use guineaplume::{Color, Gradient, Refusal, Verdict};
+use guineaplume::{Color, Refusal, Verdict};
 
 /// A ramp, edits made, with its list.
 pub struct Made {
@@ -60,7 +60,7 @@ pub struct Said {
 impl Said {
     pub fn of(file: &str, ramp: &Ramp, list: &Stops, threshold: f32, options: &Options) -> Answer<Said> {
         let (positions, colors): (Vec<f32>, Vec<Color>) = list.iter().copied().unzip();
-        let judged = ramp.judge(threshold, &positions, &colors);
+        let judged = ramp.gradient().judge(threshold, &positions, &colors);
         let verdict = judged.map_err(|refusal| Fault::refused(file, refusal))?;
         let apart = apart::apart(file, ramp, list, threshold, options.step(), options.depths.as_deref())?;
         Ok(Said { apart, verdict })
@@ -77,7 +77,7 @@ impl Said {
     }
 
     pub fn line(&self, made: &Made) -> String {
-        let linear = if made.ramp.kind == Kind::Linear {
+        let linear = if made.ramp.kind() == Kind::Linear {
             " The ramp is linear: its own stops are a list already, which 'plume convert' keeps."
         } else {
             ""

@@ -1,7 +1,10 @@
 //! A ramp of any kind, as a file gave it, and stops that are mixed linearly.
 
-use guineaplume::lent::{self, Kind};
-use guineaplume::{Color, Gradient, List};
+use guineaplume::lent::Kind;
+use guineaplume::{
+    BasisGradient, CatmullRomGradient, Color, Edit, GimpGradient, Gradient, LinearGradient, List, Record, Refresh,
+    Refusal, SharpGradient, SmoothstepGradient,
+};
 
 /// The kinds of stops by their names in files.
 pub const KINDS: [(&str, Kind); 5] = [
@@ -20,82 +23,111 @@ pub fn name_of(kind: Kind) -> &'static str {
 pub type Stops = Vec<(f32, Color)>;
 
 /// A ramp that passed the library's check.
-#[derive(Clone, Debug, PartialEq)]
-pub struct Ramp {
-    pub kind: Kind,
-    pub positions: Vec<f32>,
-    pub channels: Vec<f32>,
-    pub codes: Vec<u8>,
-}
-
-impl Gradient for Ramp {
-    fn lent(&self) -> lent::Ramp<'_> {
-        lent::Ramp { kind: self.kind, positions: &self.positions, channels: &self.channels, codes: &self.codes }
-    }
+#[derive(Clone, Debug)]
+pub enum Ramp {
+    Linear(LinearGradient),
+    Smoothstep(SmoothstepGradient),
+    Sharp(SharpGradient),
+    Basis(BasisGradient),
+    CatmullRom(CatmullRomGradient),
+    Gimp(GimpGradient),
 }
 
 impl Ramp {
-    /// Of stops, not checked yet.
-    pub fn of_stops(kind: Kind, stops: &[(f32, Color)]) -> Ramp {
-        let positions = stops.iter().map(|(position, _)| *position).collect();
-        let channels = stops.iter().flat_map(|(_, color)| color.to_array()).collect();
-        Ramp { kind, positions, channels, codes: Vec::new() }
-    }
-
-    /// How many stops or segments it has.
-    pub fn len(&self) -> usize {
-        if self.kind == Kind::Gimp {
-            self.codes.len() / 2
-        } else {
-            self.positions.len()
+    /// Of stops of a kind that has them. Refused with 1, 2, 3.
+    pub fn of_stops(kind: Kind, stops: &[(f32, Color)]) -> Result<Ramp, Refusal> {
+        let (positions, colors): (Vec<f32>, Vec<Color>) = stops.iter().copied().unzip();
+        let (positions, colors) = (&positions[..], &colors[..]);
+        match kind {
+            Kind::Linear => LinearGradient::new(positions, colors).map(Ramp::Linear),
+            Kind::Smoothstep => SmoothstepGradient::new(positions, colors).map(Ramp::Smoothstep),
+            Kind::Sharp => SharpGradient::new(positions, colors).map(Ramp::Sharp),
+            Kind::Basis => BasisGradient::new(positions, colors).map(Ramp::Basis),
+            Kind::CatmullRom => CatmullRomGradient::new(positions, colors).map(Ramp::CatmullRom),
+            _ => Err(Refusal::Misshapen),
         }
     }
 
-    /// The same in words.
+    /// What every ramp can be asked.
+    pub fn gradient(&self) -> &dyn Gradient {
+        match self {
+            Ramp::Linear(ramp) => ramp,
+            Ramp::Smoothstep(ramp) => ramp,
+            Ramp::Sharp(ramp) => ramp,
+            Ramp::Basis(ramp) => ramp,
+            Ramp::CatmullRom(ramp) => ramp,
+            Ramp::Gimp(ramp) => ramp,
+        }
+    }
+
+    /// Makes an edit in it and in its record; sharp ramps and GIMP's have none.
+    pub fn edit(&mut self, edit: Edit, record: &mut Record) -> Result<usize, Refusal> {
+        match self {
+            Ramp::Linear(ramp) => ramp.edit(edit, record),
+            Ramp::Smoothstep(ramp) => ramp.edit(edit, record),
+            Ramp::Basis(ramp) => ramp.edit(edit, record),
+            Ramp::CatmullRom(ramp) => ramp.edit(edit, record),
+            Ramp::Sharp(_) | Ramp::Gimp(_) => Err(Refusal::BadEdit),
+        }
+    }
+
+    pub fn kind(&self) -> Kind {
+        self.gradient().lent().kind
+    }
+
+    /// The positions as they are lent: of stops one each, of GIMP segments three.
+    pub fn positions(&self) -> &[f32] {
+        self.gradient().lent().positions
+    }
+
+    /// How many stops or segments it has, in words.
     pub fn count(&self) -> String {
-        let what = if self.kind == Kind::Gimp { "segment" } else { "stop" };
-        plural(self.len(), what)
+        match self {
+            Ramp::Gimp(ramp) => plural(ramp.segments(), "segment"),
+            _ => plural(self.positions().len(), "stop"),
+        }
     }
 
     /// Its own positions; of GIMP segments their ends.
     pub fn depths(&self) -> Vec<f32> {
-        if self.kind != Kind::Gimp {
-            return self.positions.clone();
+        let positions = self.positions();
+        match self {
+            Ramp::Gimp(_) => std::iter::once(positions[0]).chain(positions.chunks_exact(3).map(|p| p[2])).collect(),
+            _ => positions.to_vec(),
         }
-        let ends = self.positions.chunks_exact(3).map(|segment| segment[2]);
-        std::iter::once(self.positions[0]).chain(ends).collect()
     }
 
     /// Its stops, of a kind that has them.
     pub fn stops(&self) -> Stops {
-        self.positions.iter().copied().zip(colors(&self.channels)).collect()
+        let lent = self.gradient().lent();
+        lent.positions.iter().copied().zip(colors(lent.channels)).collect()
     }
 
     /// Its stops where it is mixed linearly: it is a list already. GIMP segments are so where each is plain, RGB, and has
     /// its middle half-way; where two do not meet in one colour, the position comes twice.
     pub fn as_list(&self) -> Option<Stops> {
-        match self.kind {
-            Kind::Linear => Some(self.stops()),
-            Kind::Gimp if self.is_plain() => Some(self.joined()),
+        match self {
+            Ramp::Linear(_) => Some(self.stops()),
+            Ramp::Gimp(_) => self.joined(),
             _ => None,
         }
     }
 
-    fn is_plain(&self) -> bool {
-        let is_centred = |p: &[f32]| (p[1] - p[0]) - (p[2] - p[1]) <= 1e-6 && (p[2] - p[1]) - (p[1] - p[0]) <= 1e-6;
-        self.codes.iter().all(|code| *code == 0) && self.positions.chunks_exact(3).all(is_centred)
-    }
-
-    fn joined(&self) -> Stops {
+    fn joined(&self) -> Option<Stops> {
+        let lent = self.gradient().lent();
+        let is_centred = |p: &[f32]| ((p[1] - p[0]) - (p[2] - p[1])).abs() <= 1e-6;
+        if lent.codes.iter().any(|code| *code != 0) || !lent.positions.chunks_exact(3).all(is_centred) {
+            return None;
+        }
         let mut stops = Stops::new();
-        for (segment, pair) in self.positions.chunks_exact(3).zip(colors(&self.channels).chunks_exact(2)) {
+        for (segment, pair) in lent.positions.chunks_exact(3).zip(colors(lent.channels).chunks_exact(2)) {
             for stop in [(segment[0], pair[0]), (segment[2], pair[1])] {
                 if stops.last() != Some(&stop) {
                     stops.push(stop);
                 }
             }
         }
-        stops
+        Some(stops)
     }
 }
 

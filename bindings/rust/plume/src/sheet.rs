@@ -1,8 +1,8 @@
 //! A ramp with its record and its list, which move together: opened once, changed by edits only.
 
 use crate::ramp::Ramp;
-use guineaplume::lent::{self, CELLS, ROWS};
-use guineaplume::{Edit, Gradient, List, Record, Refusal};
+use guineaplume::lent::{CELLS, ROWS};
+use guineaplume::{Edit, List, Record, Refusal};
 
 /// The sort of list.
 #[derive(Clone, Copy, Debug, PartialEq)]
@@ -25,8 +25,8 @@ pub struct Sheet {
 impl Sheet {
     pub fn open(ramp: Ramp, threshold: f32, way: Way) -> Result<Sheet, Refusal> {
         let (record, list) = match way {
-            Way::Published => ramp.flatten(threshold)?,
-            Way::Within(hold) => ramp.flatten_within(threshold, hold)?,
+            Way::Published => ramp.gradient().flatten(threshold)?,
+            Way::Within(hold) => ramp.gradient().flatten_within(threshold, hold)?,
         };
         Ok(Sheet { ramp, list, record, way, redone: [false; CELLS] })
     }
@@ -37,17 +37,11 @@ impl Sheet {
     }
 
     pub fn edit(&mut self, edit: Edit) -> Result<(), Refusal> {
-        let redone = redone(&self.ramp, edit, &self.record)?;
-        let (rows, counts, marks) =
-            (self.record.rows().to_vec(), self.record.counts().to_vec(), self.record.marks().to_vec());
-        let (mut rows, mut counts, mut marks) = (rows, counts, marks);
-        let lent = lent::RecordMut { rows: &mut rows, counts: &mut counts, marks: &mut marks };
-        self.ramp.lent().refresh(edit, self.threshold(), lent)?;
-        self.record = Record::from_parts(rows, counts, marks)?;
-        make(edit, &mut self.ramp);
+        let redone = redone(self.ramp.clone(), edit, &self.record)?;
+        self.ramp.edit(edit, &mut self.record)?;
         self.list = match self.way {
-            Way::Published => self.ramp.thin(&self.record)?,
-            Way::Within(hold) => self.ramp.thin_within(&self.record, hold)?,
+            Way::Published => self.ramp.gradient().thin(&self.record)?,
+            Way::Within(hold) => self.ramp.gradient().thin_within(&self.record, hold)?,
         };
         for (all, now) in self.redone.iter_mut().zip(redone) {
             *all |= now;
@@ -56,30 +50,14 @@ impl Sheet {
     }
 }
 
-fn make(edit: Edit, ramp: &mut Ramp) {
-    match edit {
-        Edit::Color { stop, color } => ramp.channels[4 * stop..4 * stop + 4].copy_from_slice(&color.to_array()),
-        Edit::Move { stop, position } => ramp.positions[stop] = position,
-        Edit::Add { stop, position, color } => {
-            ramp.positions.insert(stop, position);
-            ramp.channels.splice(4 * stop..4 * stop, color.to_array());
-        }
-        Edit::Remove { stop } => {
-            ramp.positions.remove(stop);
-            ramp.channels.drain(4 * stop..4 * stop + 4);
-        }
-    }
-}
-
-/// Which cells an edit redoes: a row that is clear of it keeps every byte, also where no number stands.
-fn redone(ramp: &Ramp, edit: Edit, record: &Record) -> Result<[bool; CELLS], Refusal> {
-    const UNUSED: f32 = -7.0;
-    let (mut rows, mut counts, mut marks) = (vec![UNUSED; ROWS], record.counts().to_vec(), record.marks().to_vec());
-    let lent = lent::RecordMut { rows: &mut rows, counts: &mut counts, marks: &mut marks };
-    ramp.lent().refresh(edit, record.threshold(), lent)?;
+/// Which cells an edit redoes: a row that is clear of it keeps every number, also one that no sampling gives.
+fn redone(mut ramp: Ramp, edit: Edit, record: &Record) -> Result<[bool; CELLS], Refusal> {
+    const STRANGE: f32 = -7.25e30;
+    let mut strange = Record::from_parts(vec![STRANGE; ROWS], record.counts().to_vec(), record.marks().to_vec())?;
+    ramp.edit(edit, &mut strange)?;
     let mut redone = [false; CELLS];
-    for (cell, row) in redone.iter_mut().zip(rows.chunks_exact(ROWS / CELLS)) {
-        *cell = row.iter().any(|x| *x != UNUSED);
+    for (cell, row) in redone.iter_mut().zip(strange.rows().chunks_exact(ROWS / CELLS)) {
+        *cell = row.iter().any(|x| *x != STRANGE);
     }
     Ok(redone)
 }

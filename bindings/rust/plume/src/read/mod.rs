@@ -11,7 +11,7 @@ use crate::fault::{Answer, Fault};
 use crate::number;
 use crate::ramp::Ramp;
 use guineaplume::lent::Kind;
-use guineaplume::{Color, Edit, Gradient, Refusal};
+use guineaplume::{Color, Edit, Refusal};
 use std::io::Read;
 use std::path::Path;
 
@@ -77,8 +77,10 @@ impl File<'_> {
     /// Checks stops, and names the line of the first that is refused.
     fn checked(&self, kind: Kind, rows: &[Row]) -> Answer<Ramp> {
         let stops: Vec<(f32, Color)> = rows.iter().map(|row| (row.position, row.channels.into())).collect();
-        let ramp = Ramp::of_stops(kind, &stops);
-        let Err(refusal) = ramp.lent().check() else { return Ok(ramp) };
+        Ramp::of_stops(kind, &stops).map_err(|refusal| self.refused(rows, refusal))
+    }
+
+    fn refused(&self, rows: &[Row], refusal: Refusal) -> Fault {
         let (line, more) = match refusal {
             Refusal::Falling => {
                 let falls = |pair: &&[Row]| pair[1].position < pair[0].position;
@@ -89,7 +91,7 @@ impl File<'_> {
             Refusal::Misshapen => (0, format!("; the file has {}, and 2 to 2,048 are allowed", rows.len())),
             _ => (0, String::new()),
         };
-        Err(Fault::refused_since(self.file, line, refusal, &more))
+        Fault::refused_since(self.file, line, refusal, &more)
     }
 
     /// Takes channels of 0..255 to 0..1 where that is said, and says it where it may have been meant.

@@ -4,7 +4,7 @@ use super::canvas::{Canvas, LEFT, RIGHT};
 use crate::apart::mixed;
 use crate::color::{bytes, hex};
 use crate::ramp::{Ramp, Stops};
-use guineaplume::{Color, Gradient};
+use guineaplume::Color;
 
 const HEIGHT: f32 = 64.0;
 const FRAME: &str = "fill=\"none\" stroke=\"#000\"";
@@ -17,7 +17,7 @@ fn middles(canvas: &Canvas) -> Vec<f32> {
 }
 
 pub fn ramp(canvas: &mut Canvas, ramp: &Ramp) {
-    let colors = ramp.colors_at(&middles(canvas));
+    let colors = ramp.gradient().colors_at(&middles(canvas));
     for position in ramp.depths() {
         let x = canvas.x(position);
         canvas.line(x, canvas.y, x, canvas.y + 8.0, "stroke=\"#000\"");

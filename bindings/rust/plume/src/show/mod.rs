@@ -10,13 +10,12 @@ use crate::making::{Made, Said};
 use crate::ramp::{name_of, Stops};
 use crate::report;
 use canvas::{Canvas, LEFT};
-use guineaplume::Gradient;
 
 /// Draws it; `sort` says which list it is.
 pub fn picture(name: &str, made: &Made, list: &Stops, said: &Said, sort: &str) -> String {
-    let mut canvas = Canvas::new(made.ramp.domain());
+    let mut canvas = Canvas::new(made.ramp.gradient().domain());
     canvas.text(LEFT, 30.0, name, "font-size=\"18\" font-weight=\"600\"");
-    let kind = format!("{}, {}; {sort}", name_of(made.ramp.kind), made.ramp.count());
+    let kind = format!("{}, {}; {sort}", name_of(made.ramp.kind()), made.ramp.count());
     canvas.text(LEFT, 52.0, kind, "fill=\"#222\"");
     let line = report::line(&made.ramp.count(), list.len(), &said.apart, said.verdict);
     canvas.y = 52.0;

@@ -5,7 +5,7 @@ use crate::apart::mixed;
 use crate::color::{distance, lightness};
 use crate::number::short;
 use crate::ramp::{Ramp, Stops};
-use guineaplume::{Color, Gradient};
+use guineaplume::Color;
 
 const RAMP: &str = "fill=\"none\" stroke=\"#000\" stroke-width=\"1.8\"";
 const LIST: &str = "fill=\"none\" stroke=\"#c00\" stroke-width=\"1.8\" stroke-dasharray=\"7 4\"";
@@ -38,7 +38,7 @@ fn points(canvas: &Canvas, ramp: &Ramp, list: &Stops) -> Vec<f32> {
 pub fn all(canvas: &mut Canvas, ramp: &Ramp, list: &Stops) {
     legend(canvas, ramp, list);
     let ts = points(canvas, ramp, list);
-    let (ramps, lists) = (ramp.colors_at(&ts), mixed(list, &ts));
+    let (ramps, lists) = (ramp.gradient().colors_at(&ts), mixed(list, &ts));
     let lightness = Panel { name: "Lightness (L*)", height: 110.0, of: lightness, low: 0.0, high: 100.0 };
     let channel = |name, of: fn(Color) -> f32| Panel { name, height: 62.0, of, low: 0.0, high: 1.0 };
     let mut panels = vec![lightness, channel("Red", |c| c.r), channel("Green", |c| c.g), channel("Blue", |c| c.b)];
@@ -52,7 +52,7 @@ pub fn all(canvas: &mut Canvas, ramp: &Ramp, list: &Stops) {
         let (ramps, lists) = (shown(&ramps), shown(&lists));
         let depths = ramp.depths();
         let marks: Vec<(f32, f32)> =
-            depths.iter().copied().zip(ramp.colors_at(&depths).into_iter().map(panel.of)).collect();
+            depths.iter().copied().zip(ramp.gradient().colors_at(&depths).into_iter().map(panel.of)).collect();
         let squares: Vec<(f32, f32)> = list.iter().map(|(position, color)| (*position, (panel.of)(*color))).collect();
         draw(canvas, &widened(panel, &ramps, &lists), [&ramps, &lists, &marks, &squares]);
     }
@@ -106,7 +106,7 @@ fn draw(canvas: &mut Canvas, panel: &Panel, [ramps, lists, marks, squares]: [&[(
 pub fn off(canvas: &mut Canvas, ramp: &Ramp, list: &Stops, threshold: f32) {
     const HEIGHT: f32 = 56.0;
     let ts = points(canvas, ramp, list);
-    let pairs = ramp.colors_at(&ts).into_iter().zip(mixed(list, &ts));
+    let pairs = ramp.gradient().colors_at(&ts).into_iter().zip(mixed(list, &ts));
     let far: Vec<f32> = pairs.map(|(x, y)| distance(x, y)).collect();
     let high = far.iter().copied().fold(1.25 * threshold, f32::max);
     let (top, bottom) = (canvas.y + 20.0, canvas.y + 20.0 + HEIGHT);
