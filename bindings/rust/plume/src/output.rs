@@ -26,7 +26,8 @@ pub struct Target {
 }
 
 impl Target {
-    /// Several inputs, a folder, or a name that ends with a slash: a file for each below it, which is made where it is not there.
+    /// Several inputs, a folder, or a name that ends with a slash: a file for each below it. The folder is made where there
+    /// is none.
     pub fn new(out: Option<&str>, inputs: usize) -> Answer<Target> {
         let mut target = Target { folder: None, file: None, written: Vec::new() };
         match out {

@@ -30,11 +30,18 @@ fn off(apart: &Apart) -> String {
             _ => "each of your stops is shown in its own colour".into(),
         };
     }
-    let named: Vec<String> =
-        far.iter().take(NAMED).map(|depth| format!("{} ({})", short(depth.position), about(depth.distance))).collect();
-    let more = if far.len() > NAMED { ", .." } else { "" };
+    let named: Vec<String> = far.iter().take(NAMED).map(|depth| far_off(depth)).collect();
+    let more = match (far.len().saturating_sub(NAMED), apart.farthest()) {
+        (0, _) | (_, None) => String::new(),
+        (more, Some(farthest)) => format!(" and {more} more, the farthest {}", far_off(farthest)),
+    };
     let verb = if far.len() == 1 { "is" } else { "are" };
     format!("{} of your stops {verb} farther off than {threshold}: {}{more}", far.len(), named.join(", "))
+}
+
+/// A position, and how far off the list is there.
+fn far_off(depth: &Depth) -> String {
+    format!("{} ({})", short(depth.position), about(depth.distance))
 }
 
 /// The pairs that became one, where there are any.
@@ -43,7 +50,10 @@ pub fn merged(apart: &Apart) -> Option<String> {
         .merged()
         .map(|(before, depth)| format!("{} and {}", short(before.position), short(depth.position)))
         .collect();
-    let more = if pairs.len() > NAMED { ", .." } else { "" };
+    let more = match pairs.len().saturating_sub(NAMED) {
+        0 => String::new(),
+        more => format!(" and {more} more"),
+    };
     let named = pairs.iter().take(NAMED).cloned().collect::<Vec<_>>().join(", ");
     let words = if pairs.len() == 1 { "pair of depths became" } else { "pairs of depths became" };
     (!pairs.is_empty()).then(|| format!("{} {words} one: {named}{more}", pairs.len()))

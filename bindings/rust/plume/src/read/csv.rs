@@ -1,5 +1,5 @@
-//! CSV with a header: a position, and red, green, blue, perhaps alpha, or one column of #rrggbb. Parted by commas, semicolons
-//! or tabs, as the header is.
+//! CSV with a header: a position, and red, green, blue, perhaps alpha, or one column of #rrggbb. Parted by commas,
+//! semicolons or tabs, as the header is.
 
 use super::{lines, stumble, File, Row, Source};
 use crate::color;

@@ -73,7 +73,8 @@ pub fn of_number(field: &str) -> String {
 
 /// A file that is none of those that are read.
 pub fn unknown(file: &File) -> Fault {
-    let expected = "expected a GIMP gradient, the tool's text (its first line is 'kind'), a GMT colour table, or CSV with a header";
+    let expected = "expected a GIMP gradient, the tool's text (its first line is 'kind'), a GMT colour table, \
+                    or CSV with a header";
     if file.text.is_empty() {
         return Fault::unread(file.file, 0, format!("{expected}; the file is empty"));
     }

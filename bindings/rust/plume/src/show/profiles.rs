@@ -3,7 +3,7 @@
 use super::canvas::{Canvas, LEFT, RIGHT};
 use crate::apart::mixed;
 use crate::color::{distance, lightness};
-use crate::number::short;
+use crate::number::{about, short};
 use crate::ramp::{Ramp, Stops};
 use guineaplume::Color;
 
@@ -102,26 +102,26 @@ fn draw(canvas: &mut Canvas, panel: &Panel, [ramps, lists, marks, squares]: [&[(
     canvas.y = bottom + 8.0;
 }
 
-/// How far off the list is, everywhere, beside the threshold.
+/// How far off the list is, everywhere, beside the threshold. What is far beyond it, such as a hard edge that lies one f32
+/// aside, is cut, so that the rest is seen.
 pub fn off(canvas: &mut Canvas, ramp: &Ramp, list: &Stops, threshold: f32) {
     const HEIGHT: f32 = 56.0;
+    const MOST: f32 = 8.0;
     let ts = points(canvas, ramp, list);
     let pairs = ramp.gradient().colors_at(&ts).into_iter().zip(mixed(list, &ts));
     let far: Vec<f32> = pairs.map(|(x, y)| distance(x, y)).collect();
-    let high = far.iter().copied().fold(1.25 * threshold, f32::max);
+    let (farthest, cut) = (far.iter().copied().fold(1.25 * threshold, f32::max), MOST * threshold);
+    let high = farthest.min(cut);
     let (top, bottom) = (canvas.y + 20.0, canvas.y + 20.0 + HEIGHT);
-    canvas.text(
-        LEFT,
-        top - 6.0,
-        format!("How far off the list is; dashed: the threshold, {}", short(threshold)),
-        "font-weight=\"600\"",
-    );
-    let y = |value: f32| bottom - value / high * HEIGHT;
+    let is_cut = if farthest > cut { format!(", cut at {}", about(cut)) } else { String::new() };
+    let words = format!("How far off the list is{is_cut}; dashed: the threshold, {}", short(threshold));
+    canvas.text(LEFT, top - 6.0, words, "font-weight=\"600\"");
+    let y = |value: f32| bottom - value.min(high) / high * HEIGHT;
     let mut area: Vec<(f32, f32)> = ts.iter().zip(&far).map(|(t, value)| (canvas.x(*t), y(*value))).collect();
     area.extend([(RIGHT, bottom), (LEFT, bottom)]);
     canvas.path(&area, "Z", "fill=\"url(#moved)\" fill-opacity=\"0.35\" stroke=\"#c00\"");
     canvas.line(LEFT, y(threshold), RIGHT, y(threshold), "stroke=\"#000\" stroke-dasharray=\"3 3\"");
-    canvas.text(LEFT - 8.0, top + 4.5, crate::number::about(high), SMALL);
+    canvas.text(LEFT - 8.0, top + 4.5, about(high), SMALL);
     canvas.text(LEFT - 8.0, bottom + 4.5, "0", SMALL);
     canvas.line(LEFT, bottom, RIGHT, bottom, "stroke=\"#000\"");
     canvas.y = bottom + 8.0;
