@@ -8,15 +8,15 @@ use Rattle.stops.specs.Lent.{Change}
 use Rattle.stops.specs.declared.Kind.{Kind}
 use Rattle.sampling.specs.Lent.{Held}
 use Rattle.linearize.specs.Desk.{numberOfListed}
-use Rattle.editing.specs.declared.Edit.{Edit}
+use Rattle.refresh.specs.declared.editing.Edit.{Edit}
 use Rattle.refresh.specs.RefreshDesk.{Refreshes, RefreshLists, numberOfRefreshed}
 use Rattle.refresh.specs.declared.Refreshed.{Refreshed}
 use Rattle.refresh.specs.declared.Refreshed.the-variants as refreshed
 use Rattle.linearize.specs.declared.Listed.{Listed}
 use Rattle.linearize.specs.declared.Listed.the-variants as listed
-use Rattle.plain.specs.Telling.{Reply}
-use Rattle.plain.specs.Kinds.{CodedRamp, Tells}
-use Rattle.plain.specs.Lists.{listedTold, refreshedTold}
+use Rattle.colorgrad_c.specs.plain.Telling.{Reply}
+use Rattle.colorgrad_c.specs.plain.Kinds.{CodedRamp, Tells}
+use Rattle.colorgrad_c.specs.plain.Lists.{listedTold, refreshedTold}
 use Rattle.colorgrad_c.specs.Lists.{Lendings}
 
 -- the promises of `refresh`, of a ramp of any kind and an edit; a code that names no kind is 1 and changes nothing

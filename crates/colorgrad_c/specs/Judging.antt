@@ -15,9 +15,9 @@ use Rattle.apart.specs.Answers.{numberOfApart}
 use Rattle.apart.specs.Promises.{TellsApart}
 use Rattle.apart.specs.declared.told.Apart.{Apart}
 use Rattle.apart.specs.declared.told.Apart.the-variants as apart
-use Rattle.plain.specs.Telling.{Reply}
-use Rattle.plain.specs.Kinds.{CodedRamp, Tells, TellsBoth}
-use Rattle.plain.specs.Verdicts.{verdictTold, pointOf}
+use Rattle.colorgrad_c.specs.plain.Telling.{Reply}
+use Rattle.colorgrad_c.specs.plain.Kinds.{CodedRamp, Tells, TellsBoth}
+use Rattle.colorgrad_c.specs.plain.Verdicts.{verdictTold, pointOf}
 
 -- the promise of `judge`, of a ramp of any kind; a code that names no kind is 1
 abbrev pub CodedJudges : CodedRamp → Float → Offer → Reply (List ℕ × List Float) → Type 0

@@ -17,9 +17,9 @@ use Rattle.sampling.specs.declared.Sampled.{Sampled}
 use Rattle.sampling.specs.declared.Sampled.the-variants as sampled
 use Rattle.linearize.specs.declared.Listed.{Listed}
 use Rattle.linearize.specs.declared.Listed.the-variants as listed
-use Rattle.plain.specs.Telling.{Reply}
-use Rattle.plain.specs.Kinds.{CodedRamp, Tells}
-use Rattle.plain.specs.Lists.{sampledTold, listedTold}
+use Rattle.colorgrad_c.specs.plain.Telling.{Reply}
+use Rattle.colorgrad_c.specs.plain.Kinds.{CodedRamp, Tells}
+use Rattle.colorgrad_c.specs.plain.Lists.{sampledTold, listedTold}
 
 -- what is lent to a call that makes a list of a record: the record, the two outputs of the list, and what is told into
 pub record Lendings : Type 0 where

@@ -1,5 +1,5 @@
 // What the library says of itself: its version, and what each refusal and each verdict means, in one line of plain words.
-use plain::name::write_name;
+use crate::plain::name::write_name;
 use text::line_at;
 ghost use mathlib.Core.Path.{_≡_};
 ghost use mathlib.Core.Bool.{cond};
@@ -8,7 +8,7 @@ ghost use lib.Dec.{ltb};
 ghost use lib.ListN.{length, getD};
 ghost use Rattle.stops.specs.Lent.{old, new};
 ghost use Rattle.text.specs.Text.{lines};
-ghost use Rattle.plain.specs.Name.{named};
+ghost use Rattle.colorgrad_c.specs.plain.Name.{named};
 ghost use Rattle.colorgrad_c.specs.About.{version, messageOf, verdictMessageOf};
 
 const MAJOR: u32 = 0;

@@ -1,17 +1,17 @@
 // A list that was made elsewhere: whether it shows the ramp, and which depths became one in it.
+use crate::plain::kinds;
+use crate::plain::kinds::Coded;
+use crate::plain::telling::tell_numbers;
+use crate::plain::verdicts::tell_verdict;
 use apart::Apart;
 use judge::Verdict;
-use plain::kinds;
-use plain::kinds::Coded;
-use plain::telling::tell_numbers;
-use plain::verdicts::tell_verdict;
 use refusals::MISSHAPEN;
 ghost use mathlib.Core.Path.{_≡_};
 ghost use Rattle.stops.specs.Lent.{old, new};
 ghost use Rattle.judge.specs.Lists.{lentOffer};
 ghost use Rattle.apart.specs.Answers.{numberOfApart};
-ghost use Rattle.plain.specs.Telling.{telling, reply, replies};
-ghost use Rattle.plain.specs.Kinds.{rampBy};
+ghost use Rattle.colorgrad_c.specs.plain.Telling.{telling, reply, replies};
+ghost use Rattle.colorgrad_c.specs.plain.Kinds.{rampBy};
 ghost use Rattle.colorgrad_c.specs.Judging.{CodedJudges, CodedTellsApart, apartTold};
 
 // Tells the verdict, and the stop, the row and the index that it names; and the t of the point.

@@ -1,15 +1,15 @@
 // Sampling a ramp into a record, thinning a record to a list of stops, and both at once; the same of lists that keep their word.
+use crate::plain::kinds;
+use crate::plain::kinds::Coded;
+use crate::plain::lists::tell_listed;
+use crate::plain::lists::tell_sampled;
 use linearize::Listed;
 use linearize::Sampled;
-use plain::kinds;
-use plain::kinds::Coded;
-use plain::lists::tell_listed;
-use plain::lists::tell_sampled;
 use refusals::MISSHAPEN;
 ghost use Rattle.sampling.specs.Lent.{lentHeld};
 ghost use Rattle.linearize.specs.Lent.{lentOutput};
-ghost use Rattle.plain.specs.Telling.{reply};
-ghost use Rattle.plain.specs.Kinds.{rampBy};
+ghost use Rattle.colorgrad_c.specs.plain.Telling.{reply};
+ghost use Rattle.colorgrad_c.specs.plain.Kinds.{rampBy};
 ghost use Rattle.colorgrad_c.specs.Lists.{CodedSamples, CodedThins, CodedFlattens, CodedThinsWithin, CodedFlattensWithin, lent};
 
 // Tells the evaluations.

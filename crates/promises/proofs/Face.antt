@@ -5,9 +5,9 @@ use Prim.Native.Nat.{ℕ}
 use mathlib.Core.Path.{sym, _∙_, ap}
 use Rattle.sqrt.proofs.Theorems.{cutoff-unique}
 use Rattle.stops.specs.declared.Kind.{Kind}
-use Rattle.plain.specs.Kinds.{kindOf, onKind, Shows, ShowsOf}
-use Rattle.plain.specs.declared.kinds.Coded.{Coded}
-use Rattle.plain.specs.declared.kinds.Coded.the-variants.{Of, Unknown}
+use Rattle.colorgrad_c.specs.plain.Kinds.{kindOf, onKind, Shows, ShowsOf}
+use Rattle.colorgrad_c.specs.declared.plain.kinds.Coded.{Coded}
+use Rattle.colorgrad_c.specs.declared.plain.kinds.Coded.the-variants.{Of, Unknown}
 use Rattle.promises.proofs.Parts.{rows-of, counts-of, marks-of, positions-of, channels-of}
 use Rattle.promises.proofs.Segment as stored
 use Rattle.promises.specs.Law.{Coincide, coincide, answer, _with_, both}

@@ -25,8 +25,8 @@ use Rattle.linearize.specs.Desk.{pointsIn}
 use Rattle.judge.specs.Lists.{Offer}
 use Rattle.judge.specs.Verdicts.{rampCheck, pointCount, freshPoint}
 use Rattle.judge.specs.Conditions.{Stands}
-use Rattle.reach.specs.KeptCells.{isDomain}
-use Rattle.reach.proofs.Domains.{checked-domain}
+use Rattle.refresh.specs.reach.KeptCells.{isDomain}
+use Rattle.refresh.proofs.reach.Domains.{checked-domain}
 use Rattle.ordinary.specs.Ordinary.{Singles}
 use Rattle.ordinary.proofs.Rising.{ends}
 use Rattle.ordinary.proofs.Unrefused.{colour-written}

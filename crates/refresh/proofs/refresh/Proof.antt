@@ -11,30 +11,6 @@ use borrow.Author.Needs.{needs}
 use Rattle.refresh.proofs.refresh.Statement.{statement}
 use Rattle.refresh.proofs.refresh.Tie as tie
 
-check-thin-requires : tie.Need-check-thin-requires
-check-thin-requires c κs = search needs
-
-enum-known-n : tie.Need-enum-known-n
-enum-known-n c = search needs
-
-enum-told : tie.Need-enum-told
-enum-told c = search needs
-
-slice-aggregate-copy : tie.Need-slice-aggregate-copy
-slice-aggregate-copy c = search needs
-
-slice-aggregate-copy-2 : tie.Need-slice-aggregate-copy-2
-slice-aggregate-copy-2 c = search needs
-
-copy-requires : tie.Need-copy-requires
-copy-requires c κs = search needs
-
-enum-known-n-2 : tie.Need-enum-known-n-2
-enum-known-n-2 c = search needs
-
-enum-known-n-3 : tie.Need-enum-known-n-3
-enum-known-n-3 c = search needs
-
 mul-m : tie.Need-mul-m
 mul-m c =
     let told = c in
@@ -49,9 +25,6 @@ mul-m c =
     let colours = copied .copy .last .1 .1 .1 .1 .1 .0 in
     let holds = copy-holds ramp (a .edit) fine (replicate 2049 f0) (replicate 8196 f0) places colours (length-replicate 2049 f0) (length-replicate 8196 f0) _ (copied .copy .ensures) _ (told .before .n3 .given .1) in
     omega (arith, holds .few)
-
-kept-requires : tie.Need-kept-requires
-kept-requires c κs = search needs
 
 array-share-prefix-copied-positions : tie.Need-array-share-prefix-copied-positions
 array-share-prefix-copied-positions c =
@@ -113,32 +86,8 @@ slice-aggregate-resample-2 c =
     let holds = copy-holds ramp (a .edit) fine (replicate 2049 f0) (replicate 8196 f0) places colours (length-replicate 2049 f0) (length-replicate 8196 f0) _ (copied .copy .ensures) _ (told .before .n3 .given .1) in
     sym (length-take-le _ colours (omega (arith, holds .few, copied .copy .kept .1 .1 .1 .1 .1 .0)))
 
-resample-requires : tie.Need-resample-requires
-resample-requires c κs = search needs
-
-refreshed-by-requires : tie.Need-refreshed-by-requires
-refreshed-by-requires c κs = search needs
-
-same-length : tie.Need-same-length
-same-length c = search needs
-
-same-length-2 : tie.Need-same-length-2
-same-length-2 c = search needs
-
-same-length-3 : tie.Need-same-length-3
-same-length-3 c = search needs
-
 returns : tie.Need-returns
 returns c = refresh-refused _ _ _ _ _ (thin-refuses _ _ _ _ _ (sym (c .before .before .before .check-thin .ensures .answer) ∙ c .before .n .given .1))
-
-same-length-4 : tie.Need-same-length-4
-same-length-4 c = search needs
-
-same-length-5 : tie.Need-same-length-5
-same-length-5 c = search needs
-
-same-length-6 : tie.Need-same-length-6
-same-length-6 c = search needs
 
 returns-2 : tie.Need-returns-2
 returns-2 c =
@@ -154,15 +103,6 @@ returns-2 c =
     let colours = copied .copy .last .1 .1 .1 .1 .1 .0 in
     let refused = edit-refused ramp (a .edit) fine (replicate 2049 f0) (replicate 8196 f0) places colours (length-replicate 2049 f0) (length-replicate 8196 f0) _ (copied .copy .ensures) _ (told .before .n2 .given .1) in
     refresh-refused _ _ _ _ _ (by-edit ramp (a .edit) (a .threshold) _ thin refused)
-
-same-length-7 : tie.Need-same-length-7
-same-length-7 c = search needs
-
-same-length-8 : tie.Need-same-length-8
-same-length-8 c = search needs
-
-same-length-9 : tie.Need-same-length-9
-same-length-9 c = search needs
 
 returns-3 : tie.Need-returns-3
 returns-3 c =
@@ -186,31 +126,31 @@ pub refresh-spec : {M : Type 1} → statement M
 refresh-spec =
     tie.close
     (tie.spec
-    check-thin-requires
-    enum-known-n
-    enum-told
-    slice-aggregate-copy
-    slice-aggregate-copy-2
-    copy-requires
-    enum-known-n-2
-    enum-known-n-3
+    (λ c κs. search needs)
+    (λ c. search needs)
+    (λ c. search needs)
+    (λ c. search needs)
+    (λ c. search needs)
+    (λ c κs. search needs)
+    (λ c. search needs)
+    (λ c. search needs)
     mul-m
-    kept-requires
+    (λ c κs. search needs)
     array-share-prefix-copied-positions
     slice-aggregate-resample
     array-share-prefix-copied-channels
     slice-aggregate-resample-2
-    resample-requires
-    refreshed-by-requires
-    same-length
-    same-length-2
-    same-length-3
+    (λ c κs. search needs)
+    (λ c κs. search needs)
+    (λ c. search needs)
+    (λ c. search needs)
+    (λ c. search needs)
     returns
-    same-length-4
-    same-length-5
-    same-length-6
+    (λ c. search needs)
+    (λ c. search needs)
+    (λ c. search needs)
     returns-2
-    same-length-7
-    same-length-8
-    same-length-9
+    (λ c. search needs)
+    (λ c. search needs)
+    (λ c. search needs)
     returns-3)

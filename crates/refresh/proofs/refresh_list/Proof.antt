@@ -11,30 +11,6 @@ use borrow.Author.Needs.{needs}
 use Rattle.refresh.proofs.refresh_list.Statement.{statement}
 use Rattle.refresh.proofs.refresh_list.Tie as tie
 
-check-thin-requires : tie.Need-check-thin-requires
-check-thin-requires c κs = search needs
-
-enum-known-n : tie.Need-enum-known-n
-enum-known-n c = search needs
-
-enum-told : tie.Need-enum-told
-enum-told c = search needs
-
-slice-aggregate-copy : tie.Need-slice-aggregate-copy
-slice-aggregate-copy c = search needs
-
-slice-aggregate-copy-2 : tie.Need-slice-aggregate-copy-2
-slice-aggregate-copy-2 c = search needs
-
-copy-requires : tie.Need-copy-requires
-copy-requires c κs = search needs
-
-enum-known-n-2 : tie.Need-enum-known-n-2
-enum-known-n-2 c = search needs
-
-enum-known-n-3 : tie.Need-enum-known-n-3
-enum-known-n-3 c = search needs
-
 mul-m : tie.Need-mul-m
 mul-m c =
     let told = c in
@@ -115,32 +91,8 @@ slice-aggregate-relist-2 c =
     let holds = copy-holds ramp (a .edit) fine (replicate 2049 f0) (replicate 8196 f0) places colours (length-replicate 2049 f0) (length-replicate 8196 f0) _ (copied .copy .ensures) _ (told .before .n3 .given .1) in
     sym (length-take-le _ colours (omega (arith, holds .few, copied .copy .kept .1 .1 .1 .1 .1 .0)))
 
-kept-requires : tie.Need-kept-requires
-kept-requires c κs = search needs
-
-relist-requires : tie.Need-relist-requires
-relist-requires c κs = search needs
-
-same-length : tie.Need-same-length
-same-length c = search needs
-
-same-length-2 : tie.Need-same-length-2
-same-length-2 c = search needs
-
-same-length-3 : tie.Need-same-length-3
-same-length-3 c = search needs
-
 returns : tie.Need-returns
 returns c = refresh-list-refused _ _ _ _ _ _ (thin-refuses _ _ _ _ _ (sym (c .before .before .before .check-thin .ensures .answer) ∙ c .before .n .given .1))
-
-same-length-4 : tie.Need-same-length-4
-same-length-4 c = search needs
-
-same-length-5 : tie.Need-same-length-5
-same-length-5 c = search needs
-
-same-length-6 : tie.Need-same-length-6
-same-length-6 c = search needs
 
 returns-2 : tie.Need-returns-2
 returns-2 c =
@@ -157,21 +109,6 @@ returns-2 c =
     let colours = copied .copy .last .1 .1 .1 .1 .1 .0 in
     let refused = edit-refused ramp (a .edit) fine (replicate 2049 f0) (replicate 8196 f0) places colours (length-replicate 2049 f0) (length-replicate 8196 f0) _ (copied .copy .ensures) _ (told .before .n2 .given .1) in
     refresh-list-refused _ _ _ _ _ _ (by-edit ramp (a .edit) (a .threshold) _ thin refused)
-
-same-length-7 : tie.Need-same-length-7
-same-length-7 c = search needs
-
-same-length-8 : tie.Need-same-length-8
-same-length-8 c = search needs
-
-same-length-9 : tie.Need-same-length-9
-same-length-9 c = search needs
-
-same-length-10 : tie.Need-same-length-10
-same-length-10 c = search needs
-
-same-length-11 : tie.Need-same-length-11
-same-length-11 c = search needs
 
 returns-3 : tie.Need-returns-3
 returns-3 c =
@@ -196,32 +133,32 @@ pub refresh-list-spec : {M : Type 1} → statement M
 refresh-list-spec =
     tie.close
     (tie.spec
-    check-thin-requires
-    enum-known-n
-    enum-told
-    slice-aggregate-copy
-    slice-aggregate-copy-2
-    copy-requires
-    enum-known-n-2
-    enum-known-n-3
+    (λ c κs. search needs)
+    (λ c. search needs)
+    (λ c. search needs)
+    (λ c. search needs)
+    (λ c. search needs)
+    (λ c κs. search needs)
+    (λ c. search needs)
+    (λ c. search needs)
     mul-m
     array-share-prefix-copied-positions
     slice-aggregate-relist
     array-share-prefix-copied-channels
     slice-aggregate-relist-2
-    kept-requires
-    relist-requires
-    same-length
-    same-length-2
-    same-length-3
+    (λ c κs. search needs)
+    (λ c κs. search needs)
+    (λ c. search needs)
+    (λ c. search needs)
+    (λ c. search needs)
     returns
-    same-length-4
-    same-length-5
-    same-length-6
+    (λ c. search needs)
+    (λ c. search needs)
+    (λ c. search needs)
     returns-2
-    same-length-7
-    same-length-8
-    same-length-9
-    same-length-10
-    same-length-11
+    (λ c. search needs)
+    (λ c. search needs)
+    (λ c. search needs)
+    (λ c. search needs)
+    (λ c. search needs)
     returns-3)

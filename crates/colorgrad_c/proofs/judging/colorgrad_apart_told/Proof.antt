@@ -2,7 +2,7 @@
 use mathlib.Core.Path.{refl}
 use Rattle.refusals.specs.Refusals.{misshapen}
 use Rattle.apart.specs.declared.told.Apart.the-variants as apart
-use Rattle.plain.proofs.Coding.{of-a-kind, of-no-kind, paired}
+use Rattle.colorgrad_c.proofs.plain.Coding.{of-a-kind, of-no-kind, paired}
 use borrow.Author.Needs.{needs}
 use Rattle.colorgrad_c.proofs.judging.colorgrad_apart_told.Statement.{statement}
 use Rattle.colorgrad_c.proofs.judging.colorgrad_apart_told.Tie as tie

@@ -1,6 +1,6 @@
 -- `tell_apart` meets its contract: each case of an answer is told. Assumes nothing.
 use Rattle.apart.specs.Answers.{numberOfApart}
-use Rattle.plain.proofs.Stored.{told-case}
+use Rattle.colorgrad_c.proofs.plain.Stored.{told-case}
 use Rattle.colorgrad_c.specs.Judging.{apartTold}
 use borrow.Author.Needs.{needs}
 use Rattle.colorgrad_c.proofs.judging.tell_apart.Statement.{statement}
