@@ -1,0 +1,73 @@
+"""Numbers of f32 as texts, and stops taken from one domain to another."""
+
+from __future__ import annotations
+
+import math
+from array import array
+from decimal import Decimal
+from typing import Iterable, List, Sequence, Tuple
+
+from .leaves import numeral
+
+
+def f32(x: float) -> float:
+    """The nearest f32."""
+    return array('f', [x])[0]
+
+
+def short(x: float) -> str:
+    """The fewest digits that are read back as the same f32, without an exponent.
+
+    >>> short(f32(0.1)), short(-0.0), short(f32(1e20)), short(f32(3e-8))
+    ('0.1', '0', '100000000000000000000', '0.00000003')
+    """
+    if x == 0:
+        return '0'
+    # six digits always come back; of more the nearest of 7, 8, 9 digits that does, or one beside it
+    for digits in (6, 7, 8, 9):
+        for written in _near(x, digits):
+            if f32(float(written)) == x:
+                text = format(written, 'f')
+                return text.rstrip('0').rstrip('.') if '.' in text else text
+    raise ValueError(f'not a finite f32: {x!r}')
+
+
+def _near(x: float, digits: int) -> Iterable[Decimal]:
+    nearest = Decimal(f'{x:.{digits - 1}e}')
+    yield nearest
+    # above a power of two numbers lie twice as far apart as below it
+    if math.frexp(x)[0] in (0.5, -0.5):
+        yield nearest + Decimal(1).scaleb(nearest.adjusted() - digits + 1).copy_sign(nearest)
+
+
+def nine_digits(x: float) -> str:
+    """Nine significant digits by the library's own writer; a number that it does not write has as many as it needs."""
+    return numeral(x) or short(x)
+
+
+def above(x: float) -> float:
+    """The next f32."""
+    if x == 0:
+        return array('f', (1).to_bytes(4, 'little'))[0]
+    bits = array('I', array('f', [x]).tobytes())
+    bits[0] += 1 if x > 0 else -1
+    return array('f', bits.tobytes())[0]
+
+
+def stretched(positions: Sequence[float], domain: Tuple[float, float]) -> List[float]:
+    """Positions taken from their own domain to another, rounded once. Two that stood apart stay apart, if only by one f32: a
+    hard edge stays one.
+
+    >>> stretched([0.0, 0.25, 1.0], (-8000, 0))
+    [-8000.0, -6000.0, 0.0]
+    """
+    first, last = positions[0], positions[-1]
+    if first == last:
+        raise ValueError('all stops stand at one position: there is no domain')
+    least, most = f32(domain[0]), f32(domain[1])
+    shares = [(position - first) / (last - first) for position in positions]
+    taken = [f32(least * (1 - share) + most * share) for share in shares]
+    for i in range(1, len(taken)):
+        if positions[i - 1] < positions[i] and taken[i] <= taken[i - 1]:
+            taken[i] = min(above(taken[i - 1]), most)
+    return taken
