@@ -66,11 +66,20 @@ class Depths(unittest.TestCase):
         self.assertTrue(BAND.judge(lost))
         self.assertEqual((told.moved, told.merged, told.first_merged), (2, 2, 2))
         self.assertEqual(told.faults[2], Fault.MOVED | Fault.MERGED)
-        self.assertIn('0.389 and 0.3891 became one', str(told))
+        words = [
+            '6 depths: 2 moved, 2 merged with the one before',
+            '0: as in the ramp',
+            '0.389: as in the ramp',
+            '0.3891: moved; merged with 0.389',
+            '0.4026: moved; the ramp itself does not tell it from 0.3891',
+            '0.4027: merged with 0.4026',
+            '1: as in the ramp',
+        ]
+        self.assertEqual(str(told).split('\n'), words)
 
     def test_a_list_that_keeps_its_word(self):
         told = BAND.apart(BAND.within(), threshold=0.001)
-        self.assertEqual((told.moved, told.merged, told.first_merged), (0, 0, None))
+        self.assertEqual((told.is_kept, told.first_merged), (True, None))
 
     def test_what_is_refused(self):
         whole = BAND.within()

@@ -4,9 +4,10 @@ from __future__ import annotations
 
 from array import array
 from enum import IntFlag
-from typing import TYPE_CHECKING, Any, Iterator, NamedTuple, Optional, Tuple
+from typing import TYPE_CHECKING, Any, NamedTuple, Optional, Tuple
 
 from ._library import zeros
+from .numerals import short
 from .refusal import fine
 
 if TYPE_CHECKING:
@@ -23,8 +24,9 @@ class Fault(IntFlag):
 
 
 class Apart(NamedTuple):
-    """What was found at each depth, and how many of each. `first_merged` is the index of the first depth that the list merges
-    with the one before it, None where there is none. As a text it names every depth that moved or merged."""
+    """What was found at each depth, and how many of each. `first_merged` is the index of the first depth that the list does not
+    tell from the one before, where the ramp does; None where there is none. As a text it has a line for all and one for each.
+    """
 
     depths: Tuple[float, ...]
     faults: Tuple[Fault, ...]
@@ -33,15 +35,27 @@ class Apart(NamedTuple):
     merged: int
     first_merged: Optional[int]
 
-    def lines(self) -> Iterator[str]:
-        for i, (depth, fault) in enumerate(zip(self.depths, self.faults)):
-            if fault & Fault.MOVED:
-                yield f"at {depth:g} the list's colour is farther off than the threshold"
-            if fault & Fault.MERGED:
-                yield f'{self.depths[i - 1]:g} and {depth:g} became one: the ramp tells them apart, and the list does not'
+    @property
+    def is_kept(self) -> bool:
+        """Whether no depth moved, and none is merged."""
+        return not self.moved and not self.merged
 
     def __str__(self) -> str:
-        return '\n'.join(self.lines()) or 'no depth moved, and no two became one'
+        lines = [f'{len(self.depths)} depths: {self.moved} moved, {self.merged} merged with the one before']
+        before = ''
+        for depth, fault in zip(map(short, self.depths), self.faults):
+            lines.append(f'{depth}: {_words(fault, before)}')
+            before = depth
+        return '\n'.join(lines)
+
+
+def _words(fault: Fault, before: str) -> str:
+    said = ['moved'] if fault & Fault.MOVED else []
+    if fault & Fault.CLOSE:
+        said.append(f'the ramp itself does not tell it from {before}')
+    if fault & Fault.MERGED:
+        said.append(f'merged with {before}')
+    return '; '.join(said) or 'as in the ramp'
 
 
 def apart_of(ramp: Tuple[Any, ...], threshold: float, step: float, depths: array, offered: 'List') -> Apart:

@@ -175,7 +175,7 @@ class Gradient:
         >>> bool(ramp.judge(ramp.within()))
         True
         >>> print(ramp.judge(List([0, 1], ['#000', '#fff'])))
-        the list's colour is too far from the ramp's at 0.0277778 (point 0 of row 1)
+        the list's colour is too far from the ramp's at 0.027777778 (point 0 of row 1)
         """
         from .verdict import verdict_of
 
@@ -193,8 +193,12 @@ class Gradient:
         >>> band = Ramp.linear([0, 0.389, 0.3891, 0.4026, 0.4027, 1], ['#000', '#636363', '#f00', '#f00', '#676767', '#fff'])
         >>> bool(band.judge(band.flatten())), band.apart(band.flatten()).merged
         (True, 2)
-        >>> print(band.apart(band.within()))
-        no depth moved, and no two became one
+        >>> print(band.apart(band.flatten(), [0, 0.3891]))
+        2 depths: 1 moved, 0 merged with the one before
+        0: as in the ramp
+        0.3891: moved
+        >>> band.apart(band.within()).is_kept
+        True
         """
         from .apart import apart_of
 

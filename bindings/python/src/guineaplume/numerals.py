@@ -4,10 +4,12 @@ from __future__ import annotations
 
 import math
 from array import array
-from decimal import Decimal
+from decimal import ROUND_HALF_UP, Context, Decimal
 from typing import Iterable, List, Sequence, Tuple
 
 from .leaves import numeral
+
+_LEAST_NORMAL = 2.0**-126
 
 
 def f32(x: float) -> float:
@@ -23,8 +25,8 @@ def short(x: float) -> str:
     """
     if x == 0:
         return '0'
-    # six digits always come back; of more the nearest of 7, 8, 9 digits that does, or one beside it
-    for digits in (6, 7, 8, 9):
+    # a number of up to six digits comes back from an f32, but for the least of all; nine are enough for any f32
+    for digits in range(6 if abs(x) >= _LEAST_NORMAL else 1, 10):
         for written in _near(x, digits):
             if f32(float(written)) == x:
                 text = format(written, 'f')
@@ -33,7 +35,8 @@ def short(x: float) -> str:
 
 
 def _near(x: float, digits: int) -> Iterable[Decimal]:
-    nearest = Decimal(f'{x:.{digits - 1}e}')
+    # of two that are as near, the one farther from zero
+    nearest = Context(prec=digits, rounding=ROUND_HALF_UP).create_decimal_from_float(x)
     yield nearest
     # above a power of two numbers lie twice as far apart as below it
     if math.frexp(x)[0] in (0.5, -0.5):

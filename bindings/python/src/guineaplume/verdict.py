@@ -6,6 +6,7 @@ from enum import IntEnum
 from typing import TYPE_CHECKING, Any, NamedTuple, Tuple
 
 from ._library import text_of, zeros
+from .numerals import short
 from .record import CELLS
 from .refusal import fine
 
@@ -47,7 +48,7 @@ class Verdict(NamedTuple):
         if self.number != Judged.TOO_FAR:
             return self.words
         point = 'the end of the ramp' if self.row == CELLS else f'point {self.index} of row {self.row}'
-        return f'{self.words} at {self.t:g} ({point})'
+        return f'{self.words} at {short(self.t)} ({point})'
 
 
 def verdict_of(ramp: Tuple[Any, ...], threshold: float, offered: 'List') -> Verdict:
