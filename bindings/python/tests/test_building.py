@@ -2,9 +2,9 @@
 
 import importlib.util
 import os
+import shutil
 import subprocess
 import sys
-import tarfile
 import tempfile
 import unittest
 import zipfile
@@ -15,6 +15,9 @@ import guineaplume
 from guineaplume import _library
 
 HOME = Path(__file__).resolve().parent.parent
+# from Python 3.12 on an archive is unpacked with a word on what is allowed in it
+SAFELY = {'filter': 'data'} if sys.version_info >= (3, 12) else {}
+
 FOUND = Path(_library._LIBRARY._name)
 
 
@@ -58,8 +61,7 @@ class Building(unittest.TestCase):
             straight = backend(HOME).build_wheel(str(self.folder))
             first = (self.folder / straight).read_bytes()
             packed = backend(HOME).build_sdist(str(self.folder))
-        with tarfile.open(self.folder / packed) as archive:
-            archive.extractall(self.folder)
+        shutil.unpack_archive(str(self.folder / packed), str(self.folder), **SAFELY)
         with mock.patch.dict(os.environ):
             os.environ.pop('GUINEAPLUME_LIB', None)
             again = backend(self.folder / packed[: -len('.tar.gz')]).build_wheel(str(self.folder))

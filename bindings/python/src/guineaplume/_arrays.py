@@ -12,14 +12,14 @@ from .refusal import fine
 
 
 def _lent(numbers: Any) -> Lent:
-    return Lent((numbers.__array_interface__['data'][0], numbers.size, 'f'))
+    return Lent(numbers.__array_interface__['data'][0], numbers.size, 'f')
 
 
-def floats_of_array(numbers: Any) -> array:
+def floats_of_array(numbers: Any) -> array[float]:
     return array('f', np.asarray(numbers, dtype=np.float32).tobytes())
 
 
-def channels_of_array(colours: Any) -> array:
+def channels_of_array(colours: Any) -> array[float]:
     given = np.asarray(colours, dtype=np.float32)
     if given.ndim != 2 or given.shape[1] not in (3, 4):
         raise ValueError(f'colours are an array of three or four columns, and this has the shape {given.shape}')

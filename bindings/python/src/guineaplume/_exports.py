@@ -1,11 +1,11 @@
 """The calls of the library, each declared once, in the notation of its source. include/colorgrad_calls.h has the same calls;
-a test compares the two. A slice goes over as its address and its length."""
+a test compares the two."""
 
 from __future__ import annotations
 
 import ctypes
 from array import array
-from typing import Any, Callable, List, Tuple
+from typing import Any, Callable, List, NamedTuple, Tuple
 
 _RAMP = 'kind: u32, positions: &[f32], channels: &[f32], codes: &[u8]'
 _CHANGED = 'kind: u32, positions: &mut [f32], channels: &mut [f32], codes: &[u8]'
@@ -67,7 +67,8 @@ assert array('I').itemsize == 4, 'a word of a record has 32 bits'
 def parted(declared: str) -> Tuple[List[Tuple[str, str]], str]:
     """The name and the type of each parameter, and the type of the answer."""
     parameters, answer = declared[1:].split(') -> ')
-    return [tuple(one.split(': ')) for one in parameters.split(', ') if one], answer
+    pairs = (one.partition(': ') for one in parameters.split(', ') if one)
+    return [(name, kind) for name, _, kind in pairs], answer
 
 
 def _item(kind: str) -> str:
@@ -75,14 +76,23 @@ def _item(kind: str) -> str:
     return CODES[kind.split('[')[1].rstrip(']')] if '[' in kind else ''
 
 
-class Lent(tuple):
+def _handed_as(kind: str) -> List[Any]:
+    """A slice goes over as its address and its length."""
+    return [ctypes.c_void_p, ctypes.c_size_t] if '[' in kind else [_NUMBERS[kind]]
+
+
+class Lent(NamedTuple):
     """Memory that is lent to a call: its address, its length in items, and the code of the items."""
+
+    address: int
+    length: int
+    code: str
 
 
 def lent(numbers: Any) -> Lent:
     if not isinstance(numbers, array):
         raise TypeError(f'an array is expected, and this is of {type(numbers).__name__}')
-    return Lent((*numbers.buffer_info(), numbers.typecode))
+    return Lent(*numbers.buffer_info(), numbers.typecode)
 
 
 def bound(library: ctypes.CDLL, name: str) -> Callable[..., Any]:
@@ -91,10 +101,7 @@ def bound(library: ctypes.CDLL, name: str) -> Callable[..., Any]:
     codes = [_item(kind) for _, kind in parameters]
     function = library[name]
     function.restype = _NUMBERS[answer]
-    function.argtypes = [
-        part for _, kind in parameters for part in
-        ([ctypes.c_void_p, ctypes.c_size_t] if '[' in kind else [_NUMBERS[kind]])
-    ]
+    function.argtypes = [part for _, kind in parameters for part in _handed_as(kind)]
 
     def call(*given: Any) -> Any:
         handed: List[Any] = []

@@ -79,7 +79,7 @@ if library_version() != VERSION:
     raise ImportError(f'{_LIBRARY._name} is of version {library_version()}, and this package of {VERSION}')
 
 
-def zeros(code: str, count: int) -> array:
+def zeros(code: str, count: int) -> array[Any]:
     """Room for so many items."""
     return array(code, bytes(count * array(code).itemsize))
 

@@ -58,7 +58,7 @@ def _words(fault: Fault, before: str) -> str:
     return '; '.join(said) or 'as in the ramp'
 
 
-def apart_of(ramp: Tuple[Any, ...], threshold: float, step: float, depths: array, offered: 'List') -> Apart:
+def apart_of(ramp: Tuple[Any, ...], threshold: float, step: float, depths: array[float], offered: 'List') -> Apart:
     faults, told = zeros('B', len(depths)), zeros('Q', 4)
     _, places, colours, _ = offered._lent
     fine('apart_told', *ramp, threshold, step, depths, places, colours, faults, told)

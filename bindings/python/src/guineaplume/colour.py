@@ -68,7 +68,7 @@ def _of_hex(text: str) -> Sequence[float]:
         raise ValueError(f'a colour has hexadecimal digits: {text!r}') from None
 
 
-def channels_of(colours: Any) -> array:
+def channels_of(colours: Any) -> array[float]:
     """Four channels of each colour, one after the other. An array of three or four columns is taken as it is."""
     if hasattr(colours, '__array__'):
         from ._arrays import channels_of_array
@@ -77,12 +77,12 @@ def channels_of(colours: Any) -> array:
     return array('f', [channel for colour in colours for channel in Colour.of(colour)])
 
 
-def colours_of(channels: array) -> Tuple[Colour, ...]:
+def colours_of(channels: array[float]) -> Tuple[Colour, ...]:
     """The colours of such channels."""
     return tuple(map(Colour._make, zip(*[iter(channels)] * 4)))
 
 
-def floats(numbers: Any) -> array:
+def floats(numbers: Any) -> array[float]:
     """Numbers as f32, in an array of our own."""
     if hasattr(numbers, '__array__'):
         from ._arrays import floats_of_array

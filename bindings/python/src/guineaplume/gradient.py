@@ -27,12 +27,12 @@ class Gradient:
     __slots__ = ()
 
     @property
-    def _lent(self) -> Tuple[int, array, array, array]:
+    def _lent(self) -> Tuple[int, array[float], array[float], array[int]]:
         """Kind, positions, channels, codes."""
         raise NotImplementedError
 
     @property
-    def _depths(self) -> array:
+    def _depths(self) -> array[float]:
         """Its own positions."""
         return self._lent[1]
 
@@ -156,7 +156,8 @@ class Gradient:
         >>> list(ramp.stops_of(record)) == list(ramp.thin(record))
         True
         """
-        place, stop = (0, 0, 0), zeros('f', 5)
+        stop = zeros('f', 5)
+        place: Tuple[int, ...] = (0, 0, 0)
         while True:
             told = zeros('Q', 5)
             fine('next_stop_told', *self._lent, record.threshold, *record._lent, *place, told, stop)

@@ -14,7 +14,7 @@ def threshold(asked: float) -> float:
     >>> round(threshold(float('nan')), 6), round(threshold(1.0), 6)
     (0.007, 0.035)
     """
-    return call('threshold', asked)
+    return float(call('threshold', asked))
 
 
 def hold(asked: float, threshold: float) -> float:
@@ -23,7 +23,7 @@ def hold(asked: float, threshold: float) -> float:
     >>> round(hold(0.5, 0.007), 6)
     0.007
     """
-    return call('hold', asked, threshold)
+    return float(call('hold', asked, threshold))
 
 
 def root(x: float) -> float:
@@ -32,7 +32,7 @@ def root(x: float) -> float:
     >>> root(2.25)
     1.5
     """
-    return call('root', x)
+    return float(call('root', x))
 
 
 def cutoff(t: float) -> float:
@@ -41,7 +41,7 @@ def cutoff(t: float) -> float:
     >>> root(cutoff(0.5)) / 2
     0.5
     """
-    return call('cutoff', t)
+    return float(call('cutoff', t))
 
 
 def token(text: Union[bytes, str]) -> Optional[float]:
@@ -74,5 +74,5 @@ def desk(text: Union[bytes, str]) -> bytes:
     return text_of('desk', _bytes(text)).encode()
 
 
-def _bytes(text: Union[bytes, str]) -> array:
+def _bytes(text: Union[bytes, str]) -> array[int]:
     return array('B', text.encode() if isinstance(text, str) else text)

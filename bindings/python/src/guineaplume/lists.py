@@ -42,7 +42,7 @@ class List(Gradient):
         self.record: Optional[Record] = None
 
     @property
-    def _lent(self) -> Tuple[int, array, array, array]:
+    def _lent(self) -> Tuple[int, array[float], array[float], array[int]]:
         return int(Kind.LINEAR), self._places, self._channels, array('B')
 
     @property
@@ -131,7 +131,7 @@ def made(name: str, *given: Any) -> List:
     return kept(places, colours, *told)
 
 
-def kept(places: array, channels: array, stops: int, evaluations: int) -> List:
+def kept(places: array[float], channels: array[float], stops: int, evaluations: int) -> List:
     """The first stops of such room."""
     listed = List.__new__(List)
     listed._places, listed._channels = places[:stops], channels[: 4 * stops]

@@ -9,7 +9,7 @@ from .gradient import Gradient
 
 
 def colour_map(ramp: Gradient, name: str, levels: int) -> Any:
-    from matplotlib.colors import ListedColormap
+    from matplotlib.colors import ListedColormap  # type: ignore[import]
 
     if levels < 2:
         raise ValueError('a colour map has two levels or more')

@@ -49,11 +49,11 @@ class Ramp(Gradient):
 
     kind: Kind
     name: str
-    _positions: array
-    _channels: array
-    _codes: array
+    _positions: array[float]
+    _channels: array[float]
+    _codes: array[int]
 
-    def __init__(self, kind: Kind, positions: Any, channels: Any, codes: Any = b'', name: str = '') -> None:
+    def __init__(self, kind: int, positions: Any, channels: Any, codes: Any = b'', name: str = '') -> None:
         """Of flat numbers, as the library has them: for a stop one position and four channels; for a GIMP segment three
         positions (left, middle, right), eight channels and two codes. Refused with 1, 2, 3."""
         self.kind = Kind(kind)
@@ -62,11 +62,11 @@ class Ramp(Gradient):
         fine('check', *self._lent)
 
     @property
-    def _lent(self) -> Tuple[int, array, array, array]:
+    def _lent(self) -> Tuple[int, array[float], array[float], array[int]]:
         return int(self.kind), self._positions, self._channels, self._codes
 
     @property
-    def _depths(self) -> array:
+    def _depths(self) -> array[float]:
         """Its own positions; of GIMP segments their ends."""
         return self._positions if self.kind != Kind.GIMP else self._positions[:1] + self._positions[2::3]
 

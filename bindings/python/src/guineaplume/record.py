@@ -44,7 +44,7 @@ class Record:
         return made
 
     @property
-    def _lent(self) -> Tuple[array, array, array]:
+    def _lent(self) -> Tuple[array[float], array[int], array[int]]:
         return self._rows, self._counts, self._marks
 
     @property
@@ -74,6 +74,10 @@ class Record:
 
     def __eq__(self, other: object) -> bool:
         """Where rows, counts and words are the same, however they came about."""
-        return isinstance(other, Record) and all(a.tobytes() == b.tobytes() for a, b in zip(self._lent, other._lent))
+        return isinstance(other, Record) and self._bytes() == other._bytes()
+
+    def _bytes(self) -> Tuple[bytes, ...]:
+        # not-a-number equals itself here
+        return self._rows.tobytes(), self._counts.tobytes(), self._marks.tobytes()
 
     __hash__ = None  # type: ignore[assignment]

@@ -2,8 +2,9 @@
 
 from __future__ import annotations
 
+from dataclasses import dataclass
 from enum import IntEnum
-from typing import TYPE_CHECKING, Any, NamedTuple, Tuple
+from typing import TYPE_CHECKING, Any, Tuple
 
 from ._library import text_of, zeros
 from .numerals import short
@@ -25,7 +26,8 @@ class Judged(IntEnum):
     TOO_FAR = 6
 
 
-class Verdict(NamedTuple):
+@dataclass(frozen=True)
+class Verdict:
     """Yes, or no with the first thing that is wrong: a stop, or the point of a fresh sampling (row 36 is the ramp's end). It is
     true where it is yes; as a text it is the library's words."""
 
@@ -55,4 +57,5 @@ def verdict_of(ramp: Tuple[Any, ...], threshold: float, offered: 'List') -> Verd
     told, t = zeros('Q', 4), zeros('f', 1)
     _, places, colours, _ = offered._lent
     fine('judge_told', *ramp, threshold, places, colours, told, t)
-    return Verdict(Judged(told[0]), *told[1:], t[0])
+    number, stop, row, index = told
+    return Verdict(Judged(number), stop, row, index, t[0])
