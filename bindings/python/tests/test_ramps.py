@@ -70,6 +70,8 @@ class Making(unittest.TestCase):
         ramp = Ramp.linear(places, colours)
         places[1], colours[1][0] = 0.3, 0.9
         self.assertEqual(ramp, Ramp.linear(PLACES, GREYS))
+        self.assertEqual(pickle.loads(pickle.dumps(ramp)), ramp)
+        self.assertEqual(repr(ramp), '<linear ramp of 4 stops from 0 to 1>')
 
 
 class Painting(unittest.TestCase):

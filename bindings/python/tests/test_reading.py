@@ -61,12 +61,17 @@ class Files(unittest.TestCase):
         self.assertEqual(ramp.positions, (0.0, 1.0, 1.0, 2.0))
         self.assertEqual([ramp(1).r, ramp(1.0001).r], [0.0, 1.0])
 
+    def test_names_of_colours(self):
+        ramp = Ramp.from_cpt(b'0 black 1 gray50\n1 gray50 2 darkorange1\n2 darkorange1 3 white\n')
+        self.assertEqual([colour.to_hex() for colour in ramp.colours], ['#000000', '#7f7f7f', '#ff7f00', '#ffffff'])
+
     def test_tables_that_are_not_read(self):
         self.unread(2, 'a slice from 1 on', b'0 0 0 0 1 9 9 9\n2 0 0 0 3 9 9 9\n')
         self.unread(1, 'model RGB', b'# COLOR_MODEL = HSV\n0 0 0 0 1 9 9 9\n')
         self.unread(1, 'a point, not a comma', b'0 0 0 0 1,5 9 9 9\n')
         self.unread(1, '0 to 255', b'0 0 0 0 1 9 9 256\n')
-        self.unread(1, "found 'red'", b'0 red 1 blue\n')
+        self.unread(1, "found 'rosso'", b'0 rosso 1 blue\n')
+        self.unread(1, "found 'gray101'", b'0 gray101 1 blue\n')
         self.unread(1, 'found 5 fields', b'0 0 0 0 1\n')
         self.unread(0, 'no slice', b'# nothing\n')
         self.refused(Reason.FALLING, 2, Ramp.from_cpt, b'0 0 0 0 1 9 9 9\n1 9 9 9 0.5 0 0 0\n')

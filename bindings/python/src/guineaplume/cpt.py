@@ -1,7 +1,9 @@
-"""GMT colour tables in: slices of two values with a colour each, RGB from 0 to 255, with slashes or spaces."""
+"""GMT colour tables in: slices of two values with a colour each, RGB from 0 to 255, with slashes or spaces, or a name of those
+that GMT's own tables use."""
 
 from __future__ import annotations
 
+import re
 from typing import List, Tuple
 
 from .ramp import Kind, Ramp
@@ -15,6 +17,28 @@ _APART = ('B', 'F', 'N')
 
 # what may stand last: which end of the slice is labelled
 _LABELLED = ('L', 'U', 'B')
+
+# X11's, of which green is the full one and gray is 190
+_NAMES = {
+    'black': '000000',
+    'white': 'ffffff',
+    'red': 'ff0000',
+    'green': '00ff00',
+    'blue': '0000ff',
+    'cyan': '00ffff',
+    'magenta': 'ff00ff',
+    'yellow': 'ffff00',
+    'gray': 'bebebe',
+    'bisque2': 'eed5b7',
+    'burlywood': 'deb887',
+    'darkorange1': 'ff7f00',
+    'darkorange3': 'cd6600',
+    'ivory2': 'eeeee0',
+    'mediumaquamarine': '66cdaa',
+    'mediumseagreen': '3cb371',
+    'saddlebrown': '8b4513',
+    'snow': 'fffafa',
+}
 
 End = Tuple[float, Tuple[float, ...]]
 
@@ -38,13 +62,22 @@ def _end(line: int, half: List[str]) -> End:
     return value, (*(channel / 255 for channel in channels), 1.0)
 
 
+def _channels(field: str) -> List[str]:
+    """A colour in one field; gray0 to gray100 are hundredths, as X11 rounds them."""
+    hundredths = re.fullmatch('gray([0-9]{1,2}|100)', field)
+    if hundredths:
+        return 3 * [str(int(int(hundredths.group(1)) * 2.55 + 0.5))]
+    named = _NAMES.get(field)
+    return [str(channel) for channel in bytes.fromhex(named)] if named else field.split('/')
+
+
 def _slice(line: int, fields: List[str]) -> Tuple[End, End]:
     if fields[-1] in _LABELLED:
         fields = fields[:-1]
     if len(fields) == 8:
         return _end(line, fields[:4]), _end(line, fields[4:])
     if len(fields) == 4:
-        return _end(line, [fields[0], *fields[1].split('/')]), _end(line, [fields[2], *fields[3].split('/')])
+        return _end(line, [fields[0], *_channels(fields[1])]), _end(line, [fields[2], *_channels(fields[3])])
     raise Unread(line, f'expected {_EXPECTED}; found {len(fields)} fields')
 
 

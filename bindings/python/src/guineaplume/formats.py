@@ -10,7 +10,7 @@ from typing import List, Sequence, Tuple
 from ._library import call, zeros
 from .colour import Colour
 from .leaves import token
-from .numerals import f32, nine_digits, short
+from .numerals import f32, for_json, nine_digits, short, with_edges
 from .refusal import Reason, Refusal
 
 Stops = Sequence[Tuple[float, Colour]]
@@ -26,14 +26,19 @@ def _hex(colour: Colour) -> str:
     return '#%02x%02x%02x' % colour.to_bytes()[:3]
 
 
+def _is_written(x: float) -> bool:
+    return token(nine_digits(x)) == x
+
+
 def to_text(stops: Stops) -> str:
-    """The tool's lines. Refused with 19 where a number cannot be written in 18 digits."""
+    """The tool's lines. Refused with 19 where a number cannot be written in 18 digits; but the f32 just above 0, which has 45,
+    is there for an edge, and such an edge is the position twice."""
     lines = ['kind\tlinear']
-    for position, colour in stops:
-        written = [nine_digits(x) for x in (position, *colour)]
-        if any(token(text) != x for text, x in zip(written, (position, *colour))):
+    for (position, colour), edge in zip(stops, with_edges([position for position, _ in stops])):
+        numbers = [position if _is_written(position) else edge, *colour]
+        if not all(map(_is_written, numbers)):
             raise Refusal(Reason.UNWRITABLE)
-        lines.append('\t'.join(['stop', *written]))
+        lines.append('\t'.join(['stop', *map(nine_digits, numbers)]))
     return '\n'.join(lines) + '\n'
 
 
@@ -109,8 +114,8 @@ def to_css(stops: Stops, name: str) -> str:
 def to_json(stops: Stops, name: str) -> str:
     rows: List[str] = []
     for position, colour in stops:
-        channels = ', '.join(map(short, colour))
-        rows.append(f'    {{"position": {short(position)}, "color": [{channels}], "hex": "{_hex(colour)}"}}')
-    ends = f'[{short(stops[0][0])}, {short(stops[-1][0])}]' if stops else '[, ]'
-    head = f'{{\n  "name": {json.dumps(name, ensure_ascii=False)},\n  "kind": "linear",\n  "domain": {ends},\n  "stops": [\n'
+        channels = ', '.join(map(for_json, colour))
+        rows.append(f'    {{"position": {for_json(position)}, "color": [{channels}], "hex": "{_hex(colour)}"}}')
+    ends = ', '.join(for_json(position) for position, _ in [*stops[:1], *stops[-1:]])
+    head = f'{{\n  "name": {json.dumps(name, ensure_ascii=False)},\n  "kind": "linear",\n  "domain": [{ends}],\n  "stops": [\n'
     return head + ',\n'.join(rows) + '\n  ]\n}\n'

@@ -9,7 +9,7 @@ from . import formats
 from ._library import zeros
 from .colour import Colour, ColourLike, channels_of, colours_of, floats
 from .gradient import Gradient
-from .numerals import stretched
+from .numerals import stretched, with_edges
 from .ramp import Kind, Ramp
 from .record import Record
 from .refusal import fine
@@ -75,23 +75,28 @@ class List(Gradient):
         """The list as a linear ramp. Refused with 1 where it has more than 2,048 stops."""
         return Ramp(Kind.LINEAR, self._places, self._channels)
 
-    # ---- texts. A domain takes the stops there; ggr, svg and css run from 0 to 1 always.
+    # ---- texts. A domain takes the stops there; ggr, svg and css run from 0 to 1 always. Text, bits and JSON have every position
+    # to the last bit; in the others a hard edge is one position twice.
 
-    def _on(self, domain: Optional[Tuple[float, float]]) -> formats.Stops:
+    def _exact(self, domain: Optional[Tuple[float, float]]) -> formats.Stops:
         positions = self.positions if domain is None else stretched(self.positions, domain)
         return list(zip(positions, self.colours))
 
+    def _edged(self, domain: Optional[Tuple[float, float]]) -> formats.Stops:
+        edges = with_edges(self.positions)
+        return list(zip(edges if domain is None else stretched(edges, domain), self.colours))
+
     def to_text(self, domain: Optional[Tuple[float, float]] = None) -> str:
         """As the tool `flatten` takes it: every number comes back as it was. Refused with 19 where one cannot be written."""
-        return formats.to_text(self._on(domain))
+        return formats.to_text(self._exact(domain))
 
     def to_bits(self, domain: Optional[Tuple[float, float]] = None) -> str:
         """As the tool `flatten` prints it: the bits of each f32 in hexadecimal."""
-        return formats.to_bits(self._on(domain), self.evaluations)
+        return formats.to_bits(self._exact(domain), self.evaluations)
 
     def to_ggr(self, name: str = NAME) -> str:
         """A GIMP gradient, which Inkscape and Krita read too. Refused with 1 where it has more than 257 stops."""
-        return formats.to_ggr(self._on(_UNIT), name)
+        return formats.to_ggr(self._edged(_UNIT), name)
 
     def to_cpt(self, name: str = NAME, domain: Optional[Tuple[float, float]] = None) -> str:
         """A colour table for GMT and gdaldem; it has no alpha.
@@ -101,27 +106,27 @@ class List(Gradient):
         # COLOR_MODEL = RGB
         -200 74 144 192 0 216 240 248
         """
-        return formats.to_cpt(self._on(domain), name)
+        return formats.to_cpt(self._edged(domain), name)
 
     def to_qgis(self, domain: Optional[Tuple[float, float]] = None) -> str:
         """A colour map for QGIS."""
-        return formats.to_qgis(self._on(domain))
+        return formats.to_qgis(self._edged(domain))
 
     def to_gdal(self, domain: Optional[Tuple[float, float]] = None) -> str:
         """A colour file for gdaldem."""
-        return formats.to_gdal(self._on(domain))
+        return formats.to_gdal(self._edged(domain))
 
     def to_svg(self, name: str = NAME) -> str:
         """A gradient of SVG, with a band that shows it."""
-        return formats.to_svg(self._on(_UNIT), name)
+        return formats.to_svg(self._edged(_UNIT), name)
 
     def to_css(self, name: str = NAME) -> str:
         """A gradient of CSS, as a property."""
-        return formats.to_css(self._on(_UNIT), name)
+        return formats.to_css(self._edged(_UNIT), name)
 
     def to_json(self, name: str = NAME, domain: Optional[Tuple[float, float]] = None) -> str:
         """JSON, for programs of one's own."""
-        return formats.to_json(self._on(domain), name)
+        return formats.to_json(self._exact(domain), name)
 
 
 def made(name: str, *given: Any) -> List:

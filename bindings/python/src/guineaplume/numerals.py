@@ -43,6 +43,19 @@ def _near(x: float, digits: int) -> Iterable[Decimal]:
         yield nearest + Decimal(1).scaleb(nearest.adjusted() - digits + 1).copy_sign(nearest)
 
 
+def for_json(x: float) -> str:
+    """The fewest digits, with an exponent where there would be many zeros.
+
+    >>> for_json(f32(3e-8)), for_json(0.5)
+    ('3e-8', '0.5')
+    """
+    if x == 0 or 1e-6 <= abs(x) < 1e16:
+        return short(x)
+    written = Decimal(short(x)).normalize()
+    exponent = written.adjusted()
+    return f'{written.scaleb(-exponent):f}e{exponent}'
+
+
 def nine_digits(x: float) -> str:
     """Nine significant digits by the library's own writer; a number that it does not write has as many as it needs."""
     return numeral(x) or short(x)
@@ -55,6 +68,16 @@ def above(x: float) -> float:
     bits = array('I', array('f', [x]).tobytes())
     bits[0] += 1 if x > 0 else -1
     return array('f', bits.tobytes())[0]
+
+
+def with_edges(positions: Sequence[float]) -> List[float]:
+    """A list shows a hard edge by a stop at the next f32. With the position twice the same colours are seen, and tables have no
+    slices of no width."""
+    edges = list(positions)
+    for i in range(1, len(positions)):
+        if positions[i] == above(positions[i - 1]):
+            edges[i] = edges[i - 1]
+    return edges
 
 
 def stretched(positions: Sequence[float], domain: Tuple[float, float]) -> List[float]:
