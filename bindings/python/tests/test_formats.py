@@ -102,9 +102,13 @@ class Formats(unittest.TestCase):
         with self.assertRaises(Refusal) as caught:
             List([i / 299 for i in range(300)], ['#000'] * 300).to_ggr()
         self.assertEqual(caught.exception.number, Reason.MISSHAPEN)
-        for write in (SHELF.to_ggr, SHELF.to_cpt):
+        together = List([3, 3], ['#000', '#fff'])
+        for write in (together.to_ggr, together.to_cpt):
             with self.assertRaises(ValueError):
-                getattr(List([3, 3], ['#000', '#fff']), write.__name__)()
+                write()
+        for misshapen in (List([], []), List([0, 1], ['#000'])):
+            with self.assertRaises(Refusal):
+                misshapen.to_gdal()
 
 
 class Numbers(unittest.TestCase):

@@ -3,7 +3,7 @@
 from __future__ import annotations
 
 from array import array
-from typing import Any, Iterable, Iterator, Optional, Tuple
+from typing import Any, Iterable, Iterator, Optional, Sequence, Tuple
 
 from . import formats
 from ._library import zeros
@@ -12,7 +12,7 @@ from .gradient import Gradient
 from .numerals import stretched, with_edges
 from .ramp import Kind, Ramp
 from .record import Record
-from .refusal import fine
+from .refusal import Reason, Refusal, fine
 
 # stops of any list
 MOST_POINTS = 4609
@@ -78,13 +78,16 @@ class List(Gradient):
     # ---- texts. A domain takes the stops there; ggr, svg and css run from 0 to 1 always. Text, bits and JSON have every position
     # to the last bit; in the others a hard edge is one position twice.
 
+    def _on(self, domain: Optional[Tuple[float, float]], positions: Sequence[float]) -> formats.Stops:
+        if not positions or 4 * len(positions) != len(self._channels):
+            raise Refusal(Reason.MISSHAPEN)
+        return list(zip(positions if domain is None else stretched(positions, domain), self.colours))
+
     def _exact(self, domain: Optional[Tuple[float, float]]) -> formats.Stops:
-        positions = self.positions if domain is None else stretched(self.positions, domain)
-        return list(zip(positions, self.colours))
+        return self._on(domain, self.positions)
 
     def _edged(self, domain: Optional[Tuple[float, float]]) -> formats.Stops:
-        edges = with_edges(self.positions)
-        return list(zip(edges if domain is None else stretched(edges, domain), self.colours))
+        return self._on(domain, with_edges(self.positions))
 
     def to_text(self, domain: Optional[Tuple[float, float]] = None) -> str:
         """As the tool `flatten` takes it: every number comes back as it was. Refused with 19 where one cannot be written."""
