@@ -3,7 +3,7 @@
 the library that `./library` makes ($GUINEAPLUME_LIB names another folder).
 
 The C call is timed inside C, by a function of three lines that this script compiles, on the same points and into a buffer that
-is used before. Medians of interleaved repetitions, processor time of the thread."""
+is used before. Medians of interleaved repetitions, and of the ratios within each, in processor time of the thread."""
 import ctypes
 import os
 import statistics
@@ -63,7 +63,8 @@ def measure(timed, make, stops, repetitions):
     forms = [own, lambda: by_python(lambda: ramp.paint(ts, out)), lambda: by_python(lambda: ramp(ts)),
              lambda: by_python(lambda: ramp(doubles))]
     times = [[form() for form in forms] for _ in range(repetitions)]
-    return [statistics.median(column) for column in zip(*times)]
+    ratios = [[one / first for one in others] for first, *others in times]
+    return statistics.median(first for first, *_ in times), [statistics.median(column) for column in zip(*ratios)]
 
 
 def main():
@@ -73,9 +74,8 @@ def main():
         print('| ramp | the C call, ms | `paint` into a lent array | `ramp(x)`, float32 | `ramp(x)`, float64 |\n|---|---|---|---|---|')
         for name, make in [('linear', Ramp.linear), ('smoothstep', Ramp.smoothstep), ('basis', Ramp.basis), ('Catmull-Rom', Ramp.catmull_rom)]:
             for stops in (2, 64, 512):
-                first, *others = measure(timed, make, stops, repetitions)
-                ratios = ' | '.join(f'{other / first:.2f}' for other in others)
-                print(f'| {name}, {stops} stops | {1000 * first:.2f} | {ratios} |')
+                first, ratios = measure(timed, make, stops, repetitions)
+                print(f'| {name}, {stops} stops | {1000 * first:.2f} | ' + ' | '.join(f'{ratio:.2f}' for ratio in ratios) + ' |')
 
 
 if __name__ == '__main__':
