@@ -1,5 +1,6 @@
 // A block of colours: those of the points from one on, as many as it has room for.
 use crate::fair::colour_of;
+use crate::fewer::at_most;
 use sampling::Point;
 use sampling::cells::evaluate;
 use sampling::cells::placed;
@@ -9,7 +10,7 @@ use stops::Window;
 use stops::segments;
 use stops::segments::follow;
 ghost use mathlib.Core.Path.{_≡_};
-ghost use Prim.Native.Nat.{_+_, _-_, _≤_, _<_, min};
+ghost use Prim.Native.Nat.{_+_, _≤_, _<_};
 ghost use lib.ListN.{length};
 ghost use Rattle.gradient.specs.Ramp.{checkOf, colourOf};
 ghost use Rattle.sampling.specs.inner.Steps.{Prepared, PointAt};
@@ -73,15 +74,6 @@ fn point_in(
         return evaluate(kind, positions, channels, codes, t, k, base, table);
     }
     placed(kind, positions, channels, base, table, t, Place::Between(j))
-}
-
-fn at_most(n: usize, m: usize) -> usize
-    ensures { λ r. ⌜ r ≡ min n m ⌝ }
-{
-    if n <= m {
-        return n;
-    }
-    m
 }
 
 // The colours of the points from `base` on, up to `to`, with room in hand for segments.

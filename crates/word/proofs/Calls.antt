@@ -35,9 +35,9 @@ use Rattle.judge.specs.declared.Verdict.{Verdict}
 use Rattle.judge.specs.declared.Verdict.the-variants.{Yes}
 use Rattle.judge.proofs.Answering.{judge-done}
 use Rattle.judge.proofs.Theorems.{stands-yes, one-answer}
-use Rattle.editing.specs.Edited.{edited}
-use Rattle.editing.specs.Rules.{editCheck}
-use Rattle.editing.specs.declared.Edit.{Edit}
+use Rattle.refresh.specs.editing.Edited.{edited}
+use Rattle.refresh.specs.editing.Rules.{editCheck}
+use Rattle.refresh.specs.declared.editing.Edit.{Edit}
 use Rattle.refresh.specs.RefreshDesk.{numberOfRefreshed, Refreshes}
 use Rattle.refresh.specs.AfterEdit.{Shaped}
 use Rattle.refresh.specs.declared.Refreshed.{Refreshed}

@@ -2,7 +2,7 @@
 use mathlib.Core.Path.{sym, _∙_}
 use denote.Ref.{now}
 use Rattle.stops.specs.Lent.{rampIn}
-use Rattle.paint.proofs.Painting.{paintable, as-stops, as-kept, as-gimp}
+use Rattle.paint.proofs.Painting.{paintable, fits, as-stops, as-kept, as-gimp}
 use borrow.Author.Needs.{needs}
 use Rattle.paint.proofs.paint_all.Statement.{statement}
 use Rattle.paint.proofs.paint_all.Tie as tie
@@ -11,7 +11,11 @@ is-gimp-requires : tie.Need-is-gimp-requires
 is-gimp-requires c κs = search needs
 
 paint-requires : tie.Need-paint-requires
-paint-requires c κs = search needs
+paint-requires c κs =
+    let segments = c .before in
+    let asked = segments .before in
+    let s = asked .before .before .before .before .before .before in
+    fits (rampIn (s .args .kind) (s .args .positions) (s .args .channels) (s .args .codes)) (now (s .args .ts)) (now (s .args .out)) (sym (asked .is-gimp .ensures) ∙ segments .if1 .taken) (s .pre .0) (s .pre .1)
 
 same-length : tie.Need-same-length
 same-length c = search needs
@@ -22,7 +26,7 @@ returns c =
     let segments = painted .before .before in
     let asked = segments .before in
     let s = asked .before .before .before .before .before .before in
-    as-gimp (rampIn (s .args .kind) (s .args .positions) (s .args .channels) (s .args .codes)) (now (s .args .ts)) (now (s .args .out)) (sym (asked .is-gimp .ensures) ∙ segments .if1 .taken) (s .pre .0) (s .pre .1) (painted .paint .ensures)
+    as-gimp (rampIn (s .args .kind) (s .args .positions) (s .args .channels) (s .args .codes)) (now (s .args .ts)) (now (s .args .out)) (sym (asked .is-gimp .ensures) ∙ segments .if1 .taken) (painted .paint .ensures)
 
 is-catmull-rom-requires : tie.Need-is-catmull-rom-requires
 is-catmull-rom-requires c κs = search needs

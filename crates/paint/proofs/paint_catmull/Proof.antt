@@ -8,7 +8,7 @@ use denote.Ref.{now}
 use lib.ListN.{length, take, drop}
 use lib.Seq.{sets, length-sets}
 use lib.Ieee.{Float}
-use Rattle.paint_segments.proofs.Filling.{colours-next, colours-done}
+use Rattle.paint.proofs.gimp.Filling.{colours-next, colours-done}
 use Rattle.stops.specs.Near.{segmentFor}
 use Rattle.stops.specs.declared.Kind.the-variants.{CatmullRom}
 use Rattle.blend.specs.Channels.{channelsOf, coloursOf}

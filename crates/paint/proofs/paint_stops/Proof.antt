@@ -8,7 +8,7 @@ use denote.Ref.{now}
 use lib.ListN.{length, take, drop}
 use lib.Seq.{sets, length-sets}
 use lib.Ieee.{Float}
-use Rattle.paint_segments.proofs.Filling.{colours-next, colours-done}
+use Rattle.paint.proofs.gimp.Filling.{colours-next, colours-done}
 use Rattle.blend.specs.Channels.{channelsOf, coloursOf}
 use Rattle.paint.specs.inner.Steps.{stopColour}
 use Rattle.paint.proofs.paint_stops.Statement.{statement}

@@ -2,7 +2,7 @@
 use mathlib.Core.Path.{refl}
 use Rattle.refusals.specs.Refusals.{misshapen}
 use Rattle.judge.specs.declared.Verdict.the-variants as verdict
-use Rattle.plain.proofs.Coding.{of-a-kind, of-no-kind, paired-both}
+use Rattle.colorgrad_c.proofs.plain.Coding.{of-a-kind, of-no-kind, paired-both}
 use borrow.Author.Needs.{needs}
 use Rattle.colorgrad_c.proofs.judging.colorgrad_judge_told.Statement.{statement}
 use Rattle.colorgrad_c.proofs.judging.colorgrad_judge_told.Tie as tie

@@ -1,6 +1,6 @@
 -- `colorgrad_token_told` meets its contract: the token that is read, told. Assumes nothing.
 use mathlib.Core.Path.{ap, _∙_}
-use Rattle.plain.proofs.Stored.{tells-same}
+use Rattle.colorgrad_c.proofs.plain.Stored.{tells-same}
 use Rattle.colorgrad_c.specs.Leaves.{isNumber, valueTold}
 use borrow.Author.Needs.{needs}
 use Rattle.colorgrad_c.proofs.leaves.colorgrad_token_told.Statement.{statement}

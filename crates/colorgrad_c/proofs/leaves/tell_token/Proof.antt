@@ -1,6 +1,6 @@
 -- `tell_token` meets its contract: each case of an answer is told. Assumes nothing.
 use Rattle.colorgrad_c.specs.Leaves.{isNumber, valueTold}
-use Rattle.plain.proofs.Stored.{told-case}
+use Rattle.colorgrad_c.proofs.plain.Stored.{told-case}
 use borrow.Author.Needs.{needs}
 use Rattle.colorgrad_c.proofs.leaves.tell_token.Statement.{statement}
 use Rattle.colorgrad_c.proofs.leaves.tell_token.Tie as tie

@@ -2,7 +2,7 @@
 use mathlib.Core.Path.{refl}
 use Rattle.refusals.specs.Refusals.{misshapen}
 use Rattle.paint.specs.declared.ColourAnswer.the-variants as answer
-use Rattle.plain.proofs.Coding.{of-a-kind, of-no-kind, paired}
+use Rattle.colorgrad_c.proofs.plain.Coding.{of-a-kind, of-no-kind, paired}
 use borrow.Author.Needs.{needs}
 use Rattle.colorgrad_c.proofs.ramps.colorgrad_at_told.Statement.{statement}
 use Rattle.colorgrad_c.proofs.ramps.colorgrad_at_told.Tie as tie

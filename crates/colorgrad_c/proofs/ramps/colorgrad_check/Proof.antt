@@ -2,7 +2,7 @@
 use mathlib.Core.Path.{refl}
 use Rattle.refusals.specs.Refusals.{misshapen}
 use Rattle.stops.specs.declared.Checked.the-variants as checked
-use Rattle.plain.proofs.Coding.{of-a-kind, of-no-kind}
+use Rattle.colorgrad_c.proofs.plain.Coding.{of-a-kind, of-no-kind}
 use borrow.Author.Needs.{needs}
 use Rattle.colorgrad_c.proofs.ramps.colorgrad_check.Statement.{statement}
 use Rattle.colorgrad_c.proofs.ramps.colorgrad_check.Tie as tie

@@ -2,7 +2,7 @@
 use mathlib.Core.Path.{refl}
 use Rattle.refusals.specs.Refusals.{misshapen}
 use Rattle.paint.specs.declared.Painted.the-variants as painted
-use Rattle.plain.proofs.Coding.{of-a-kind, of-no-kind}
+use Rattle.colorgrad_c.proofs.plain.Coding.{of-a-kind, of-no-kind}
 use borrow.Author.Needs.{needs}
 use Rattle.colorgrad_c.proofs.ramps.colorgrad_paint.Statement.{statement}
 use Rattle.colorgrad_c.proofs.ramps.colorgrad_paint.Tie as tie

@@ -1,5 +1,5 @@
 -- `colorgrad_sharp_told` meets its contract: the answer of `build`, told, and what that answer leaves. Assumes nothing.
-use Rattle.plain.proofs.Coding.{paired}
+use Rattle.colorgrad_c.proofs.plain.Coding.{paired}
 use borrow.Author.Needs.{needs}
 use Rattle.colorgrad_c.proofs.ramps.colorgrad_sharp_told.Statement.{statement}
 use Rattle.colorgrad_c.proofs.ramps.colorgrad_sharp_told.Tie as tie

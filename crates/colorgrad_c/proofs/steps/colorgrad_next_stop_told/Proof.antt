@@ -3,7 +3,7 @@ use mathlib.Core.Path.{ap}
 use Rattle.refusals.specs.Refusals.{misshapen}
 use Rattle.next_stop.specs.Step.{refusedAt}
 use Rattle.next_stop.specs.declared.ListPlace.{ListPlace}
-use Rattle.plain.proofs.Coding.{of-a-kind, of-no-kind, paired-both}
+use Rattle.colorgrad_c.proofs.plain.Coding.{of-a-kind, of-no-kind, paired-both}
 use Rattle.colorgrad_c.proofs.Stepping.{from-place}
 use borrow.Author.Needs.{needs}
 use Rattle.colorgrad_c.proofs.steps.colorgrad_next_stop_told.Statement.{statement}

@@ -2,7 +2,7 @@
 use mathlib.Core.List.{[], _∷_}
 use Rattle.ggr_writing.specs.File.{numberOfWriteAnswer, bytesOfWriteAnswer}
 use Rattle.ggr_writing.specs.declared.WriteAnswer.{WriteAnswer}
-use Rattle.plain.proofs.Stored.{told-case}
+use Rattle.colorgrad_c.proofs.plain.Stored.{told-case}
 use borrow.Author.Needs.{needs}
 use Rattle.colorgrad_c.proofs.writer.tell_written.Statement.{statement}
 use Rattle.colorgrad_c.proofs.writer.tell_written.Tie as tie

@@ -1,0 +1,28 @@
+-- `stop_told` meets its contract: each case of what is told has its numbers. Assumes nothing.
+use mathlib.Core.Path.{sym, ap}
+use Rattle.colorgrad_c.specs.plain.Steps.{stopTold}
+use borrow.Author.Needs.{needs}
+use Rattle.colorgrad_c.proofs.plain.steps.stop_told.Statement.{statement}
+use Rattle.colorgrad_c.proofs.plain.steps.stop_told.Tie as tie
+
+enum-known-told : tie.Need-enum-known-told
+enum-known-told c = search needs
+
+enum-told : tie.Need-enum-told
+enum-told c = search needs
+
+enum-told-2 : tie.Need-enum-told-2
+enum-told-2 c = search needs
+
+returns : tie.Need-returns
+returns c = sym (ap stopTold (c .before .before .told .given .1))
+
+returns-2 : tie.Need-returns-2
+returns-2 c = sym (ap stopTold (c .enum-told .given .1))
+
+returns-3 : tie.Need-returns-3
+returns-3 c = sym (ap stopTold (c .enum-told2 .given .1))
+
+pub stop-told-spec : {M : Type 1} → statement M
+stop-told-spec =
+    tie.close (tie.spec enum-known-told enum-told enum-told-2 returns returns-2 returns-3)
