@@ -4,7 +4,7 @@ import unittest
 
 import header
 from guineaplume import HOLD, THRESHOLD, Judged, Kind, Reason, Sort, __version__, library_version
-from guineaplume import formats, lists, reading, record, sheet
+from guineaplume import formats, lists, reading, record
 from guineaplume._exports import DECLARED, parted
 
 
@@ -30,7 +30,6 @@ class Headers(unittest.TestCase):
 
     def test_limits(self):
         for name, own in {
-            'MOST_STOPS': sheet.MOST_STOPS,
             'MOST_SEGMENTS': reading.MOST_SEGMENTS,
             'CELLS': record.CELLS,
             'ROW': record.MOST_COUNT,

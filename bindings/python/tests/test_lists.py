@@ -3,7 +3,7 @@
 import random
 import unittest
 
-from guineaplume import Colour, Edit, Judged, Kind, List, Ramp, Reason, Record, Refusal, Sheet
+from guineaplume import Colour, Edit, Judged, List, Ramp, Reason, Record, Refusal
 from guineaplume.record import ROWS
 
 RED = (1, 0, 0)
