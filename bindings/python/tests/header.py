@@ -18,23 +18,17 @@ def _parameters(text):
     while given:
         kind, name = given.pop(0).rsplit(' ', 1)
         if not name.startswith('*'):
-            parameters.append((name, _NUMBERS[kind]))
+            parameters.append(_NUMBERS[kind])
             continue
         assert given.pop(0) == f'size_t {name[1:]}_length'
         mutable = '' if kind.startswith('const ') else 'mut '
-        parameters.append((name[1:], f'&{mutable}[{_NUMBERS[kind.replace("const ", "")]}]'))
+        parameters.append(f'&{mutable}[{_NUMBERS[kind.replace("const ", "")]}]')
     return parameters
 
 
 def declared():
-    """Each call: the name and type of its parameters, and the type of its answer."""
+    """Each call: the types of its parameters and of its answer. Names of parameters are each file's own."""
     return {name: (_parameters(given), _NUMBERS[answer]) for answer, name, given in _CALL.findall(CALLS)}
-
-
-def defined(start):
-    """The numbers that are defined by `#define` or as enumerators with a name that starts so, in their order."""
-    found = re.findall(rf'(?:#define )?COLORGRAD_({start}\w*) =? ?(\d+)u?\b', HEADER)
-    return {name: int(number) for name, number in found}
 
 
 def enumerated(name):

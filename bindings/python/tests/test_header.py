@@ -3,7 +3,7 @@
 import unittest
 
 import header
-from guineaplume import HOLD, THRESHOLD, Judged, Kind, Reason, Sort, __version__, library_version
+from guineaplume import HOLD, THRESHOLD, Fault, Judged, Kind, Reason, Sort, __version__, library_version
 from guineaplume import formats, lists, reading, record
 from guineaplume._exports import DECLARED, parted
 
@@ -11,8 +11,9 @@ from guineaplume._exports import DECLARED, parted
 class Headers(unittest.TestCase):
     def test_calls_are_declared_as_in_the_header(self):
         own = {name: parted(text) for name, text in DECLARED.items()}
-        self.assertEqual(own, header.declared())
-        self.assertGreaterEqual(len(own), 27)
+        types = {name: ([kind for _, kind in parameters], answer) for name, (parameters, answer) in own.items()}
+        self.assertEqual(types, header.declared())
+        self.assertGreaterEqual(len(own), 28)
 
     def test_refusals_have_the_numbers_and_words_of_the_header(self):
         numbers, words = header.refusals()
@@ -27,6 +28,11 @@ class Headers(unittest.TestCase):
         self.assertEqual(sorts, header.enumerated('ColorgradSort'))
         verdicts = {'NOT_JUDGED': 0, **{judged.name: judged.value for judged in Judged}}
         self.assertEqual(verdicts, header.enumerated('ColorgradVerdict'))
+
+    def test_faults(self):
+        for fault in Fault:
+            if fault:
+                self.assertIn(f'#define COLORGRAD_{fault.name} {fault.value}u ', header.HEADER)
 
     def test_limits(self):
         for name, own in {
