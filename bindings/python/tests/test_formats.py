@@ -1,6 +1,7 @@
 """Lists out: each format as it must be, read back, and beside the tool."""
 
 import json
+import math
 import random
 import unittest
 from array import array
@@ -95,9 +96,13 @@ class Formats(unittest.TestCase):
             self.assertEqual(listed.to_bits().encode(), (EXAMPLES / 'printed' / f'{name}.txt').read_bytes())
             self.assertEqual(listed.to_bits().encode(), desk((EXAMPLES / f'{name}.tsv').read_bytes()))
 
+    def test_what_nobody_sees(self):
+        edge = List([0, 2.0**-149, 1], ['#000', '#fff', (3e-8, 1e-30, 0)])
+        self.assertEqual(edge.to_text().splitlines()[2:], ['stop\t0' + 4 * '\t1.00000000', 'stop\t1.00000000\t0.00000003\t0\t0\t1.00000000'])
+
     def test_what_cannot_be_written(self):
         with self.assertRaises(Refusal) as caught:
-            List([0, 1], ['#000', (1e-30, 0, 0)]).to_text()
+            List([0, 1], ['#000', (1e30, 0, 0)]).to_text()
         self.assertEqual(caught.exception.number, Reason.UNWRITABLE)
         with self.assertRaises(Refusal) as caught:
             List([i / 299 for i in range(300)], ['#000'] * 300).to_ggr()
@@ -124,6 +129,14 @@ class Numbers(unittest.TestCase):
     def test_stretching_keeps_ends_and_edges(self):
         first, second, third, last = stretched([0.0, f32(0.389), above(f32(0.389)), 1.0], (-6000, 0))
         self.assertEqual((first, third, last), (-6000.0, above(second), 0.0))
+        crowd = [1.0]
+        for _ in range(8):
+            crowd.append(above(crowd[-1]))
+        taken = stretched(crowd, (1e6, 1e6 + 0.125))
+        self.assertEqual((taken, taken[-1]), (sorted(taken), 1e6 + 0.125))
+        for domain in [(1, 0), (0, 0), (0, math.inf), (math.nan, 1)]:
+            with self.assertRaises(ValueError):
+                stretched(crowd, domain)
         self.assertEqual([above(0.0), above(-0.0)], [2.0**-149] * 2)
         self.assertEqual(above(above(-(2.0**-149))), 2.0**-149)
 

@@ -30,12 +30,16 @@ def _is_written(x: float) -> bool:
     return token(nine_digits(x)) == x
 
 
+def _seen(channel: float) -> float:
+    return 0.0 if abs(channel) < _LEAST and not _is_written(channel) else channel
+
+
 def to_text(stops: Stops) -> str:
     """The tool's lines. Refused with 19 where a number cannot be written in 18 digits; but the f32 just above 0, which has 45,
-    is there for an edge, and such an edge is the position twice."""
+    is there for an edge, and such an edge is the position twice; and a channel that is so small that nobody sees it is 0."""
     lines = ['kind\tlinear']
     for (position, colour), edge in zip(stops, with_edges([position for position, _ in stops])):
-        numbers = [position if _is_written(position) else edge, *colour]
+        numbers = [position if _is_written(position) else edge, *map(_seen, colour)]
         if not all(map(_is_written, numbers)):
             raise Refusal(Reason.UNWRITABLE)
         lines.append('\t'.join(['stop', *map(nine_digits, numbers)]))

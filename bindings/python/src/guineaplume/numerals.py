@@ -81,8 +81,8 @@ def with_edges(positions: Sequence[float]) -> List[float]:
 
 
 def stretched(positions: Sequence[float], domain: Tuple[float, float]) -> List[float]:
-    """Positions taken from their own domain to another, rounded once. Two that stood apart stay apart, if only by one f32: a
-    hard edge stays one.
+    """Positions taken from their own domain to another, rounded once. Two that stood apart stay apart, if only by one f32,
+    while there is room for that: a hard edge stays one. None falls.
 
     >>> stretched([0.0, 0.25, 1.0], (-8000, 0))
     [-8000.0, -6000.0, 0.0]
@@ -91,9 +91,11 @@ def stretched(positions: Sequence[float], domain: Tuple[float, float]) -> List[f
     if first == last:
         raise ValueError('all stops stand at one position: there is no domain')
     least, most = f32(domain[0]), f32(domain[1])
+    if not -math.inf < least < most < math.inf:
+        raise ValueError(f'a domain runs from a number to a greater one: {domain!r}')
     shares = [(position - first) / (last - first) for position in positions]
     taken = [f32(least * (1 - share) + most * share) for share in shares]
     for i in range(1, len(taken)):
-        if positions[i - 1] < positions[i] and taken[i] <= taken[i - 1]:
-            taken[i] = min(above(taken[i - 1]), most)
+        stood_apart = positions[i - 1] < positions[i]
+        taken[i] = max(taken[i], min(above(taken[i - 1]), most) if stood_apart else taken[i - 1])
     return taken
