@@ -123,9 +123,8 @@ pub(crate) fn thin_all(
     requires { ⌜ (checkOf (rampIn kind positions channels codes) ≡ Fine) × (count ≤ 10752) ⌝ }
     ensures { λ r. ⌜ AllStops (lentRamp kind positions channels codes) offs room count min max (old ts) (old marks) (lentOutput places colours) r ⌝ }
 {
-    let none: [[[f32; 4]; 4]; 1] = [[[0.0; 4]; 4]; 1];
-    let end = evaluate(kind, positions, channels, codes, max, 1, 0, &none[..0]);
-    let first = evaluate(kind, positions, channels, codes, min, 1, 0, &none[..0]);
+    let end = evaluate(kind, positions, channels, codes, max, 1);
+    let first = evaluate(kind, positions, channels, codes, min, 1);
     let start = Progress {
         last: first,
         stops: 0,

@@ -53,7 +53,7 @@ use Rattle.word.proofs.Keeping.{keeps-word}
 use Rattle.word.proofs.Written.{Made, thinned, flattened}
 
 -- a ramp that a sampling takes, the judge takes
-taken-too : (ramp : Ramp) (was : Held) → heldCheck ramp was ≡ checked.Fine → rampCheck ramp ≡ checked.Fine
+pub taken-too : (ramp : Ramp) (was : Held) → heldCheck ramp was ≡ checked.Fine → rampCheck ramp ≡ checked.Fine
 taken-too ramp was h = let l = record-lengths ramp _ _ _ h in rw (l .long, l .many, l .three) at h
 
 -- the judge says yes to a list that stands, by whatever number its threshold is asked for

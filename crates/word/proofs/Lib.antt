@@ -24,3 +24,4 @@ pub mod RightEnd
 pub mod EndChannel
 pub mod EndDistance
 pub mod Depths
+pub mod Asked

@@ -23,6 +23,8 @@ use Rattle.linearize.specs.Desk.{numberOfListed, evaluationsOfListed, withSampl
 use Rattle.linearize.specs.declared.Listed.{Listed}
 use Rattle.linearize.specs.declared.Listed.the-variants as listed
 use Rattle.judge.specs.Lists.{Offer, offerOf, offeredRamp}
+use Rattle.apart.specs.declared.told.Apart.{Apart}
+use Rattle.apart.specs.declared.told.Apart.the-variants as apart
 use Rattle.refresh.specs.AfterEdit.{SameList}
 use Rattle.float.specs.Number.{aboveOf, belowOf}
 use Rattle.within.specs.Promises.{ThinsWithin}
@@ -63,6 +65,15 @@ OwnDepths ramp ds = (i : ℕ) → i < length ds → OwnDepth ramp (posAt ds i)
 pub record Unmoved (ds : List Float) (bytes : List ℕ) (moved : ℕ) : Type 0 where
   pub none : moved ≡ 0
   pub each : (i : ℕ) → i < length ds → getD bytes i 0 % 2 ≡ 0
+
+-- `apart` is not refused, and nothing is moved
+pub record ToldUnmoved (ds : List Float) (bytes : List ℕ) (r : Apart) : Type 0 where
+  pub moved : ℕ
+  pub close : ℕ
+  pub merged : ℕ
+  pub first : ℕ
+  pub told : r ≡ apart.Told moved close merged first
+  pub unmoved : Unmoved ds bytes moved
 
 -- positions that never fall: of stops the check asks it, of segments it is asked here; those of a file that is read never do (proofs/Falling)
 abbrev pub NeverFalling : Ramp → Type 0

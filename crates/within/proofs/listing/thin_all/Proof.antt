@@ -11,7 +11,7 @@ use Rattle.gradient.specs.Ramp.{colourOf}
 use Rattle.sampling.specs.Midpoints.{Gradient}
 use Rattle.sampling.specs.inner.Steps.{PointAt}
 use Rattle.sampling.specs.declared.Point.{Point}
-use Rattle.sampling.proofs.Tabled.{prepared-point}
+use Rattle.sampling.proofs.Nearness.{near-point}
 use Rattle.within.specs.inner.Weighing.{nearBy, wholeEnding, EndsWith}
 use Rattle.within.proofs.Emitting.{last-is, first-refused, then-rest}
 use Rattle.within.proofs.listing.thin_all.Statement.{statement}
@@ -23,19 +23,19 @@ module _ (c : tie.After-emit) where
   at-first = c .before .before .before
 
   abbrev at-end : tie.After-evaluate
-  at-end = at-first .before .before
+  at-end = at-first .before
 
   abbrev start : tie.Start
-  start = at-end .before .before .before .before .before .before .before
+  start = at-end .before .before .before .before .before .before
 
   abbrev g : Gradient
   g = let a = start .args in colourOf (rampIn (a .kind) (a .positions) (a .channels) (a .codes))
 
   first : PointAt g (start .args .min) (at-first .evaluate2 .result)
-  first = prepared-point _ _ _ (record { fine = start .pre .0; segments = record { each = λ k l. absurd (omega (arith, l)) } }) _ _ _ (at-first .evaluate2 .ensures)
+  first = near-point _ (start .pre .0) _ _ _ (at-first .evaluate2 .ensures)
 
   end : PointAt g (start .args .max) (at-end .evaluate .result)
-  end = prepared-point _ _ _ (record { fine = start .pre .0; segments = record { each = λ k l. absurd (omega (arith, l)) } }) _ _ _ (at-end .evaluate .ensures)
+  end = near-point _ (start .pre .0) _ _ _ (at-end .evaluate .ensures)
 
 returns : tie.Need-returns
 returns c =
@@ -66,11 +66,7 @@ pub thin-all-spec : {M : Type 1} → statement M
 thin-all-spec =
     tie.close
     (tie.spec
-    (λ c. search needs)
-    (λ c. search needs)
     (λ c κs. search needs)
-    (λ c. search needs)
-    (λ c. search needs)
     (λ c κs. search needs)
     (λ c κs. search needs)
     (λ c. search needs)
