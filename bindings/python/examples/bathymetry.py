@@ -14,7 +14,7 @@ from guineaplume import Ramp
 # the tints of an atlas, in metres below the sea
 SEA = Ramp.smoothstep(
     [-7000, -5500, -4000, -3000, -2000, -1000, -500, -200, -100, -50, 0],
-    ['#050b24', '#081434', '#0b2049', '#0f2f60', '#144278', '#1e5c92', '#3579aa', '#5c9cc4', '#8bbfda', '#b5dcea', '#dff3f7'],
+    ['#06102e', '#0b1d4a', '#123066', '#18427d', '#215691', '#3070a6', '#4a8cbb', '#6fabcf', '#97c8df', '#bfe0ec', '#e3f4f8'],
 )
 
 
