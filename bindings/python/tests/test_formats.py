@@ -98,7 +98,9 @@ class Formats(unittest.TestCase):
 
     def test_what_nobody_sees(self):
         edge = List([0, 2.0**-149, 1], ['#000', '#fff', (3e-8, 1e-30, 0)])
-        self.assertEqual(edge.to_text().splitlines()[2:], ['stop\t0' + 4 * '\t1.00000000', 'stop\t1.00000000\t0.00000003\t0\t0\t1.00000000'])
+        white, dark = edge.to_text().splitlines()[2:]
+        self.assertEqual(white, 'stop\t0' + 4 * '\t1.00000000')
+        self.assertEqual(dark, 'stop\t1.00000000\t0.00000003\t0\t0\t1.00000000')
 
     def test_what_cannot_be_written(self):
         with self.assertRaises(Refusal) as caught:
