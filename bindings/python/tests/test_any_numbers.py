@@ -3,6 +3,7 @@
 import math
 import random
 import unittest
+import warnings
 
 from guineaplume import Edit, List, Ramp, Refusal, Unread
 
@@ -14,6 +15,11 @@ FORMATS = [name for name in vars(List) if name.startswith('to_')]
 
 class AnyNumbers(unittest.TestCase):
     def setUp(self):
+        kept = warnings.catch_warnings()
+        kept.__enter__()
+        self.addCleanup(kept.__exit__, None, None, None)
+        # channels above 1 are warned of
+        warnings.simplefilter('ignore')
         self.chance = random.Random(20)
         self.refused = set()
 

@@ -84,7 +84,8 @@ class Formats(unittest.TestCase):
         self.assertEqual([array('f', stop['color']) for stop in told['stops']], [array('f', c) for c in SHELF.colours])
 
     def test_what_is_written_is_read_back(self):
-        self.assertEqual(Ramp.from_text(SHELF.to_text().encode()), SHELF.to_ramp())
+        with self.assertWarnsRegex(UserWarning, 'a channel is 1.5'):
+            self.assertEqual(Ramp.from_text(SHELF.to_text().encode()), SHELF.to_ramp())
         sea = Ramp.linear([-6000, -200, 0], ['#081030', '#4a90c0', '#d8f0f8'])
         self.assertEqual(Ramp.from_cpt(sea.within().to_cpt().encode()), sea)
         read = Ramp.from_ggr(sea.within().to_ggr('deep').encode())

@@ -16,11 +16,11 @@ EXAMPLE = Path(__file__).resolve().parent.parent / 'examples' / 'bathymetry.py'
 @unittest.skipUnless(IS_AT_HAND, 'matplotlib is not at hand')
 class Pictures(unittest.TestCase):
     def test_a_colour_map_shows_the_ramp(self):
-        ramp = Ramp.linear([-200, 0], [(0, 0.5, 2), '#fff'])
+        ramp = Ramp.linear([-200, 0], [(0, 0.5, -1), '#fff'])
         shades = ramp.to_matplotlib('shelf', 5)
         self.assertEqual((shades.name, shades.N), ('shelf', 5))
-        self.assertEqual(shades(0.0), (0.0, 0.5, 1.0, 1.0))
-        self.assertEqual(shades(2), (0.5, 0.75, 1.0, 1.0))
+        self.assertEqual(shades(0.0), (0.0, 0.5, 0.0, 1.0))
+        self.assertEqual(shades(2), (0.5, 0.75, 0.0, 1.0))
         self.assertEqual(ramp.within().to_matplotlib(levels=5)(2), shades(2))
         with self.assertRaises(ValueError):
             ramp.to_matplotlib(levels=1)
