@@ -65,7 +65,8 @@ fn point_in(
 ) -> Point
     requires { ⌜ checkOf (rampIn kind positions channels codes) ≡ Fine ⌝ }
     requires { ⌜ Carrying (rampIn kind positions channels codes) k (now drawn) ⌝ }
-    ensures { λ r. ⌜ PointAt (colourOf (lentRamp kind positions channels codes)) t r × Carrying (lentRamp kind positions channels codes) (r .pair) (new drawn) ⌝ }
+    ensures { λ r. ⌜ PointAt (colourOf (lentRamp kind positions channels codes)) t r ⌝ }
+    ensures { λ r. ⌜ Carrying (lentRamp kind positions channels codes) (r .pair) (new drawn) ⌝ }
 {
     if gradient::is_gimp(kind) {
         return evaluate_along(kind, positions, channels, codes, t, k, drawn);

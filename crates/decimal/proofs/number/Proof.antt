@@ -13,11 +13,8 @@ returns c = sym (number-none _ _ _ _ (c .if1 .taken))
 returns-2 : tie.Need-returns-2
 returns-2 c = sym (number-long _ _ _ _ (c .if2 .taken))
 
-nearest-requires : tie.Need-nearest-requires
-nearest-requires c κs = search needs
-
 returns-3 : tie.Need-returns-3
 returns-3 c = ap Number (c .nearest .ensures) ∙ sym (number-is _ _ _ _ (omega arith) (omega arith))
 
 pub number-spec : {M : Type 1} → statement M
-number-spec = tie.close (tie.spec returns returns-2 nearest-requires returns-3)
+number-spec = tie.close (tie.spec returns returns-2 (λ c κs. search needs) returns-3)

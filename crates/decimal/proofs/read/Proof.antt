@@ -11,45 +11,15 @@ use Rattle.decimal.proofs.read.Tie as tie
 returns : tie.Need-returns
 returns c = sym (read-empty _ (c .if1 .taken))
 
-shared-slice-read-b : tie.Need-shared-slice-read-b
-shared-slice-read-b c = search needs
-
-sub-unsigned : tie.Need-sub-unsigned
-sub-unsigned c = search needs
-
-part-unsigned-start : tie.Need-part-unsigned-start
-part-unsigned-start c = search needs
-
-part-unsigned-end : tie.Need-part-unsigned-end
-part-unsigned-end c = search needs
-
-unsigned-requires : tie.Need-unsigned-requires
-unsigned-requires c κs = search needs
-
 returns-2 : tie.Need-returns-2
 returns-2 c =
     let s = c .before .before .before .before .before .before .args .s .now in
     c .unsigned .ensures ∙ ap (unsignedOf true) (part-to-end s 1) ∙ sym (read-minus s (omega arith) (c .before .before .if2 .taken))
 
-sub-unsigned-2 : tie.Need-sub-unsigned-2
-sub-unsigned-2 c = search needs
-
-part-unsigned-start-2 : tie.Need-part-unsigned-start-2
-part-unsigned-start-2 c = search needs
-
-part-unsigned-end-2 : tie.Need-part-unsigned-end-2
-part-unsigned-end-2 c = search needs
-
-unsigned-requires-2 : tie.Need-unsigned-requires-2
-unsigned-requires-2 c κs = search needs
-
 returns-3 : tie.Need-returns-3
 returns-3 c =
     let s = c .before .before .before .before .before .before .before .args .s .now in
     c .unsigned2 .ensures ∙ ap (unsignedOf false) (part-to-end s 1) ∙ sym (read-plus s (omega arith) (c .before .before .if3 .taken))
-
-unsigned-requires-3 : tie.Need-unsigned-requires-3
-unsigned-requires-3 c κs = search needs
 
 returns-4 : tie.Need-returns-4
 returns-4 c = c .unsigned3 .ensures ∙ sym (read-plain _ (omega arith) (c .before .before .if2 .left) (c .before .if3 .left))
@@ -59,16 +29,16 @@ read-spec =
     tie.close
     (tie.spec
     returns
-    shared-slice-read-b
-    sub-unsigned
-    part-unsigned-start
-    part-unsigned-end
-    unsigned-requires
+    (λ c. search needs)
+    (λ c. search needs)
+    (λ c. search needs)
+    (λ c. search needs)
+    (λ c κs. search needs)
     returns-2
-    sub-unsigned-2
-    part-unsigned-start-2
-    part-unsigned-end-2
-    unsigned-requires-2
+    (λ c. search needs)
+    (λ c. search needs)
+    (λ c. search needs)
+    (λ c κs. search needs)
     returns-3
-    unsigned-requires-3
+    (λ c κs. search needs)
     returns-4)

@@ -4,15 +4,6 @@ use borrow.Author.Needs.{needs}
 use Rattle.decimal.proofs.rounded.Statement.{statement}
 use Rattle.decimal.proofs.rounded.Tie as tie
 
-mul-if1 : tie.Need-mul-if1
-mul-if1 c = search needs
-
-add-if1 : tie.Need-add-if1
-add-if1 c = search needs
-
-add-result : tie.Need-add-result
-add-result c = search needs
-
 returns : tie.Need-returns
 returns c = stays _ _ _ (c .if1 .taken)
 
@@ -20,4 +11,4 @@ returns-2 : tie.Need-returns-2
 returns-2 c = moves _ _ _ (c .if1 .left)
 
 pub rounded-spec : {M : Type 1} → statement M
-rounded-spec = tie.close (tie.spec mul-if1 add-if1 add-result returns returns-2)
+rounded-spec = tie.close (tie.spec (λ c. search needs) (λ c. search needs) (λ c. search needs) returns returns-2)

@@ -11,17 +11,8 @@ use borrow.Author.Needs.{needs}
 use Rattle.decimal.proofs.unsigned.Statement.{statement}
 use Rattle.decimal.proofs.unsigned.Tie as tie
 
-add-if1 : tie.Need-add-if1
-add-if1 c = search needs
-
 returns : tie.Need-returns
 returns c = sym (too-long _ _ (c .if1 .taken))
-
-digits-requires : tie.Need-digits-requires
-digits-requires c κs = search needs
-
-number-requires : tie.Need-number-requires
-number-requires c κs = search needs
 
 returns-2 : tie.Need-returns-2
 returns-2 c = c .number .ensures ∙ sym (read-whole _ _ _ _ _ (c .before .before .digits .ensures) (c .before .if2 .taken))
@@ -30,16 +21,10 @@ returns-2 c = c .number .ensures ∙ sym (read-whole _ _ _ _ _ (c .before .befor
 there : (c : tie.After-shared-slice-known2) → c .before .before .digits .result .end < length (c .before .before .before .before .before .args .s .now)
 there c = let e = c .before .before .digits .ensures in omega arith
 
-shared-slice-read-if3 : tie.Need-shared-slice-read-if3
-shared-slice-read-if3 c = search needs
-
 returns-3 : tie.Need-returns-3
 returns-3 c =
     let w = c .before .before .before .digits in
     sym (read-other _ _ _ _ (w .result .end) (w .ensures) (there (c .before)) (c .if3 .taken))
-
-add-digits : tie.Need-add-digits
-add-digits c = search needs
 
 digits-requires-2 : tie.Need-digits-requires-2
 digits-requires-2 c κs =
@@ -52,15 +37,6 @@ returns-4 c =
     let w = c .before .before .before .before .before .before .digits in
     let f = c .before .before .digits2 in
     sym (read-stopped _ _ _ _ _ (w .ensures) _ _ _ (f .ensures) (there (c .before .before .before .before)) (c .before .before .before .if3 .left) (c .if4 .taken))
-
-sub-number : tie.Need-sub-number
-sub-number c = search needs
-
-sub-number-2 : tie.Need-sub-number-2
-sub-number-2 c = search needs
-
-sub-number-3 : tie.Need-sub-number-3
-sub-number-3 c = search needs
 
 number-requires-2 : tie.Need-number-requires-2
 number-requires-2 c κs =
@@ -76,18 +52,18 @@ pub unsigned-spec : {M : Type 1} → statement M
 unsigned-spec =
     tie.close
     (tie.spec
-    add-if1
+    (λ c. search needs)
     returns
-    digits-requires
-    number-requires
+    (λ c κs. search needs)
+    (λ c κs. search needs)
     returns-2
-    shared-slice-read-if3
+    (λ c. search needs)
     returns-3
-    add-digits
+    (λ c. search needs)
     digits-requires-2
     returns-4
-    sub-number
-    sub-number-2
-    sub-number-3
+    (λ c. search needs)
+    (λ c. search needs)
+    (λ c. search needs)
     number-requires-2
     returns-5)

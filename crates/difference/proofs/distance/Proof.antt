@@ -12,21 +12,9 @@ use Rattle.difference.proofs.distance.Tie as tie
 is : (q z : Float) (x y u v : Rgba) → u ≡ clampedOf x → v ≡ clampedOf y → q ≡ squaresOf u v → z ≡ rootOf q → z ⊘ f2 ≡ distanceOf x y
 is q z x y u v a b e f = rw (f, e, a, b)
 
-clamped-requires : tie.Need-clamped-requires
-clamped-requires c κs = search needs
-
-clamped-requires-2 : tie.Need-clamped-requires-2
-clamped-requires-2 c κs = search needs
-
-squares-requires : tie.Need-squares-requires
-squares-requires c κs = search needs
-
-root-requires : tie.Need-root-requires
-root-requires c κs = search needs
-
 returns : tie.Need-returns
 returns c = is _ _ _ _ _ _ (c .before .before .before .clamped .ensures) (c .before .before .clamped2 .ensures) (c .before .squares .ensures) (c .root .ensures)
 
 pub distance-spec : {M : Type 1} → statement M
 distance-spec =
-    tie.close (tie.spec clamped-requires clamped-requires-2 squares-requires root-requires returns)
+    tie.close (tie.spec (λ c κs. search needs) (λ c κs. search needs) (λ c κs. search needs) (λ c κs. search needs) returns)

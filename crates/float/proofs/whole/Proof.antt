@@ -36,9 +36,6 @@ float-to-bits-b c = is-number _ (c .if1 .left)
 whole-part-requires : tie.Need-whole-part-requires
 whole-part-requires c κs = magnitude-below _ (held (c .before)) (is-number _ (c .if1 .left))
 
-cast-result : tie.Need-cast-result
-cast-result c = search needs
-
 returns-2 : tie.Need-returns-2
 returns-2 c =
     let a = c .before .before in
@@ -48,9 +45,6 @@ returns-3 : tie.Need-returns-3
 returns-3 c =
     let a = c .before .before in
     whole-last _ (a .before .if1 .left) (c .before .if2 .taken) (large a (c .if3 .left))
-
-cast-result-2 : tie.Need-cast-result-2
-cast-result-2 c = search needs
 
 sub-result : tie.Need-sub-result
 sub-result c = minus-fits _ (c .if4 .taken)
@@ -73,10 +67,10 @@ whole-spec =
     returns
     float-to-bits-b
     whole-part-requires
-    cast-result
+    (λ c. search needs)
     returns-2
     returns-3
-    cast-result-2
+    (λ c. search needs)
     sub-result
     returns-4
     returns-5)

@@ -10,26 +10,8 @@ returns : tie.Need-returns
 returns c = let a = c .before .before .args in
     third-end (a .s .now) (a .at) (a .room) (c .if1 .taken)
 
-line-at-requires : tie.Need-line-at-requires
-line-at-requires c κs = search needs
-
-sub-number-of : tie.Need-sub-number-of
-sub-number-of c = search needs
-
-part-number-of-start : tie.Need-part-number-of-start
-part-number-of-start c = search needs
-
 part-number-of-end : tie.Need-part-number-of-end
 part-number-of-end c = omega (arith, c .line-at .ensures .within (search needs))
-
-number-of-requires : tie.Need-number-of-requires
-number-of-requires c κs = search needs
-
-enum-known-n : tie.Need-enum-known-n
-enum-known-n c = search needs
-
-enum-told : tie.Need-enum-told
-enum-told c = search needs
 
 returns-2 : tie.Need-returns-2
 returns-2 c = let l = c .before .before .before .before in let k = c .before .before in let a = l .before .before .before .args in
@@ -56,13 +38,13 @@ count-line-spec =
     tie.close
     (tie.spec
     returns
-    line-at-requires
-    sub-number-of
-    part-number-of-start
+    (λ c κs. search needs)
+    (λ c. search needs)
+    (λ c. search needs)
     part-number-of-end
-    number-of-requires
-    enum-known-n
-    enum-told
+    (λ c κs. search needs)
+    (λ c. search needs)
+    (λ c. search needs)
     returns-2
     returns-3
     returns-4

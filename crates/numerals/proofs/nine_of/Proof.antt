@@ -14,9 +14,6 @@ Inv-loop m shift a₀ den₀ k₀ ten₀ a den k ten = Scaling m shift a den k t
 abbrev μ-loop : tie.MeasureT-loop
 μ-loop m shift a₀ den₀ k₀ ten₀ a den k ten = 15 - k
 
-shl-den : tie.Need-shl-den Inv-loop μ-loop
-shl-den c = omega arith
-
 loop-holds : tie.Need-loop-holds Inv-loop μ-loop
 loop-holds c = subst (λ (x : ℕ). Scaling (c .args .m) (c .args .shift) (c .args .m) x 0 1) (one-up (c .args .shift) (omega arith)) (scale-start (c .args .m) (c .args .shift))
 
@@ -81,7 +78,7 @@ nine-of-spec =
     (tie.spec
     Inv-loop
     μ-loop
-    shl-den
+    (λ c. omega arith)
     loop-holds
     div-loop
     mul-a

@@ -7,21 +7,6 @@ use borrow.Author.Needs.{needs}
 use Rattle.paint.proofs.paint.Statement.{statement}
 use Rattle.paint.proofs.paint.Tie as tie
 
-check-requires : tie.Need-check-requires
-check-requires c κs = search needs
-
-enum-known-n : tie.Need-enum-known-n
-enum-known-n c = search needs
-
-enum-told : tie.Need-enum-told
-enum-told c = search needs
-
-zero-from-requires : tie.Need-zero-from-requires
-zero-from-requires c κs = search needs
-
-same-length : tie.Need-same-length
-same-length c = search needs
-
 returns : tie.Need-returns
 returns c =
     let cleared = c .before .before in
@@ -40,9 +25,6 @@ returns-2 c =
     let s = asked .before .before .before .before .before .before in
     paint-refused (rampIn (s .args .kind) (s .args .positions) (s .args .channels) (s .args .codes)) (sym (asked .check .ensures .answer) ∙ c .before .n .given .1) (now (s .args .ts)) (now (s .args .out))
 
-same-length-2 : tie.Need-same-length-2
-same-length-2 c = search needs
-
 returns-3 : tie.Need-returns-3
 returns-3 c =
     let painted = c .before .before in
@@ -56,13 +38,13 @@ pub paint-spec : {M : Type 1} → statement M
 paint-spec =
     tie.close
     (tie.spec
-    check-requires
-    enum-known-n
-    enum-told
-    zero-from-requires
-    same-length
+    (λ c κs. search needs)
+    (λ c. search needs)
+    (λ c. search needs)
+    (λ c κs. search needs)
+    (λ c. search needs)
     returns
     paint-all-requires
     returns-2
-    same-length-2
+    (λ c. search needs)
     returns-3)

@@ -11,11 +11,8 @@ use Rattle.paint.proofs.renewed.Tie as tie
 returns : tie.Need-returns
 returns c = let s = c .before .before in s .pre .0 ∙ ap (λ (i : ℕ). segmentFor (now (s .args .channels)) (s .args .n) i) (sym (c .if1 .taken))
 
-segment-requires : tie.Need-segment-requires
-segment-requires c κs = search needs
-
 returns-2 : tie.Need-returns-2
 returns-2 c = c .segment .ensures ∙ segment-same _ _ _ _ _ (c .before .before .before .pre .1)
 
 pub renewed-spec : {M : Type 1} → statement M
-renewed-spec = tie.close (tie.spec returns segment-requires returns-2)
+renewed-spec = tie.close (tie.spec returns (λ c κs. search needs) returns-2)

@@ -7,9 +7,6 @@ use Rattle.segment.proofs.Codes.{code-key, code-none}
 use Rattle.segment.proofs.code.Statement.{statement}
 use Rattle.segment.proofs.code.Tie as tie
 
-whole-requires : tie.Need-whole-requires
-whole-requires c κs = search needs
-
 returns : tie.Need-returns
 unfolding cut
 returns c = code-key _ _ 0 (c .before .whole .ok) (c .before .whole .ensures) (c .match .keys1)
@@ -41,4 +38,4 @@ returns-7 c = let h = c .match .rest in
 pub code-spec : {M : Type 1} → statement M
 code-spec =
     tie.close
-    (tie.spec whole-requires returns returns-2 returns-3 returns-4 returns-5 returns-6 returns-7)
+    (tie.spec (λ c κs. search needs) returns returns-2 returns-3 returns-4 returns-5 returns-6 returns-7)

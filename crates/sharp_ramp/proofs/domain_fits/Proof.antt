@@ -14,18 +14,12 @@ returns-2 : tie.Need-returns-2
 unfolding domainFits
 returns-2 c = let a = c .before .before .args in simp (le-leb 1 (a .n) (c .before .if1 .left), lt-leb (a .n) 256 (c .if2 .taken))
 
-is-finite-requires : tie.Need-is-finite-requires
-is-finite-requires c κs = search needs
-
 returns-3 : tie.Need-returns-3
 unfolding domainFits
 returns-3 c =
     let b = c .before .before in
     let a = b .before .before .args in
     simp (le-leb 1 (a .n) (b .before .if1 .left), le-leb (a .n) 256 (b .if2 .left), failed (c .if3 .taken) (c .before .is-finite .ensures))
-
-is-finite-requires-2 : tie.Need-is-finite-requires-2
-is-finite-requires-2 c κs = search needs
 
 returns-4 : tie.Need-returns-4
 unfolding domainFits
@@ -59,9 +53,9 @@ domain-fits-spec =
     (tie.spec
     returns
     returns-2
-    is-finite-requires
+    (λ c κs. search needs)
     returns-3
-    is-finite-requires-2
+    (λ c κs. search needs)
     returns-4
     returns-5
     returns-6)

@@ -4,19 +4,10 @@ use borrow.Author.Needs.{needs}
 use Rattle.sine.proofs.wave.Statement.{statement}
 use Rattle.sine.proofs.wave.Tie as tie
 
-clamp-requires : tie.Need-clamp-requires
-clamp-requires c κs = search needs
-
-index-requires : tie.Need-index-requires
-index-requires c κs = search needs
-
 returns : tie.Need-returns
 returns c =
     let i = c .before in
     at-top (i .before .before .args .f) (i .before .clamp .ensures) (i .index .ensures) (c .if1 .taken)
-
-from-whole-requires : tie.Need-from-whole-requires
-from-whole-requires c κs = search needs
 
 line-requires : tie.Need-line-requires
 line-requires c κs =
@@ -32,4 +23,4 @@ returns-2 c =
 pub wave-spec : {M : Type 1} → statement M
 wave-spec =
     tie.close
-    (tie.spec clamp-requires index-requires returns from-whole-requires line-requires returns-2)
+    (tie.spec (λ c κs. search needs) (λ c κs. search needs) returns (λ c κs. search needs) line-requires returns-2)

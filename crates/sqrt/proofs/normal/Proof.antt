@@ -14,30 +14,6 @@ n-is c =
     let b = c .before .args .b in
     ⊎-elim (λ w. scaled-even b (c .if1 .s) (w .0 .taken) (w .1)) (λ w. scaled-odd b (c .if1 .s) (w .0 .left) (w .1)) (c .if1 .came)
 
-mul-s : tie.Need-mul-s
-mul-s c = search needs
-
-rem-s : tie.Need-rem-s
-rem-s c = search needs
-
-mul-s-2 : tie.Need-mul-s-2
-mul-s-2 c = search needs
-
-mul-s-3 : tie.Need-mul-s-3
-mul-s-3 c = search needs
-
-add-s : tie.Need-add-s
-add-s c = search needs
-
-cast-t8 : tie.Need-cast-t8
-cast-t8 c = search needs
-
-mul-t9 : tie.Need-mul-t9
-mul-t9 c = search needs
-
-add-t10 : tie.Need-add-t10
-add-t10 c = search needs
-
 returns : tie.Need-returns
 returns c =
     let s = c .before .before in
@@ -50,4 +26,4 @@ returns c =
     }
 
 pub normal-spec : {M : Type 1} → statement M
-normal-spec = tie.close (tie.spec mul-s rem-s mul-s-2 mul-s-3 add-s cast-t8 mul-t9 add-t10 returns)
+normal-spec = tie.close (tie.spec (λ c. search needs) (λ c. search needs) (λ c. search needs) (λ c. search needs) (λ c. search needs) (λ c. search needs) (λ c. search needs) (λ c. search needs) returns)

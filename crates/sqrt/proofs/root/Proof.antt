@@ -43,9 +43,6 @@ returns c = let e = differs-from-itself (c .before .args .x) (subst T (sym (c .i
 float-to-bits-b : tie.Need-float-to-bits-b
 float-to-bits-b c = is-number (c .before .args .x) (c .if1 .left)
 
-read-requires : tie.Need-read-requires
-read-requires c κs = search needs
-
 root-of-requires : tie.Need-root-of-requires
 root-of-requires c κs = c .read .ensures .fit
 
@@ -66,4 +63,4 @@ returns-4 : tie.Need-returns-4
 returns-4 c = let s = c .before .before .before in by-pattern s (div binary32 (ofBits binary32 0) (ofBits binary32 0)) (at-below (toBits binary32 (s .args .x)) (c .if4 .left) (toBits-lt binary32 (s .args .x) (held s)) ∙ sym zero-by-zero)
 
 pub root-spec : {M : Type 1} → statement M
-root-spec = tie.close (tie.spec returns float-to-bits-b read-requires root-of-requires returns-2 returns-3 returns-4)
+root-spec = tie.close (tie.spec returns float-to-bits-b (λ c κs. search needs) root-of-requires returns-2 returns-3 returns-4)

@@ -25,23 +25,8 @@ sub-c c = let h = shift c .few in omega arith
 shl-s : tie.Need-shl-s
 shl-s c = let h = shift c .few in omega arith
 
-cast-t6 : tie.Need-cast-t6
-cast-t6 c = search needs
-
-add-t7 : tie.Need-add-t7
-add-t7 c = search needs
-
-cast-t8 : tie.Need-cast-t8
-cast-t8 c = search needs
-
-shl-t9 : tie.Need-shl-t9
-shl-t9 c = search needs
-
 sub-t11 : tie.Need-sub-t11
 sub-t11 c = let h = shift c .few in omega arith
-
-mul-t13 : tie.Need-mul-t13
-mul-t13 c = search needs
 
 add-t14 : tie.Need-add-t14
 add-t14 c = let h = shift c .high in let e = moved-exact (c .args .b) (c .pre .0) (few c) in omega arith
@@ -57,4 +42,4 @@ returns c =
     }
 
 pub subnormal-spec : {M : Type 1} → statement M
-subnormal-spec = tie.close (tie.spec sub-z sub-c shl-s cast-t6 add-t7 cast-t8 shl-t9 sub-t11 mul-t13 add-t14 returns)
+subnormal-spec = tie.close (tie.spec sub-z sub-c shl-s (λ c. search needs) (λ c. search needs) (λ c. search needs) (λ c. search needs) sub-t11 (λ c. search needs) add-t14 returns)

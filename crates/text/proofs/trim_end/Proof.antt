@@ -21,25 +21,10 @@ abbrev μ-loop : tie.MeasureT-loop
 loop-holds : tie.Need-loop-holds Inv-loop μ-loop
 loop-holds c = (omega arith, rw (take-length (c .before .args .s .now)))
 
-sub-b : tie.Need-sub-b Inv-loop μ-loop
-sub-b c = search needs
-
-shared-slice-read-b : tie.Need-shared-slice-read-b Inv-loop μ-loop
-shared-slice-read-b c = search needs
-
-is-white-requires : tie.Need-is-white-requires Inv-loop μ-loop
-is-white-requires c κs = search needs
-
 returns : tie.Need-returns Inv-loop μ-loop
 returns c = let l = c .before .before .before .before in let a = l .before .before .args in
     let t : white (getD (a .s .now) (l .loop .e - 1) 0) ≡ false = failed (c .if1 .taken) (c .before .is-white .ensures) in
     (search needs, sym (trim-stop (a .s .now) (l .loop .e) (search needs) (search needs) t) ∙ l .loop .inv .1)
-
-sub-e : tie.Need-sub-e Inv-loop μ-loop
-sub-e c = search needs
-
-loop-less : tie.Need-loop-less Inv-loop μ-loop
-loop-less c = search needs
 
 loop-again : tie.Need-loop-again Inv-loop μ-loop
 loop-again c = let l = c .before .before .before .before in let a = l .before .before .args in
@@ -57,11 +42,11 @@ trim-end-spec =
     Inv-loop
     μ-loop
     loop-holds
-    sub-b
-    shared-slice-read-b
-    is-white-requires
+    (λ c. search needs)
+    (λ c. search needs)
+    (λ c κs. search needs)
     returns
-    sub-e
-    loop-less
+    (λ c. search needs)
+    (λ c. search needs)
     loop-again
     returns-2)

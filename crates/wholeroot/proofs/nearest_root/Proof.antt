@@ -12,31 +12,16 @@ use Rattle.wholeroot.proofs.nearest_root.Tie as tie
 near : (n q r : ℕ) → n < 2 ^ 64 → q < 2 ^ 32 → r < 2 ^ 64 → (r + n) % 2 ^ 64 ≡ q * q + q → r < 2 * q → q ≡ nearestWhole n
 near n q r h k l w t = let s = square-fits q k in let o = own-square q in near-whole n q (omega arith, omega arith)
 
-guess-requires : tie.Need-guess-requires
-guess-requires c κs = search needs
-
 mul-wrapping-sub-u64 : tie.Need-mul-wrapping-sub-u64
 mul-wrapping-sub-u64 c = let h = square-fits (c .guess .result) (c .guess .ensures) in omega arith
 
 add-wrapping-sub-u64 : tie.Need-add-wrapping-sub-u64
 add-wrapping-sub-u64 c = let h = square-fits (c .guess .result) (c .guess .ensures) in omega arith
 
-wrapping-sub-u64-requires : tie.Need-wrapping-sub-u64-requires
-wrapping-sub-u64-requires c κs = search needs
-
-mul-if1 : tie.Need-mul-if1
-mul-if1 c = search needs
-
 returns : tie.Need-returns
 returns c =
     let guessed = c .before .before .guess in
     near _ (guessed .result) (c .before .wrapping-sub-u64 .result) (omega arith) (guessed .ensures) (omega arith) (c .before .wrapping-sub-u64 .ensures) (c .if1 .taken)
 
-walk-to-root-requires : tie.Need-walk-to-root-requires
-walk-to-root-requires c κs = search needs
-
-returns-2 : tie.Need-returns-2
-returns-2 c = search needs
-
 pub nearest-root-spec : {M : Type 1} → statement M
-nearest-root-spec = tie.close (tie.spec guess-requires mul-wrapping-sub-u64 add-wrapping-sub-u64 wrapping-sub-u64-requires mul-if1 returns walk-to-root-requires returns-2)
+nearest-root-spec = tie.close (tie.spec (λ c κs. search needs) mul-wrapping-sub-u64 add-wrapping-sub-u64 (λ c κs. search needs) (λ c. search needs) returns (λ c κs. search needs) (λ c. search needs))

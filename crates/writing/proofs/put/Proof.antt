@@ -5,21 +5,6 @@ use Rattle.writing.proofs.Texts.{put-out}
 use Rattle.writing.proofs.put.Statement.{statement}
 use Rattle.writing.proofs.put.Tie as tie
 
-slice-write-out : tie.Need-slice-write-out
-slice-write-out c = search needs
-
-add-result : tie.Need-add-result
-add-result c = search needs
-
-same-length : tie.Need-same-length
-same-length c = search needs
-
-returns : tie.Need-returns
-returns c = search needs
-
-add-result-2 : tie.Need-add-result-2
-add-result-2 c = search needs
-
 returns-2 : tie.Need-returns-2
 returns-2 c = put-out _ _ _ _ (c .before .if1 .left) (omega arith)
 
@@ -29,4 +14,4 @@ returns-3 c = put-out _ _ _ _ (c .before .if1 .left) (omega arith)
 pub put-spec : {M : Type 1} → statement M
 put-spec =
     tie.close
-    (tie.spec slice-write-out add-result same-length returns add-result-2 returns-2 returns-3)
+    (tie.spec (λ c. search needs) (λ c. search needs) (λ c. search needs) (λ c. search needs) (λ c. search needs) returns-2 returns-3)

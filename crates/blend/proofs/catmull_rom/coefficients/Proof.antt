@@ -4,15 +4,6 @@ use borrow.Author.Needs.{needs}
 use Rattle.blend.proofs.catmull_rom.coefficients.Statement.{statement}
 use Rattle.blend.proofs.catmull_rom.coefficients.Tie as tie
 
-tangent-of-requires : tie.Need-tangent-of-requires
-tangent-of-requires c κs = search needs
-
-tangent-of-requires-2 : tie.Need-tangent-of-requires-2
-tangent-of-requires-2 c κs = search needs
-
-cubic-of-requires : tie.Need-cubic-of-requires
-cubic-of-requires c κs = search needs
-
 returns : tie.Need-returns
 returns c =
     let a = c .before .before .before .args in
@@ -20,4 +11,4 @@ returns c =
 
 pub coefficients-spec : {M : Type 1} → statement M
 coefficients-spec =
-    tie.close (tie.spec tangent-of-requires tangent-of-requires-2 cubic-of-requires returns)
+    tie.close (tie.spec (λ c κs. search needs) (λ c κs. search needs) (λ c κs. search needs) returns)

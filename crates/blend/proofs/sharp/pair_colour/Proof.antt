@@ -10,12 +10,9 @@ returns : tie.Need-returns
 unfolding sharpPair
 returns c = simp (eq-eqb _ 0 (c .before .if1 .taken))
 
-pair-colour-requires : tie.Need-pair-colour-requires
-pair-colour-requires c κs = search needs
-
 returns-2 : tie.Need-returns-2
 unfolding sharpPair
 returns-2 c = c .pair-colour .ensures ∙ simp (ne-eqb _ 0 (c .before .if1 .left))
 
 pub pair-colour-spec : {M : Type 1} → statement M
-pair-colour-spec = tie.close (tie.spec returns pair-colour-requires returns-2)
+pair-colour-spec = tie.close (tie.spec returns (λ c κs. search needs) returns-2)

@@ -4,24 +4,6 @@ use borrow.Author.Needs.{needs}
 use Rattle.colorgrad_c.proofs.gimp.colorgrad_read_told.Statement.{statement}
 use Rattle.colorgrad_c.proofs.gimp.colorgrad_read_told.Tie as tie
 
-read-requires : tie.Need-read-requires
-read-requires c κs = search needs
-
-tell-read-requires : tie.Need-tell-read-requires
-tell-read-requires c κs = search needs
-
-same-length : tie.Need-same-length
-same-length c = search needs
-
-same-length-2 : tie.Need-same-length-2
-same-length-2 c = search needs
-
-same-length-3 : tie.Need-same-length-3
-same-length-3 c = search needs
-
-same-length-4 : tie.Need-same-length-4
-same-length-4 c = search needs
-
 returns : tie.Need-returns
 returns c =
     let told = c .before .before in let made = told .before .before .before .before .before .before .before .before in
@@ -31,10 +13,10 @@ pub colorgrad-read-told-spec : {M : Type 1} → statement M
 colorgrad-read-told-spec =
     tie.close
     (tie.spec
-    read-requires
-    tell-read-requires
-    same-length
-    same-length-2
-    same-length-3
-    same-length-4
+    (λ c κs. search needs)
+    (λ c κs. search needs)
+    (λ c. search needs)
+    (λ c. search needs)
+    (λ c. search needs)
+    (λ c. search needs)
     returns)

@@ -7,17 +7,8 @@ use Rattle.entries.proofs.reading.ending_at.Tie as tie
 returns : tie.Need-returns
 returns c = ending-none (c .before .before .args .s .now) (c .before .before .args .at) (c .before .before .args .line) (c .if1 .taken)
 
-step-at-requires : tie.Need-step-at-requires
-step-at-requires c κs = search needs
-
-enum-known-entry : tie.Need-enum-known-entry
-enum-known-entry c = search needs
-
 returns-2 : tie.Need-returns-2
 returns-2 c = ending-other (c .before .before .before .before .args .s .now) (c .before .before .before .before .args .at) (c .before .before .before .before .args .line) (search needs) (c .before .step-at .ensures) (c .match .keys2)
-
-add-t10 : tie.Need-add-t10
-add-t10 c = search needs
 
 returns-3 : tie.Need-returns-3
 returns-3 c = ending-more (c .before .before .before .before .before .before .before .before .args .s .now) (c .before .before .before .before .before .before .before .before .args .at) (c .before .before .before .before .before .before .before .before .args .line) (search needs) (c .before .before .before .before .before .step-at .ensures) (c .before .before .before .entry .given .1) (c .if2 .taken)
@@ -30,9 +21,9 @@ ending-at-spec =
     tie.close
     (tie.spec
     returns
-    step-at-requires
-    enum-known-entry
+    (λ c κs. search needs)
+    (λ c. search needs)
     returns-2
-    add-t10
+    (λ c. search needs)
     returns-3
     returns-4)

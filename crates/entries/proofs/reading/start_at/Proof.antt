@@ -7,12 +7,6 @@ use Rattle.entries.proofs.reading.start_at.Tie as tie
 returns : tie.Need-returns
 returns c = start-none (c .before .before .args .s .now) (c .before .before .args .at) (c .if1 .taken) (c .before .before .pre)
 
-step-at-requires : tie.Need-step-at-requires
-step-at-requires c κs = search needs
-
-enum-known-entry : tie.Need-enum-known-entry
-enum-known-entry c = search needs
-
 returns-2 : tie.Need-returns-2
 returns-2 c = start-other (c .before .before .before .before .args .s .now) (c .before .before .before .before .args .at) (search needs) (c .before .step-at .ensures) (c .match .keys2)
 
@@ -24,7 +18,7 @@ start-at-spec =
     tie.close
     (tie.spec
     returns
-    step-at-requires
-    enum-known-entry
+    (λ c κs. search needs)
+    (λ c. search needs)
     returns-2
     returns-3)

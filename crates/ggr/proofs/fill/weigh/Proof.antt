@@ -5,15 +5,6 @@ use Rattle.ggr.proofs.Weighing.{as-read, gone, as-faulty}
 use Rattle.ggr.proofs.fill.weigh.Statement.{statement}
 use Rattle.ggr.proofs.fill.weigh.Tie as tie
 
-enum-told : tie.Need-enum-told
-enum-told c = search needs
-
-enum-known-o : tie.Need-enum-known-o
-enum-known-o c = search needs
-
-joins-on-requires : tie.Need-joins-on-requires
-joins-on-requires c κs = search needs
-
 returns : tie.Need-returns
 returns c = as-read _ _ _ (c .before .before .before .o .given .1) (sym (c .before .joins-on .ensures) ∙ c .if1 .taken)
 
@@ -25,4 +16,4 @@ returns-3 c = gone _ _ _ (c .before .before .before .o .given .1) (sym (c .befor
 
 pub weigh-spec : {M : Type 1} → statement M
 weigh-spec =
-    tie.close (tie.spec enum-told enum-known-o joins-on-requires returns returns-2 returns-3)
+    tie.close (tie.spec (λ c. search needs) (λ c. search needs) (λ c κs. search needs) returns returns-2 returns-3)

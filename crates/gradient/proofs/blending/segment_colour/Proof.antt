@@ -4,27 +4,12 @@ use borrow.Author.Needs.{needs}
 use Rattle.gradient.proofs.blending.segment_colour.Statement.{statement}
 use Rattle.gradient.proofs.blending.segment_colour.Tie as tie
 
-place-along-requires : tie.Need-place-along-requires
-place-along-requires c κs = search needs
-
-place-along-requires-2 : tie.Need-place-along-requires-2
-place-along-requires-2 c κs = search needs
-
-is-hued-requires : tie.Need-is-hued-requires
-is-hued-requires c κs = search needs
-
-blend-hued-requires : tie.Need-blend-hued-requires
-blend-hued-requires c κs = search needs
-
 returns : tie.Need-returns
 returns c =
     let test = c .before in
     let hue = test .before in
     let place = hue .before in
     segment-coloured _ _ (place .before .place-along .ensures) (place .place-along2 .ensures) (by-hue _ _ _ (hue .is-hued .ensures) (test .if1 .taken) (c .blend-hued .ensures))
-
-blend-wave-requires : tie.Need-blend-wave-requires
-blend-wave-requires c κs = search needs
 
 returns-2 : tie.Need-returns-2
 returns-2 c =
@@ -33,9 +18,6 @@ returns-2 c =
     let hue = left .before in
     let place = hue .before in
     segment-coloured _ _ (place .before .place-along .ensures) (place .place-along2 .ensures) (by-wave _ _ _ (hue .is-hued .ensures) (left .if1 .left) (test .if2 .taken) (c .blend-wave .ensures))
-
-blend-requires : tie.Need-blend-requires
-blend-requires c κs = search needs
 
 returns-3 : tie.Need-returns-3
 returns-3 c =
@@ -49,12 +31,12 @@ pub segment-colour-spec : {M : Type 1} → statement M
 segment-colour-spec =
     tie.close
     (tie.spec
-    place-along-requires
-    place-along-requires-2
-    is-hued-requires
-    blend-hued-requires
+    (λ c κs. search needs)
+    (λ c κs. search needs)
+    (λ c κs. search needs)
+    (λ c κs. search needs)
     returns
-    blend-wave-requires
+    (λ c κs. search needs)
     returns-2
-    blend-requires
+    (λ c κs. search needs)
     returns-3)

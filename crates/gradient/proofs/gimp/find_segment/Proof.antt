@@ -28,26 +28,8 @@ in-range c = omega arith
 loop-holds : tie.Need-loop-holds Inv-loop μ-loop
 loop-holds c = (omega arith, omega arith, begun (now (c .args .positions)) (c .args .t))
 
-add-mid : tie.Need-add-mid Inv-loop μ-loop
-add-mid c = omega arith
-
-mul-left : tie.Need-mul-left Inv-loop μ-loop
-mul-left c = omega arith
-
-add-right : tie.Need-add-right Inv-loop μ-loop
-add-right c = omega arith
-
 mul-if1 : tie.Need-mul-if1 Inv-loop μ-loop
 mul-if1 c = scaled-fits _ (length (ps c)) 4 (in-range c) (c .before .before .good .0 .1)
-
-shared-slice-read-if1 : tie.Need-shared-slice-read-if1 Inv-loop μ-loop
-shared-slice-read-if1 c = omega arith
-
-add-low : tie.Need-add-low Inv-loop μ-loop
-add-low c = omega arith
-
-loop-less : tie.Need-loop-less Inv-loop μ-loop
-loop-less c = omega arith
 
 loop-again : tie.Need-loop-again Inv-loop μ-loop
 loop-again c =
@@ -57,12 +39,6 @@ loop-again c =
 
 mul-if2 : tie.Need-mul-if2 Inv-loop μ-loop
 mul-if2 c = let b = c .before .before in let h = in-range b in scaled-fits _ (length (ps b)) 4 (omega arith) (b .before .before .good .0 .1)
-
-shared-slice-read-if2 : tie.Need-shared-slice-read-if2 Inv-loop μ-loop
-shared-slice-read-if2 c = omega arith
-
-loop-less-2 : tie.Need-loop-less-2 Inv-loop μ-loop
-loop-less-2 c = omega arith
 
 loop-again-2 : tie.Need-loop-again-2 Inv-loop μ-loop
 loop-again-2 c =
@@ -88,17 +64,17 @@ find-segment-spec =
     Inv-loop
     μ-loop
     loop-holds
-    add-mid
-    mul-left
-    add-right
+    (λ c. omega arith)
+    (λ c. omega arith)
+    (λ c. omega arith)
     mul-if1
-    shared-slice-read-if1
-    add-low
-    loop-less
+    (λ c. omega arith)
+    (λ c. omega arith)
+    (λ c. omega arith)
     loop-again
     mul-if2
-    shared-slice-read-if2
-    loop-less-2
+    (λ c. omega arith)
+    (λ c. omega arith)
     loop-again-2
     returns
     returns-2)

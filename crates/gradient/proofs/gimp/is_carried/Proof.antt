@@ -10,9 +10,6 @@ returns : tie.Need-returns
 unfolding carried
 returns c = let a = c .before .args in simp (lt-leb (a .colouring) 2 (c .if1 .taken))
 
-is-in-order-requires : tie.Need-is-in-order-requires
-is-in-order-requires c κs = search needs
-
 returns-2 : tie.Need-returns-2
 unfolding carried
 returns-2 c =
@@ -61,4 +58,4 @@ returns-6 c =
 pub is-carried-spec : {M : Type 1} → statement M
 is-carried-spec =
     tie.close
-    (tie.spec returns is-in-order-requires returns-2 returns-3 returns-4 returns-5 returns-6)
+    (tie.spec returns (λ c κs. search needs) returns-2 returns-3 returns-4 returns-5 returns-6)

@@ -6,12 +6,9 @@ use borrow.Author.Needs.{needs}
 use Rattle.hsv.proofs.circle.clockwise_hue.Statement.{statement}
 use Rattle.hsv.proofs.circle.clockwise_hue.Tie as tie
 
-way-requires : tie.Need-way-requires
-way-requires c κs = search needs
-
 returns : tie.Need-returns
 unfolding downHue
 returns c = ap neg (c .way .ensures)
 
 pub clockwise-hue-spec : {M : Type 1} → statement M
-clockwise-hue-spec = tie.close (tie.spec way-requires returns)
+clockwise-hue-spec = tie.close (tie.spec (λ c κs. search needs) returns)

@@ -4,18 +4,9 @@ use Rattle.judge.proofs.Answering.{close-is}
 use Rattle.judge.proofs.points.is_close.Statement.{statement}
 use Rattle.judge.proofs.points.is_close.Tie as tie
 
-colour-at-requires : tie.Need-colour-at-requires
-colour-at-requires c κs = search needs
-
-colour-at-requires-2 : tie.Need-colour-at-requires-2
-colour-at-requires-2 c κs = search needs
-
-distance-requires : tie.Need-distance-requires
-distance-requires c κs = search needs
-
 returns : tie.Need-returns
 returns c = close-is _ _ _ _ (c .before .before .colour-at .ensures) (c .before .colour-at2 .ensures) (c .distance .ensures)
 
 pub is-close-spec : {M : Type 1} → statement M
 is-close-spec =
-    tie.close (tie.spec colour-at-requires colour-at-requires-2 distance-requires returns)
+    tie.close (tie.spec (λ c κs. search needs) (λ c κs. search needs) (λ c κs. search needs) returns)

@@ -95,9 +95,6 @@ loop-again c =
     let l = turn .before in
     row-near (near l) (rows l) (counts l) (max l) (l .loop .i) (at-far .first-far .result) (turn .loop-test .taken) (at-far .first-far .ensures) (c .if1 .left) ∙ l .loop .inv
 
-is-close-requires : tie.Need-is-close-requires Inv-loop μ-loop
-is-close-requires c κs = tt
-
 returns-2 : tie.Need-returns-2 Inv-loop μ-loop
 returns-2 c =
     let after = c .before .before in
@@ -128,6 +125,6 @@ judge-points-spec =
     add-i
     loop-less
     loop-again
-    is-close-requires
+    (λ c κs. tt)
     returns-2
     returns-3)

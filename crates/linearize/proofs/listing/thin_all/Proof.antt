@@ -27,7 +27,7 @@ module _ (c : tie.After-emit) where
   at-point = c .before .before .before
 
   abbrev at-start : tie.Start
-  at-start = at-point .before .before .before .before .before .before .before .before .before .before
+  at-start = at-point .before .before .before .before .before .before .before .before .before
 
   abbrev g : Gradient
   g = colourOf (rampIn (at-start .args .kind) (at-start .args .positions) (at-start .args .channels) (at-start .args .codes))

@@ -28,10 +28,10 @@ abbrev start-of : tie.After-next-place Inv-loop μ-loop → tie.Start Inv-loop �
 start-of c = c .before .before .before .before .before .before .before .before
 
 abbrev first-of : tie.At-loop Inv-loop μ-loop → tie.Start Inv-loop μ-loop
-first-of c = start-of (c .before .before .before .before .before .before .before)
+first-of c = start-of (c .before .before .before .before)
 
 abbrev point-of : tie.After-step Inv-loop μ-loop → tie.After-evaluate-along2 Inv-loop μ-loop
-point-of c = c .before .before .before .before .before .before
+point-of c = c .before .before .before
 
 abbrev loop-of : tie.After-evaluate-along2 Inv-loop μ-loop → tie.At-loop Inv-loop μ-loop
 loop-of c = c .before .before .before .before .before .before
@@ -46,10 +46,9 @@ loop-holds c =
     let at-start = start-of at-place in
     let a = at-start .args in
     let g = colourOf (rampIn (a .kind) (a .positions) (a .channels) (a .codes)) in
-    let none = λ d l. absurd (omega (arith, l)) in
-    let p = along-point _ (at-start .pre .1) _ _ none (c .evaluate-along .ensures) in (
+    let p = along-point _ (at-start .pre .1) _ _ (λ d l. absurd (omega (arith, l))) (c .evaluate-along .ensures) in (
       started g (exceeds (a .cutoff)) (a .room) (a .rows .now) (a .counts .now) (a .max) (at-start .pre .0 .0) (a .start) (a .out-positions .now) (a .out-channels .now) (at-place .next-place .result) (c .evaluate-along .result) (at-start .pre .0 .1) (at-place .next-place .ensures) (p .0 ∙ at-number .point-at .ensures) (p .1),
-      along-carries _ (at-start .pre .1) _ _ none (c .evaluate-along .ensures),
+      along-carries _ (at-start .pre .1) _ _ (λ d l. absurd (omega (arith, l))) (c .evaluate-along .ensures),
     )
 
 same-length : tie.Need-same-length Inv-loop μ-loop

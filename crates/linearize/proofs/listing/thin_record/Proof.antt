@@ -12,8 +12,8 @@ use Rattle.linearize.proofs.listing.thin_record.Tie as tie
 returns : tie.Need-returns
 returns c =
     let at-end = c .before .before .before .before in
-    let at-list = at-end .before .before .before .before .before .before .before .before in
-    let at-room = at-list .before .before .before .before in
+    let at-list = at-end .before .before .before .before .before .before .before in
+    let at-room = at-list .before .before .before in
     let at-start = at-room .before .before .before .before .before .before .before .before in
     let a = at-start .args in
     let g = colourOf (rampIn (a .kind) (a .positions) (a .channels) (a .codes)) in

@@ -19,9 +19,6 @@ Inv-loop positions channels codes ts out₀ orderly i₀ out i = (i ≤ length t
 abbrev μ-loop : tie.MeasureT-loop
 μ-loop positions channels codes ts out₀ orderly i₀ out i = length ts - i
 
-is-orderly-requires : tie.Need-is-orderly-requires Inv-loop μ-loop
-is-orderly-requires c κs = search needs
-
 loop-holds : tie.Need-loop-holds Inv-loop μ-loop
 unfolding coloursOf
 loop-holds c = (omega arith, refl, refl)
@@ -53,4 +50,4 @@ returns c =
     l .loop .inv .2 ∙ colours-done (gimpColour (now (s .args .positions)) (now (s .args .channels)) (now (s .args .codes))) (now (s .args .ts)) (now (s .args .out)) (s .pre .room) (l .loop .i) (omega arith) (omega arith)
 
 pub paint-spec : {M : Type 1} → statement M
-paint-spec = tie.close (tie.spec Inv-loop μ-loop is-orderly-requires loop-holds paint-on-requires loop-less loop-again same-length returns)
+paint-spec = tie.close (tie.spec Inv-loop μ-loop (λ c κs. search needs) loop-holds paint-on-requires loop-less loop-again same-length returns)

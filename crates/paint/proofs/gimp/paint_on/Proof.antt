@@ -19,27 +19,6 @@ use borrow.Author.Needs.{needs}
 use Rattle.paint.proofs.gimp.paint_on.Statement.{statement}
 use Rattle.paint.proofs.gimp.paint_on.Tie as tie
 
-mul-t : tie.Need-mul-t
-mul-t c = search needs
-
-shared-slice-read-t : tie.Need-shared-slice-read-t
-shared-slice-read-t c = search needs
-
-is-off-domain-requires : tie.Need-is-off-domain-requires
-is-off-domain-requires c κs = search needs
-
-mul-put-colour : tie.Need-mul-put-colour
-mul-put-colour c = search needs
-
-put-colour-requires : tie.Need-put-colour-requires
-put-colour-requires c κs = search needs
-
-add-result : tie.Need-add-result
-add-result c = search needs
-
-same-length : tie.Need-same-length
-same-length c = search needs
-
 returns : tie.Need-returns
 returns c =
     let p = c .before .before in
@@ -62,9 +41,6 @@ returns c =
 
 find-segment-requires : tie.Need-find-segment-requires
 find-segment-requires c κs = let s = c .before .before .before .before .before .before .before .before in (s .pre .0 .cut .least, s .pre .1 .0)
-
-add-end : tie.Need-add-end
-add-end c = search needs
 
 -- points beyond the next are painted only where the positions are orderly
 ends : (c : tie.Joined2) → let s = c .before .before .before .before .before .before .before .before .before .before in (c .if2 .end ≤ length (now (s .args .ts))) × (s .args .i + 1 < c .if2 .end → Orderly (now (s .args .positions))) × (s .args .i < c .if2 .end)
@@ -105,9 +81,6 @@ shared-slice-read-is-hued c =
     let s = found .before .before .before .before .before .before .before .before .before .before in
     omega (arith, there found, s .pre .0 .cut .codes)
 
-is-hued-requires : tie.Need-is-hued-requires
-is-hued-requires c κs = search needs
-
 paint-hued-requires : tie.Need-paint-hued-requires
 paint-hued-requires c κs =
     let test = c .before in
@@ -115,12 +88,6 @@ paint-hued-requires c κs =
     let j = h .before .before in
     let s = j .before .before .before .before .before .before .before .before .before .before in
     (s .pre .0, (starts j, sym (h .is-hued .ensures) ∙ test .if3 .taken))
-
-same-length-2 : tie.Need-same-length-2
-same-length-2 c = search needs
-
-returns-2 : tie.Need-returns-2
-returns-2 c = search needs
 
 paint-held-requires : tie.Need-paint-held-requires
 paint-held-requires c κs =
@@ -130,33 +97,27 @@ paint-held-requires c κs =
     let s = j .before .before .before .before .before .before .before .before .before .before in
     (s .pre .0, (starts j, sym (h .is-hued .ensures) ∙ test .if3 .left))
 
-same-length-3 : tie.Need-same-length-3
-same-length-3 c = search needs
-
-returns-3 : tie.Need-returns-3
-returns-3 c = search needs
-
 pub paint-on-spec : {M : Type 1} → statement M
 paint-on-spec =
     tie.close
     (tie.spec
-    mul-t
-    shared-slice-read-t
-    is-off-domain-requires
-    mul-put-colour
-    put-colour-requires
-    add-result
-    same-length
+    (λ c. search needs)
+    (λ c. search needs)
+    (λ c κs. search needs)
+    (λ c. search needs)
+    (λ c κs. search needs)
+    (λ c. search needs)
+    (λ c. search needs)
     returns
     find-segment-requires
-    add-end
+    (λ c. search needs)
     mul-is-hued
     add-is-hued
     shared-slice-read-is-hued
-    is-hued-requires
+    (λ c κs. search needs)
     paint-hued-requires
-    same-length-2
-    returns-2
+    (λ c. search needs)
+    (λ c. search needs)
     paint-held-requires
-    same-length-3
-    returns-3)
+    (λ c. search needs)
+    (λ c. search needs))

@@ -7,23 +7,14 @@ use borrow.Author.Needs.{needs}
 use Rattle.paint.proofs.gimp.shade.Statement.{statement}
 use Rattle.paint.proofs.gimp.shade.Tie as tie
 
-cast-colour : tie.Need-cast-colour
-cast-colour c = search needs
-
 colour-requires : tie.Need-colour-requires
 colour-requires c κs = let s = c .before .before .before in end-there (s .args .g) (s .pre .1) (le (s .args .pivot) (s .args .place))
 
 returns : tie.Need-returns
 returns c = let test = c .before in let s = test .before .before .before in by-step (s .args .g) (s .args .pivot) (s .args .place) (s .pre .0) (s .pre .1) (test .if1 .taken) (c .colour .ensures)
 
-blend-wave-requires : tie.Need-blend-wave-requires
-blend-wave-requires c κs = search needs
-
 returns-2 : tie.Need-returns-2
 returns-2 c = let test = c .before in let s = test .before .before .before .before .before in by-wave _ _ _ refl (s .pre .0) (test .if2 .taken) (c .blend-wave .ensures)
-
-blend-requires : tie.Need-blend-requires
-blend-requires c κs = search needs
 
 returns-3 : tie.Need-returns-3
 returns-3 c = let test = c .before in let s = test .before .before .before .before .before in by-rest _ _ _ refl (s .pre .0) (test .if2 .left) (c .blend .ensures)
@@ -32,10 +23,10 @@ pub shade-spec : {M : Type 1} → statement M
 shade-spec =
     tie.close
     (tie.spec
-    cast-colour
+    (λ c. search needs)
     colour-requires
     returns
-    blend-wave-requires
+    (λ c κs. search needs)
     returns-2
-    blend-requires
+    (λ c κs. search needs)
     returns-3)

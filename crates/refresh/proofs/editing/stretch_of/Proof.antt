@@ -7,33 +7,6 @@ use borrow.Author.Needs.{needs}
 use Rattle.refresh.proofs.editing.stretch_of.Statement.{statement}
 use Rattle.refresh.proofs.editing.stretch_of.Tie as tie
 
-enum-known-edit : tie.Need-enum-known-edit
-enum-known-edit c = search needs
-
-colour-stretch-requires : tie.Need-colour-stretch-requires
-colour-stretch-requires c κs = search needs
-
-enum-known-edit-2 : tie.Need-enum-known-edit-2
-enum-known-edit-2 c = search needs
-
-stretch-beside-requires : tie.Need-stretch-beside-requires
-stretch-beside-requires c κs = search needs
-
-enum-known-edit-3 : tie.Need-enum-known-edit-3
-enum-known-edit-3 c = search needs
-
-less-requires : tie.Need-less-requires
-less-requires c κs = search needs
-
-stretch-between-requires : tie.Need-stretch-between-requires
-stretch-between-requires c κs = search needs
-
-enum-known-edit-4 : tie.Need-enum-known-edit-4
-enum-known-edit-4 c = search needs
-
-stretch-beside-requires-2 : tie.Need-stretch-beside-requires-2
-stretch-beside-requires-2 c κs = search needs
-
 returns : tie.Need-returns
 returns c = as-stretch _ _ (c .before .before .edit .given .1) (c .colour-stretch .ensures)
 
@@ -53,15 +26,15 @@ pub stretch-of-spec : {M : Type 1} → statement M
 stretch-of-spec =
     tie.close
     (tie.spec
-    enum-known-edit
-    colour-stretch-requires
-    enum-known-edit-2
-    stretch-beside-requires
-    enum-known-edit-3
-    less-requires
-    stretch-between-requires
-    enum-known-edit-4
-    stretch-beside-requires-2
+    (λ c. search needs)
+    (λ c κs. search needs)
+    (λ c. search needs)
+    (λ c κs. search needs)
+    (λ c. search needs)
+    (λ c κs. search needs)
+    (λ c κs. search needs)
+    (λ c. search needs)
+    (λ c κs. search needs)
     returns
     returns-2
     returns-3

@@ -8,15 +8,6 @@ use borrow.Author.Needs.{needs}
 use Rattle.refresh.proofs.reach.is_cell_clear.Statement.{statement}
 use Rattle.refresh.proofs.reach.is_cell_clear.Tie as tie
 
-edge-requires : tie.Need-edge-requires
-edge-requires c κs = search needs
-
-add-edge : tie.Need-add-edge
-add-edge c = search needs
-
-edge-requires-2 : tie.Need-edge-requires-2
-edge-requires-2 c κs = search needs
-
 is-clear-requires : tie.Need-is-clear-requires
 is-clear-requires c κs =
     let s = c .before .before in
@@ -36,4 +27,4 @@ returns c =
 
 pub is-cell-clear-spec : {M : Type 1} → statement M
 is-cell-clear-spec =
-    tie.close (tie.spec edge-requires add-edge edge-requires-2 is-clear-requires returns)
+    tie.close (tie.spec (λ c κs. search needs) (λ c. search needs) (λ c κs. search needs) is-clear-requires returns)

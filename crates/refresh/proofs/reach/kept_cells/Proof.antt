@@ -17,9 +17,6 @@ Inv-loop min max s keep₀ i₀ keep i = (i ≤ 36) × (length keep ≡ 36) × (
 abbrev μ-loop : tie.MeasureT-loop
 μ-loop min max s keep₀ i₀ keep i = 36 - i
 
-is-domain-requires : tie.Need-is-domain-requires Inv-loop μ-loop
-is-domain-requires c κs = search needs
-
 returns : tie.Need-returns Inv-loop μ-loop
 returns c = no-domain _ _ _ (failed (c .if1 .taken) (c .before .is-domain .ensures))
 
@@ -29,15 +26,6 @@ loop-holds c = (omega arith, refl, refl)
 
 is-cell-clear-requires : tie.Need-is-cell-clear-requires Inv-loop μ-loop
 is-cell-clear-requires c κs = (passed (c .before .before .if1 .left) (c .before .before .before .is-domain .ensures), omega arith)
-
-array-write-keep : tie.Need-array-write-keep Inv-loop μ-loop
-array-write-keep c = omega arith
-
-add-i : tie.Need-add-i Inv-loop μ-loop
-add-i c = omega arith
-
-loop-less : tie.Need-loop-less Inv-loop μ-loop
-loop-less c = omega arith
 
 loop-again : tie.Need-loop-again Inv-loop μ-loop
 loop-again c =
@@ -55,12 +43,12 @@ kept-cells-spec =
     (tie.spec
     Inv-loop
     μ-loop
-    is-domain-requires
+    (λ c κs. search needs)
     returns
     loop-holds
     is-cell-clear-requires
-    array-write-keep
-    add-i
-    loop-less
+    (λ c. omega arith)
+    (λ c. omega arith)
+    (λ c. omega arith)
     loop-again
     returns-2)

@@ -5,15 +5,9 @@ use borrow.Author.Needs.{needs}
 use Rattle.sine.proofs.table.read.Statement.{statement}
 use Rattle.sine.proofs.table.read.Tie as tie
 
-mul-result : tie.Need-mul-result
-mul-result c = search needs
-
-array-read-result : tie.Need-array-read-result
-array-read-result c = search needs
-
 returns : tie.Need-returns
 unfolding table
 returns c = refl
 
 pub read-spec : {M : Type 1} → statement M
-read-spec = tie.close (tie.spec mul-result array-read-result returns)
+read-spec = tie.close (tie.spec (λ c. search needs) (λ c. search needs) returns)

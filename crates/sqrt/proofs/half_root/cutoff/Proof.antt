@@ -20,14 +20,8 @@ float-from-bits-result c = tt
 returns : tie.Need-returns
 returns c = cutoff-below-zero (c .before .args .t) (subst T (sym (c .if1 .taken)) tt)
 
-start-requires : tie.Need-start-requires
-start-requires c κs = search needs
-
 down-to-fail-requires : tie.Need-down-to-fail-requires
 down-to-fail-requires c κs = (c .start .ensures, it-failed (sym (above-zero-is (c .before .before .args .t))) (c .before .if1 .left))
-
-up-to-last-requires : tie.Need-up-to-last-requires
-up-to-last-requires c κs = search needs
 
 float-from-bits-result-2 : tie.Need-float-from-bits-result-2
 float-from-bits-result-2 c = let h = c .up-to-last .ensures .0 in number-pattern (c .up-to-last .result) (omega arith)
@@ -40,4 +34,4 @@ returns-2 c =
     cutoff-of-last t b (u .0) (u .1) (subst (λ (n : ℕ). n ≤ 2139095040 → T (above t (at n))) (add-one b) (u .2))
 
 pub cutoff-spec : {M : Type 1} → statement M
-cutoff-spec = tie.close (tie.spec float-from-bits-result returns start-requires down-to-fail-requires up-to-last-requires float-from-bits-result-2 returns-2)
+cutoff-spec = tie.close (tie.spec float-from-bits-result returns (λ c κs. search needs) down-to-fail-requires (λ c κs. search needs) float-from-bits-result-2 returns-2)

@@ -21,20 +21,8 @@ past b h k = omega arith
 loop-holds : tie.Need-loop-holds Inv-loop μ-loop
 loop-holds c = c .pre
 
-add-passes : tie.Need-add-passes Inv-loop μ-loop
-add-passes c = omega arith
-
-passes-requires : tie.Need-passes-requires Inv-loop μ-loop
-passes-requires c κs = omega arith
-
 returns : tie.Need-returns Inv-loop μ-loop
 returns c = let s = c .before .before .before in (s .loop .inv .0, s .loop .inv .1, λ _. it-held (c .before .passes .ensures) (c .if1 .taken))
-
-add-b : tie.Need-add-b Inv-loop μ-loop
-add-b c = omega arith
-
-loop-less : tie.Need-loop-less Inv-loop μ-loop
-loop-less c = omega arith
 
 loop-again : tie.Need-loop-again Inv-loop μ-loop
 loop-again c = (omega arith, it-failed (c .before .passes .ensures) (c .if1 .left))
@@ -43,4 +31,4 @@ returns-2 : tie.Need-returns-2 Inv-loop μ-loop
 returns-2 c = (c .before .loop .inv .0, c .before .loop .inv .1, λ h. absurd (past (c .before .loop .b) (c .loop-test .left) h))
 
 pub up-to-last-spec : {M : Type 1} → statement M
-up-to-last-spec = tie.close (tie.spec Inv-loop μ-loop loop-holds add-passes passes-requires returns add-b loop-less loop-again returns-2)
+up-to-last-spec = tie.close (tie.spec Inv-loop μ-loop loop-holds (λ c. omega arith) (λ c κs. omega arith) returns (λ c. omega arith) (λ c. omega arith) loop-again returns-2)

@@ -8,21 +8,6 @@ use borrow.Author.Needs.{needs}
 use Rattle.colorgrad_c.proofs.plain.steps.step_told.Statement.{statement}
 use Rattle.colorgrad_c.proofs.plain.steps.step_told.Tie as tie
 
-enum-told : tie.Need-enum-told
-enum-told c = search needs
-
-enum-known-place : tie.Need-enum-known-place
-enum-known-place c = search needs
-
-narrow-requires : tie.Need-narrow-requires
-narrow-requires c κs = search needs
-
-narrow-requires-2 : tie.Need-narrow-requires-2
-narrow-requires-2 c κs = search needs
-
-enum-told-2 : tie.Need-enum-told-2
-enum-told-2 c = search needs
-
 returns : tie.Need-returns
 returns c = let s = c .before .before in sym (ap (λ (p : ListPlace). s .args .has ∷ s .args .evaluations ∷ placeTold p) (c .enum-told .given .1))
 
@@ -36,11 +21,11 @@ pub step-told-spec : {M : Type 1} → statement M
 step-told-spec =
     tie.close
     (tie.spec
-    enum-told
-    enum-known-place
-    narrow-requires
-    narrow-requires-2
-    enum-told-2
+    (λ c. search needs)
+    (λ c. search needs)
+    (λ c κs. search needs)
+    (λ c κs. search needs)
+    (λ c. search needs)
     returns
     returns-2
     returns-3)

@@ -5,15 +5,6 @@ use borrow.Author.Needs.{needs}
 use Rattle.colorgrad_c.proofs.plain.steps.stop_told.Statement.{statement}
 use Rattle.colorgrad_c.proofs.plain.steps.stop_told.Tie as tie
 
-enum-known-told : tie.Need-enum-known-told
-enum-known-told c = search needs
-
-enum-told : tie.Need-enum-told
-enum-told c = search needs
-
-enum-told-2 : tie.Need-enum-told-2
-enum-told-2 c = search needs
-
 returns : tie.Need-returns
 returns c = sym (ap stopTold (c .before .before .told .given .1))
 
@@ -25,4 +16,4 @@ returns-3 c = sym (ap stopTold (c .enum-told2 .given .1))
 
 pub stop-told-spec : {M : Type 1} → statement M
 stop-told-spec =
-    tie.close (tie.spec enum-known-told enum-told enum-told-2 returns returns-2 returns-3)
+    tie.close (tie.spec (λ c. search needs) (λ c. search needs) (λ c. search needs) returns returns-2 returns-3)

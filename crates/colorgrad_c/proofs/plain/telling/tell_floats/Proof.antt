@@ -24,18 +24,6 @@ mul-put c =
     let l = c .before .before in let s = l .before .before .before in
     scaled-fits (l .loop .i) (length (s .args .floats .now)) 4 (omega arith) (s .good .1 .0 .1)
 
-shared-slice-read-put : tie.Need-shared-slice-read-put Inv-loop μ-loop
-shared-slice-read-put c = search needs
-
-put-requires : tie.Need-put-requires Inv-loop μ-loop
-put-requires c κs = search needs
-
-add-i : tie.Need-add-i Inv-loop μ-loop
-add-i c = search needs
-
-loop-less : tie.Need-loop-less Inv-loop μ-loop
-loop-less c = search needs
-
 loop-again : tie.Need-loop-again Inv-loop μ-loop
 loop-again c =
     let l = c .before .before .before .before .before .before in let s = l .before .before .before in
@@ -59,10 +47,10 @@ tell-floats-spec =
     μ-loop
     loop-holds
     mul-put
-    shared-slice-read-put
-    put-requires
-    add-i
-    loop-less
+    (λ c. search needs)
+    (λ c κs. search needs)
+    (λ c. search needs)
+    (λ c. search needs)
     loop-again
     same-length
     returns)

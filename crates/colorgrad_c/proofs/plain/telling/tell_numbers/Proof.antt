@@ -23,18 +23,6 @@ mul-put-number c =
     let l = c .before .before in let s = l .before .before .before in
     scaled-fits (l .loop .i) (length (s .args .numbers .now)) 8 (omega arith) (s .good .1 .0 .1)
 
-shared-slice-read-put-number : tie.Need-shared-slice-read-put-number Inv-loop μ-loop
-shared-slice-read-put-number c = search needs
-
-put-number-requires : tie.Need-put-number-requires Inv-loop μ-loop
-put-number-requires c κs = search needs
-
-add-i : tie.Need-add-i Inv-loop μ-loop
-add-i c = search needs
-
-loop-less : tie.Need-loop-less Inv-loop μ-loop
-loop-less c = search needs
-
 loop-again : tie.Need-loop-again Inv-loop μ-loop
 loop-again c =
     let l = c .before .before .before .before .before .before in let s = l .before .before .before in
@@ -58,10 +46,10 @@ tell-numbers-spec =
     μ-loop
     loop-holds
     mul-put-number
-    shared-slice-read-put-number
-    put-number-requires
-    add-i
-    loop-less
+    (λ c. search needs)
+    (λ c κs. search needs)
+    (λ c. search needs)
+    (λ c. search needs)
     loop-again
     same-length
     returns)

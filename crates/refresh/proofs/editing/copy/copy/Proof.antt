@@ -7,18 +7,6 @@ use borrow.Author.Needs.{needs}
 use Rattle.refresh.proofs.editing.copy.copy.Statement.{statement}
 use Rattle.refresh.proofs.editing.copy.copy.Tie as tie
 
-check-requires : tie.Need-check-requires
-check-requires c κs = search needs
-
-enum-known-number : tie.Need-enum-known-number
-enum-known-number c = search needs
-
-enum-told : tie.Need-enum-told
-enum-told c = search needs
-
-copy-fits-requires : tie.Need-copy-fits-requires
-copy-fits-requires c κs = search needs
-
 returns : tie.Need-returns
 returns c =
     let told = c .before .before in
@@ -59,12 +47,6 @@ stops-after-requires c κs =
 returns-2 : tie.Need-returns-2
 returns-2 c = copy-refused _ _ _ _ _ _ _ (sym (c .before .before .before .check .ensures .answer) ∙ c .before .number .given .1)
 
-same-length : tie.Need-same-length
-same-length c = search needs
-
-same-length-2 : tie.Need-same-length-2
-same-length-2 c = search needs
-
 returns-3 : tie.Need-returns-3
 returns-3 c =
     let room = c .before .before .before .before .before .before .before .before .before in
@@ -81,15 +63,15 @@ pub copy-spec : {M : Type 1} → statement M
 copy-spec =
     tie.close
     (tie.spec
-    check-requires
-    enum-known-number
-    enum-told
-    copy-fits-requires
+    (λ c κs. search needs)
+    (λ c. search needs)
+    (λ c. search needs)
+    (λ c κs. search needs)
     returns
     copy-positions-requires
     copy-channels-requires
     stops-after-requires
     returns-2
-    same-length
-    same-length-2
+    (λ c. search needs)
+    (λ c. search needs)
     returns-3)

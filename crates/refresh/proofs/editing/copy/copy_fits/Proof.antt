@@ -9,9 +9,6 @@ returns : tie.Need-returns
 unfolding mostStops
 returns c = too-many _ _ _ _ (c .if1 .taken)
 
-mul-if2 : tie.Need-mul-if2
-mul-if2 c = search needs
-
 returns-2 : tie.Need-returns-2
 unfolding mostStops
 returns-2 c = not-four _ _ _ _ (c .before .if1 .left) (c .if2 .taken)
@@ -20,12 +17,9 @@ returns-3 : tie.Need-returns-3
 unfolding mostStops
 returns-3 c = few-places _ _ _ _ (c .before .before .if1 .left) (c .before .if2 .left) (c .if3 .taken)
 
-add-result : tie.Need-add-result
-add-result c = search needs
-
 returns-4 : tie.Need-returns-4
 unfolding mostStops
 returns-4 c = by-colours _ _ _ _ (c .before .before .if1 .left) (c .before .if2 .left) (c .if3 .left)
 
 pub copy-fits-spec : {M : Type 1} → statement M
-copy-fits-spec = tie.close (tie.spec returns mul-if2 returns-2 returns-3 add-result returns-4)
+copy-fits-spec = tie.close (tie.spec returns (λ c. search needs) returns-2 returns-3 (λ c. search needs) returns-4)

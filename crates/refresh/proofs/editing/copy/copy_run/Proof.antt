@@ -23,12 +23,6 @@ loop-holds c = (omega arith, refl, refl)
 mul-to : tie.Need-mul-to Inv-loop μ-loop
 mul-to c = scaled-fits (c .before .loop .i) (length (c .before .before .args .from .now)) 4 (omega arith) (c .before .before .good .0 .1)
 
-shared-slice-read-to : tie.Need-shared-slice-read-to Inv-loop μ-loop
-shared-slice-read-to c = omega arith
-
-add-to : tie.Need-add-to Inv-loop μ-loop
-add-to c = search needs
-
 mul-to-2 : tie.Need-mul-to-2 Inv-loop μ-loop
 mul-to-2 c =
     let l = c .before .before .loop in
@@ -40,12 +34,6 @@ slice-write-to c =
     let l = c .before .before .loop in
     let s = c .before .before .before in
     omega (arith, s .pre, l .inv .1)
-
-add-i : tie.Need-add-i Inv-loop μ-loop
-add-i c = search needs
-
-loop-less : tie.Need-loop-less Inv-loop μ-loop
-loop-less c = omega arith
 
 loop-again : tie.Need-loop-again Inv-loop μ-loop
 loop-again c =
@@ -74,12 +62,12 @@ copy-run-spec =
     μ-loop
     loop-holds
     mul-to
-    shared-slice-read-to
-    add-to
+    (λ c. omega arith)
+    (λ c. search needs)
     mul-to-2
     slice-write-to
-    add-i
-    loop-less
+    (λ c. search needs)
+    (λ c. omega arith)
     loop-again
     same-length
     returns)

@@ -21,33 +21,6 @@ copy-run-requires c κs =
     let l : s .args .at ≤ length (s .args .from .now) = omega (arith, s .pre .0) in
     omega (arith, length-take-le (s .args .at) (s .args .from .now) l, s .pre .1)
 
-copy-run-requires-2 : tie.Need-copy-run-requires-2
-copy-run-requires-2 c κs = search needs
-
-add-copy-run : tie.Need-add-copy-run
-add-copy-run c = search needs
-
-mul-copy-run : tie.Need-mul-copy-run
-mul-copy-run c = search needs
-
-sub-copy-run : tie.Need-sub-copy-run
-sub-copy-run c = search needs
-
-part-copy-run-start : tie.Need-part-copy-run-start
-part-copy-run-start c = search needs
-
-part-copy-run-end : tie.Need-part-copy-run-end
-part-copy-run-end c = search needs
-
-add-copy-run-2 : tie.Need-add-copy-run-2
-add-copy-run-2 c = search needs
-
-copy-run-requires-3 : tie.Need-copy-run-requires-3
-copy-run-requires-3 c κs = search needs
-
-same-length : tie.Need-same-length
-same-length c = search needs
-
 returns : tie.Need-returns
 returns c =
     let third = c .before .before in
@@ -64,13 +37,13 @@ splice-spec =
     (tie.spec
     slice-aggregate-copy-run
     copy-run-requires
-    copy-run-requires-2
-    add-copy-run
-    mul-copy-run
-    sub-copy-run
-    part-copy-run-start
-    part-copy-run-end
-    add-copy-run-2
-    copy-run-requires-3
-    same-length
+    (λ c κs. search needs)
+    (λ c. search needs)
+    (λ c. search needs)
+    (λ c. search needs)
+    (λ c. search needs)
+    (λ c. search needs)
+    (λ c. search needs)
+    (λ c κs. search needs)
+    (λ c. search needs)
     returns)

@@ -6,21 +6,9 @@ use borrow.Author.Needs.{needs}
 use Rattle.refresh.proofs.editing.copy.stops_after.Statement.{statement}
 use Rattle.refresh.proofs.editing.copy.stops_after.Tie as tie
 
-enum-told : tie.Need-enum-told
-enum-told c = search needs
-
-enum-told-2 : tie.Need-enum-told-2
-enum-told-2 c = search needs
-
-enum-told-3 : tie.Need-enum-told-3
-enum-told-3 c = search needs
-
 add-result : tie.Need-add-result
 unfolding mostStops
 add-result c = omega (arith, c .before .before .pre .1)
-
-enum-told-4 : tie.Need-enum-told-4
-enum-told-4 c = search needs
 
 sub-result : tie.Need-sub-result
 sub-result c = omega (arith, some-stop _ _ (c .enum-told4 .given .1) (c .before .before .pre .0))
@@ -41,11 +29,11 @@ pub stops-after-spec : {M : Type 1} → statement M
 stops-after-spec =
     tie.close
     (tie.spec
-    enum-told
-    enum-told-2
-    enum-told-3
+    (λ c. search needs)
+    (λ c. search needs)
+    (λ c. search needs)
     add-result
-    enum-told-4
+    (λ c. search needs)
     sub-result
     returns
     returns-2

@@ -5,30 +5,6 @@ use borrow.Author.Needs.{needs}
 use Rattle.refresh.proofs.editing.rules.check.Statement.{statement}
 use Rattle.refresh.proofs.editing.rules.check.Tie as tie
 
-enum-known-edit : tie.Need-enum-known-edit
-enum-known-edit c = search needs
-
-check-colour-requires : tie.Need-check-colour-requires
-check-colour-requires c κs = search needs
-
-enum-known-edit-2 : tie.Need-enum-known-edit-2
-enum-known-edit-2 c = search needs
-
-check-move-requires : tie.Need-check-move-requires
-check-move-requires c κs = search needs
-
-enum-known-edit-3 : tie.Need-enum-known-edit-3
-enum-known-edit-3 c = search needs
-
-check-add-requires : tie.Need-check-add-requires
-check-add-requires c κs = search needs
-
-enum-known-edit-4 : tie.Need-enum-known-edit-4
-enum-known-edit-4 c = search needs
-
-check-remove-requires : tie.Need-check-remove-requires
-check-remove-requires c κs = search needs
-
 returns : tie.Need-returns
 returns c = checks (as-edit _ _ (c .before .before .edit .given .1) (c .check-colour .ensures))
 
@@ -45,14 +21,14 @@ pub check-spec : {M : Type 1} → statement M
 check-spec =
     tie.close
     (tie.spec
-    enum-known-edit
-    check-colour-requires
-    enum-known-edit-2
-    check-move-requires
-    enum-known-edit-3
-    check-add-requires
-    enum-known-edit-4
-    check-remove-requires
+    (λ c. search needs)
+    (λ c κs. search needs)
+    (λ c. search needs)
+    (λ c κs. search needs)
+    (λ c. search needs)
+    (λ c κs. search needs)
+    (λ c. search needs)
+    (λ c κs. search needs)
     returns
     returns-2
     returns-3

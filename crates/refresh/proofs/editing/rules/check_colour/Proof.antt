@@ -5,17 +5,11 @@ use borrow.Author.Needs.{needs}
 use Rattle.refresh.proofs.editing.rules.check_colour.Statement.{statement}
 use Rattle.refresh.proofs.editing.rules.check_colour.Tie as tie
 
-is-refreshable-requires : tie.Need-is-refreshable-requires
-is-refreshable-requires c κs = search needs
-
 returns : tie.Need-returns
 returns c = colour-kind _ _ _ _ (failed (c .if1 .taken) (c .before .is-refreshable .ensures))
 
 returns-2 : tie.Need-returns-2
 returns-2 c = colour-past _ _ _ _ (passed (c .before .if1 .left) (c .before .before .is-refreshable .ensures)) (c .if2 .taken)
-
-is-finite-colour-requires : tie.Need-is-finite-colour-requires
-is-finite-colour-requires c κs = search needs
 
 returns-3 : tie.Need-returns-3
 returns-3 c =
@@ -31,9 +25,9 @@ pub check-colour-spec : {M : Type 1} → statement M
 check-colour-spec =
     tie.close
     (tie.spec
-    is-refreshable-requires
+    (λ c κs. search needs)
     returns
     returns-2
-    is-finite-colour-requires
+    (λ c κs. search needs)
     returns-3
     returns-4)

@@ -6,22 +6,13 @@ use borrow.Author.Needs.{needs}
 use Rattle.refresh.proofs.editing.rules.check_move.Statement.{statement}
 use Rattle.refresh.proofs.editing.rules.check_move.Tie as tie
 
-is-movable-requires : tie.Need-is-movable-requires
-is-movable-requires c κs = search needs
-
 returns : tie.Need-returns
 returns c = move-kind _ _ _ _ (failed (c .if1 .taken) (c .before .is-movable .ensures))
-
-is-inner-requires : tie.Need-is-inner-requires
-is-inner-requires c κs = search needs
 
 returns-2 : tie.Need-returns-2
 returns-2 c =
     let kind = c .before .before in
     move-place _ _ _ _ (passed (kind .if1 .left) (kind .before .is-movable .ensures)) (failed (c .if2 .taken) (c .before .is-inner .ensures))
-
-is-finite-requires : tie.Need-is-finite-requires
-is-finite-requires c κs = search needs
 
 returns-3 : tie.Need-returns-3
 returns-3 c =
@@ -41,9 +32,6 @@ add-check-order c =
     let inner = inner-is _ _ (passed (place .if2 .left) (place .before .is-inner .ensures)) in
     omega (arith, inner .1)
 
-check-order-requires : tie.Need-check-order-requires
-check-order-requires c κs = search needs
-
 returns-4 : tie.Need-returns-4
 returns-4 c =
     let number = c .before in
@@ -55,13 +43,13 @@ pub check-move-spec : {M : Type 1} → statement M
 check-move-spec =
     tie.close
     (tie.spec
-    is-movable-requires
+    (λ c κs. search needs)
     returns
-    is-inner-requires
+    (λ c κs. search needs)
     returns-2
-    is-finite-requires
+    (λ c κs. search needs)
     returns-3
     sub-check-order
     add-check-order
-    check-order-requires
+    (λ c κs. search needs)
     returns-4)

@@ -4,14 +4,8 @@ use borrow.Author.Needs.{needs}
 use Rattle.refresh.proofs.editing.rules.check_order.Statement.{statement}
 use Rattle.refresh.proofs.editing.rules.check_order.Tie as tie
 
-item-requires : tie.Need-item-requires
-item-requires c κs = search needs
-
 returns : tie.Need-returns
 returns c = below-low _ _ _ _ (c .before .item .ensures) (c .if1 .taken)
-
-item-requires-2 : tie.Need-item-requires-2
-item-requires-2 c κs = search needs
 
 returns-2 : tie.Need-returns-2
 returns-2 c = above-high _ _ _ _ (c .before .before .before .item .ensures) (c .before .before .if1 .left) (c .before .item2 .ensures) (c .if2 .taken)
@@ -20,4 +14,4 @@ returns-3 : tie.Need-returns-3
 returns-3 c = in-order _ _ _ _ (c .before .before .before .item .ensures) (c .before .before .if1 .left) (c .before .item2 .ensures) (c .if2 .left)
 
 pub check-order-spec : {M : Type 1} → statement M
-check-order-spec = tie.close (tie.spec item-requires returns item-requires-2 returns-2 returns-3)
+check-order-spec = tie.close (tie.spec (λ c κs. search needs) returns (λ c κs. search needs) returns-2 returns-3)

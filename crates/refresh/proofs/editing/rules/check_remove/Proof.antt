@@ -5,14 +5,8 @@ use borrow.Author.Needs.{needs}
 use Rattle.refresh.proofs.editing.rules.check_remove.Statement.{statement}
 use Rattle.refresh.proofs.editing.rules.check_remove.Tie as tie
 
-is-movable-requires : tie.Need-is-movable-requires
-is-movable-requires c κs = search needs
-
 returns : tie.Need-returns
 returns c = remove-kind _ _ _ (failed (c .if1 .taken) (c .before .is-movable .ensures))
-
-is-inner-requires : tie.Need-is-inner-requires
-is-inner-requires c κs = search needs
 
 returns-2 : tie.Need-returns-2
 returns-2 c =
@@ -26,4 +20,4 @@ returns-3 c =
 
 pub check-remove-spec : {M : Type 1} → statement M
 check-remove-spec =
-    tie.close (tie.spec is-movable-requires returns is-inner-requires returns-2 returns-3)
+    tie.close (tie.spec (λ c κs. search needs) returns (λ c κs. search needs) returns-2 returns-3)

@@ -10,11 +10,8 @@ returns c = inner-start _ _ (c .if1 .taken)
 returns-2 : tie.Need-returns-2
 returns-2 c = inner-past _ _ (c .before .if1 .left) (c .if2 .taken)
 
-add-result : tie.Need-add-result
-add-result c = search needs
-
 returns-3 : tie.Need-returns-3
 returns-3 c = inner-by _ _ (c .before .if1 .left)
 
 pub is-inner-spec : {M : Type 1} → statement M
-is-inner-spec = tie.close (tie.spec returns returns-2 add-result returns-3)
+is-inner-spec = tie.close (tie.spec returns returns-2 (λ c. search needs) returns-3)

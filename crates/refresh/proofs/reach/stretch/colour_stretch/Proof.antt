@@ -7,18 +7,6 @@ use borrow.Author.Needs.{needs}
 use Rattle.refresh.proofs.reach.stretch.colour_stretch.Statement.{statement}
 use Rattle.refresh.proofs.reach.stretch.colour_stretch.Tie as tie
 
-reach-of-requires : tie.Need-reach-of-requires
-reach-of-requires c κs = search needs
-
-left-end-requires : tie.Need-left-end-requires
-left-end-requires c κs = search needs
-
-own-end-requires : tie.Need-own-end-requires
-own-end-requires c κs = search needs
-
-right-end-requires : tie.Need-right-end-requires
-right-end-requires c κs = search needs
-
 returns : tie.Need-returns
 returns c =
     let at-left = c .before .before in
@@ -33,4 +21,4 @@ returns c =
 pub colour-stretch-spec : {M : Type 1} → statement M
 colour-stretch-spec =
     tie.close
-    (tie.spec reach-of-requires left-end-requires own-end-requires right-end-requires returns)
+    (tie.spec (λ c κs. search needs) (λ c κs. search needs) (λ c κs. search needs) (λ c κs. search needs) returns)

@@ -7,38 +7,17 @@ use borrow.Author.Needs.{needs}
 use Rattle.refresh.proofs.reach.stretch.is_clear.Statement.{statement}
 use Rattle.refresh.proofs.reach.stretch.is_clear.Tie as tie
 
-lies-before-requires : tie.Need-lies-before-requires
-lies-before-requires c κs = search needs
-
-lies-before-requires-2 : tie.Need-lies-before-requires-2
-lies-before-requires-2 c κs = search needs
-
 returns : tie.Need-returns
 returns c = sym (before-clear _ _ _ (c .before .before .before .before .pre .0) (c .before .before .before .before .pre .1) (sym (c .before .before .before .lies-before .ensures) ∙ c .before .before .if1 .taken) (sym (c .before .lies-before2 .ensures) ∙ c .if2 .taken))
-
-lies-after-requires : tie.Need-lies-after-requires
-lies-after-requires c κs = search needs
-
-lies-after-requires-2 : tie.Need-lies-after-requires-2
-lies-after-requires-2 c κs = search needs
 
 returns-2 : tie.Need-returns-2
 returns-2 c = sym (after-clear _ _ _ (c .before .before .before .before .before .before .pre .0) (c .before .before .before .before .before .before .pre .1) (sym (c .before .before .before .lies-after .ensures) ∙ c .before .before .if3 .taken) (sym (c .before .lies-after2 .ensures) ∙ c .if4 .taken))
 
-outside-requires : tie.Need-outside-requires
-outside-requires c κs = search needs
-
 returns-3 : tie.Need-returns-3
 returns-3 c = first-inside _ _ _ (failed (c .if5 .taken) (c .before .outside .ensures))
 
-outside-requires-2 : tie.Need-outside-requires-2
-outside-requires-2 c κs = search needs
-
 returns-4 : tie.Need-returns-4
 returns-4 c = last-inside _ _ _ (passed (c .before .before .if5 .left) (c .before .before .before .outside .ensures)) (failed (c .if6 .taken) (c .before .outside2 .ensures))
-
-mids-outside-requires : tie.Need-mids-outside-requires
-mids-outside-requires c κs = search needs
 
 returns-5 : tie.Need-returns-5
 returns-5 c = c .mids-outside .ensures ∙ by-midpoints _ _ _ (passed (c .before .before .before .if5 .left) (c .before .before .before .before .outside .ensures)) (passed (c .before .if6 .left) (c .before .before .outside2 .ensures))
@@ -47,15 +26,15 @@ pub is-clear-spec : {M : Type 1} → statement M
 is-clear-spec =
     tie.close
     (tie.spec
-    lies-before-requires
-    lies-before-requires-2
+    (λ c κs. search needs)
+    (λ c κs. search needs)
     returns
-    lies-after-requires
-    lies-after-requires-2
+    (λ c κs. search needs)
+    (λ c κs. search needs)
     returns-2
-    outside-requires
+    (λ c κs. search needs)
     returns-3
-    outside-requires-2
+    (λ c κs. search needs)
     returns-4
-    mids-outside-requires
+    (λ c κs. search needs)
     returns-5)

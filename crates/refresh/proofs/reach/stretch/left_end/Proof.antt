@@ -10,11 +10,8 @@ returns : tie.Need-returns
 unfolding div ofBits
 returns c = no-left _ _ _ (c .if1 .taken)
 
-item-requires : tie.Need-item-requires
-item-requires c κs = search needs
-
 returns-2 : tie.Need-returns-2
 returns-2 c = c .item .ensures ∙ some-left _ _ _ (c .before .if1 .left)
 
 pub left-end-spec : {M : Type 1} → statement M
-left-end-spec = tie.close (tie.spec returns item-requires returns-2)
+left-end-spec = tie.close (tie.spec returns (λ c κs. search needs) returns-2)

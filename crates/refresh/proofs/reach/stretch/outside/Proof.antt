@@ -5,17 +5,11 @@ use borrow.Author.Needs.{needs}
 use Rattle.refresh.proofs.reach.stretch.outside.Statement.{statement}
 use Rattle.refresh.proofs.reach.stretch.outside.Tie as tie
 
-lies-before-requires : tie.Need-lies-before-requires
-lies-before-requires c κs = search needs
-
 returns : tie.Need-returns
 returns c = outside-before _ _ (sym (c .before .lies-before .ensures) ∙ c .if1 .taken)
-
-lies-after-requires : tie.Need-lies-after-requires
-lies-after-requires c κs = search needs
 
 returns-2 : tie.Need-returns-2
 returns-2 c = c .lies-after .ensures ∙ outside-after _ _ (sym (c .before .before .lies-before .ensures) ∙ c .before .if1 .left)
 
 pub outside-spec : {M : Type 1} → statement M
-outside-spec = tie.close (tie.spec lies-before-requires returns lies-after-requires returns-2)
+outside-spec = tie.close (tie.spec (λ c κs. search needs) returns (λ c κs. search needs) returns-2)

@@ -9,22 +9,13 @@ returns : tie.Need-returns
 unfolding div ofBits
 returns c = no-stop _ _ (c .if1 .taken)
 
-add-if2 : tie.Need-add-if2
-add-if2 c = search needs
-
 returns-2 : tie.Need-returns-2
 unfolding div ofBits
 returns-2 c = not-last _ _ (c .if2 .taken)
-
-mul-result : tie.Need-mul-result
-mul-result c = search needs
-
-shared-slice-read-result : tie.Need-shared-slice-read-result
-shared-slice-read-result c = search needs
 
 returns-3 : tie.Need-returns-3
 returns-3 c = is-last _ _ (c .before .if2 .left)
 
 pub own-end-spec : {M : Type 1} → statement M
 own-end-spec =
-    tie.close (tie.spec returns add-if2 returns-2 mul-result shared-slice-read-result returns-3)
+    tie.close (tie.spec returns (λ c. search needs) returns-2 (λ c. search needs) (λ c. search needs) returns-3)

@@ -12,21 +12,6 @@ returns c =
     let a = c .before .args in
     no-right (a .reach) (a .positions .now) (a .k) (omega (arith, c .if1 .taken))
 
-sub-if2 : tie.Need-sub-if2
-sub-if2 c = search needs
-
-add-result : tie.Need-add-result
-add-result c = search needs
-
-mul-result : tie.Need-mul-result
-mul-result c = search needs
-
-shared-slice-read-result : tie.Need-shared-slice-read-result
-shared-slice-read-result c = search needs
-
-returns-2 : tie.Need-returns-2
-returns-2 c = search needs
-
 returns-3 : tie.Need-returns-3
 unfolding div ofBits
 returns-3 c =
@@ -36,4 +21,4 @@ returns-3 c =
 pub right-end-spec : {M : Type 1} → statement M
 right-end-spec =
     tie.close
-    (tie.spec returns sub-if2 add-result mul-result shared-slice-read-result returns-2 returns-3)
+    (tie.spec returns (λ c. search needs) (λ c. search needs) (λ c. search needs) (λ c. search needs) (λ c. search needs) returns-3)

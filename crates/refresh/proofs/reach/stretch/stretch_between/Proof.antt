@@ -5,15 +5,9 @@ use borrow.Author.Needs.{needs}
 use Rattle.refresh.proofs.reach.stretch.stretch_between.Statement.{statement}
 use Rattle.refresh.proofs.reach.stretch.stretch_between.Tie as tie
 
-item-requires : tie.Need-item-requires
-item-requires c κs = search needs
-
-item-requires-2 : tie.Need-item-requires-2
-item-requires-2 c κs = search needs
-
 returns : tie.Need-returns
 unfolding div ofBits
 returns c = by-stops _ _ _ (c .before .item .ensures) (c .item2 .ensures)
 
 pub stretch-between-spec : {M : Type 1} → statement M
-stretch-between-spec = tie.close (tie.spec item-requires item-requires-2 returns)
+stretch-between-spec = tie.close (tie.spec (λ c κs. search needs) (λ c κs. search needs) returns)
