@@ -25,22 +25,23 @@ loop-holds c = (omega arith, (c .before .before .before .pre .1, ((λ j h. absur
 
 point-in-requires : tie.Need-point-in-requires Inv-loop μ-loop
 point-in-requires c κs =
-    let at-loop = c .before .before in
+    let at-loop = c .before .before .before in
     (start-of at-loop .pre .0 .0, at-loop .loop .inv .1 .1 .1)
 
 loop-again : tie.Need-loop-again Inv-loop μ-loop
 loop-again c =
-    let at-test = c .before .before in
+    let at-point = c .before in
+    let at-test = at-point .before .before .before in
     let at-loop = at-test .before in
     let k = at-loop .loop .inv in
     let s = start-of at-loop in
     let a = s .args in
-    let w = c .point-in .ensures in (
+    let w = at-point .point-in .ensures in (
       omega (arith, at-test .loop-test .taken),
       (
         length-set (at-loop .loop .block) (at-loop .loop .i) _ ∙ k .1 .0,
         (
-          filled-next (colourOf (rampIn (a .kind) (a .positions) (a .channels) (a .codes))) (a .ts .now) (a .base) (at-loop .loop .i) (at-loop .loop .block) (c .point-in .result) (omega (arith, at-test .loop-test .taken, k .1 .0, s .pre .0 .1 .1)) (w .0) (k .1 .1 .0),
+          filled-next (colourOf (rampIn (a .kind) (a .positions) (a .channels) (a .codes))) (a .ts .now) (a .base) (at-loop .loop .i) (at-loop .loop .block) (at-point .point-in .result) (omega (arith, at-test .loop-test .taken, k .1 .0, s .pre .0 .1 .1)) (w .0) (k .1 .1 .0),
           w .1,
         ),
       ),
@@ -64,9 +65,9 @@ fill-each-spec =
     (λ c. omega (arith, start-of (c .before) .pre .0))
     (λ c. omega (arith, start-of (c .before) .pre .0))
     point-in-requires
-    (λ c. omega (arith, start-of (c .before .before .before) .pre .0))
-    (λ c. omega (arith, start-of (c .before .before .before) .pre .0))
-    (λ c. omega (arith, start-of (c .before .before .before) .pre .0))
+    (λ c. omega (arith, start-of (c .before .before .before .before .before) .pre .0))
+    (λ c. omega (arith, start-of (c .before .before .before .before .before) .pre .0))
+    (λ c. omega (arith, start-of (c .before .before .before .before .before) .pre .0))
     (λ c. omega arith)
     loop-again
     returns)

@@ -37,7 +37,7 @@ returns-2 c =
 
 returns-3 : tie.Need-returns-3
 returns-3 c =
-    let at-inside = c .before .before .before in
+    let at-inside = c .before .before .before .before in
     let s = start-of (at-inside .before) in
     let p = near-point _ (s .pre .0 .0) _ _ _ (c .evaluate .ensures) in
     (p .0 ∙ after-in _ _ _ _ _ _ (s .pre .0 .1 .0) (s .pre .0 .1 .1 .1 .0) (at-inside .if1 .left), p .1)
