@@ -22,6 +22,8 @@ from guineaplume import Ramp
 
 POINTS = 1_000_000
 
+KINDS = {'linear': Ramp.linear, 'smoothstep': Ramp.smoothstep, 'basis': Ramp.basis, 'Catmull-Rom': Ramp.catmull_rom}
+
 TIMED = r'''
 #include "colorgrad_calls.h"
 #include <time.h>
@@ -71,8 +73,9 @@ def main():
     repetitions = int(sys.argv[1]) if len(sys.argv) > 1 else 21
     with tempfile.TemporaryDirectory() as folder:
         timed = compiled(folder)
-        print('| ramp | the C call, ms | `paint` into a lent array | `ramp(x)`, float32 | `ramp(x)`, float64 |\n|---|---|---|---|---|')
-        for name, make in [('linear', Ramp.linear), ('smoothstep', Ramp.smoothstep), ('basis', Ramp.basis), ('Catmull-Rom', Ramp.catmull_rom)]:
+        print('| ramp | the C call, ms | `paint` into a lent array | `ramp(x)`, float32 | `ramp(x)`, float64 |')
+        print('|---|---|---|---|---|')
+        for name, make in KINDS.items():
             for stops in (2, 64, 512):
                 first, ratios = measure(timed, make, stops, repetitions)
                 print(f'| {name}, {stops} stops | {1000 * first:.2f} | ' + ' | '.join(f'{ratio:.2f}' for ratio in ratios) + ' |')

@@ -53,7 +53,8 @@ class Building(unittest.TestCase):
     def test_a_wheel_serves_by_itself(self):
         names = self.unpacked(backend(HOME).build_wheel(str(self.folder)))
         own = {file.name for file in (HOME / 'src' / 'guineaplume').glob('*.py')}
-        self.assertEqual({name.split('/')[1] for name in names if name.startswith('guineaplume/')}, own | {'py.typed', _library.FILE})
+        packed = {name.split('/')[1] for name in names if name.startswith('guineaplume/')}
+        self.assertEqual(packed, own | {'py.typed', _library.FILE})
         self.assertEqual(self.run_alone(self.folder / 'wheel'), f'{guineaplume.__version__} 0.25\n')
 
     def test_a_wheel_of_the_source_archive_is_the_same(self):

@@ -38,7 +38,6 @@ def stored(name):
     return listed
 
 
-@unittest.skipUnless(GOLDEN.is_dir(), 'there are no stored files yet')
 class Golden(unittest.TestCase):
     names = sorted(file.name[: -len('.bits')] for file in GOLDEN.glob('*.bits'))
 

@@ -1,5 +1,6 @@
 """Colour maps for matplotlib, and the example that paints a sea."""
 
+import importlib.util
 import subprocess
 import sys
 import tempfile
@@ -8,23 +9,18 @@ from pathlib import Path
 
 from guineaplume import Ramp
 
-try:
-    import matplotlib
-    import numpy
-except ImportError:
-    matplotlib = None
-
+IS_AT_HAND = all(importlib.util.find_spec(name) for name in ('matplotlib', 'numpy'))
 EXAMPLE = Path(__file__).resolve().parent.parent / 'examples' / 'bathymetry.py'
 
 
-@unittest.skipIf(matplotlib is None, 'matplotlib is not at hand')
+@unittest.skipUnless(IS_AT_HAND, 'matplotlib is not at hand')
 class Pictures(unittest.TestCase):
     def test_a_colour_map_shows_the_ramp(self):
-        ramp = Ramp.linear([-200, 0], [(0, 0.5, 2), '#fff'])
+        ramp = Ramp.linear([-200, 0], [(0, 0.5, -1), '#fff'])
         shades = ramp.to_matplotlib('shelf', 5)
         self.assertEqual((shades.name, shades.N), ('shelf', 5))
-        self.assertEqual(shades(0.0), (0.0, 0.5, 1.0, 1.0))
-        self.assertEqual(shades(2), (0.5, 0.75, 1.0, 1.0))
+        self.assertEqual(shades(0.0), (0.0, 0.5, 0.0, 1.0))
+        self.assertEqual(shades(2), (0.5, 0.75, 0.0, 1.0))
         self.assertEqual(ramp.within().to_matplotlib(levels=5)(2), shades(2))
         with self.assertRaises(ValueError):
             ramp.to_matplotlib(levels=1)

@@ -4,7 +4,9 @@ import math
 import pickle
 import threading
 import unittest
+import warnings
 from array import array
+from pathlib import Path
 
 from guineaplume import Colour, Kind, Ramp, Reason, Refusal
 
@@ -59,6 +61,15 @@ class Making(unittest.TestCase):
         for form in ['red', '#ff', '#gggggg', (1, 0), (1, 0, 0, 1, 0)]:
             with self.assertRaises(ValueError):
                 Colour.of(form)
+
+    def test_bytes_that_are_taken_for_channels(self):
+        with self.assertWarnsRegex(UserWarning, 'a channel is 240, and counts as 1') as caught:
+            Ramp.linear([0, 1], [(8, 16, 48), (216, 240, 224)])
+        self.assertEqual(Path(caught.filename).name, 'test_ramps.py')
+        with warnings.catch_warnings():
+            warnings.simplefilter('error')
+            self.assertEqual(Ramp.linear([0, 1], [Colour.of_bytes(8, 16, 48), '#fff'])(0).to_hex(), '#081030')
+            Ramp.basis([0, 1], [(1.0000001, 0, 0), '#fff'])
 
     def test_every_byte_comes_back(self):
         for byte in range(256):

@@ -49,7 +49,8 @@ class Files(unittest.TestCase):
     def test_colour_tables(self):
         tables = [
             b'-6000 8 16 48 -200 74 144 192\n-200 74 144 192 0 216 240 248\n',
-            b'\xef\xbb\xbf# COLOR_MODEL = RGB\r\n-6000 8/16/48 -200 74/144/192 L ; deep\r\n-200 74/144/192 0 216/240/248\r\nB 0 0 0\r\n',
+            b'\xef\xbb\xbf# COLOR_MODEL = RGB\r\n-6000 8/16/48 -200 74/144/192 L ; deep\r\n'
+            b'-200 74/144/192 0 216/240/248\r\nB 0 0 0\r\n',
             b'# a comment\n\n-6000\t8\t16\t48\t-200\t74\t144\t192\tB\n-200 74 144 192 0 216.0 240 248.0\nF 255 255 255\nN 127',
         ]
         for table in tables:

@@ -81,7 +81,7 @@ if library_version() != VERSION:
 
 def zeros(code: str, count: int) -> array[Any]:
     """Room for so many items."""
-    return array(code, bytes(count * array(code).itemsize))
+    return array(code, [0]) * count
 
 
 def text_of(name: str, *given: Any) -> str:

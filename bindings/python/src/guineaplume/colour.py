@@ -3,6 +3,7 @@
 from __future__ import annotations
 
 import math
+import warnings
 from array import array
 from typing import Any, NamedTuple, Sequence, Tuple, Union
 
@@ -29,6 +30,15 @@ class Colour(NamedTuple):
             raise ValueError(f'a colour has three or four channels: {given!r}')
         return cls(*array('f', channels))
 
+    @classmethod
+    def of_bytes(cls, r: float, g: float, b: float, a: float = 255) -> 'Colour':
+        """Of channels from 0 to 255.
+
+        >>> Colour.of_bytes(255, 128, 0) == Colour.of('#ff8000')
+        True
+        """
+        return cls.of([channel / 255 for channel in (r, g, b, a)])
+
     def to_bytes(self) -> Tuple[int, int, int, int]:
         """Each channel as a byte: clamped to 0..1, times 255, to the nearest, ties to even.
 
@@ -47,6 +57,9 @@ class Colour(NamedTuple):
         parts = self.to_bytes()
         return '#' + ''.join(f'{part:02x}' for part in parts[: 3 if parts[3] == 255 else 4])
 
+
+# more than this is no channel that was rounded up
+_BRIGHT = 1.001
 
 ColourLike = Union[str, Sequence[float], Colour]
 
@@ -75,6 +88,14 @@ def channels_of(colours: Any) -> array[float]:
 
         return channels_of_array(colours)
     return array('f', [channel for colour in colours for channel in Colour.of(colour)])
+
+
+def warn_of_bytes(channels: array[float], level: int) -> None:
+    """Channels that run to 255 count as 1, and such a ramp is flattened to its ends: that is said, though nothing is refused."""
+    brightest = max(channels, default=0.0)
+    if brightest > _BRIGHT:
+        words = f'a channel is {brightest:g}, and counts as 1 in lists: if channels run to 255, take Colour.of_bytes'
+        warnings.warn(words, stacklevel=level + 1)
 
 
 def colours_of(channels: array[float]) -> Tuple[Colour, ...]:

@@ -8,7 +8,7 @@ from operator import index
 from typing import NamedTuple, Tuple
 
 from .colour import Colour, ColourLike
-from .ramp import Kind, Ramp
+from .ramp import Ramp
 
 _NONE = Colour(0.0, 0.0, 0.0, 0.0)
 

@@ -3,13 +3,16 @@
 from __future__ import annotations
 
 from array import array
-from typing import TYPE_CHECKING, Any, Iterable, Iterator, Optional, Tuple
+from typing import TYPE_CHECKING, Any, Iterable, Iterator, Optional, Sequence, Tuple, overload
 
 from ._library import zeros
 from .colour import Colour, colours_of, floats
 from .refusal import fine
 
 if TYPE_CHECKING:
+    import numpy as np
+    from numpy.typing import NDArray
+
     from .apart import Apart
     from .lists import List
     from .record import Record
@@ -50,6 +53,16 @@ class Gradient:
         colour = zeros('f', 4)
         fine('at_told', *self._lent, t, colour)
         return Colour._make(colour)
+
+    # an array is a sequence too, and comes first
+    @overload
+    def __call__(self, x: NDArray[Any]) -> NDArray[np.float32]: ...  # type: ignore
+
+    @overload
+    def __call__(self, x: float) -> Colour: ...
+
+    @overload
+    def __call__(self, x: Iterable[float]) -> Sequence[Colour]: ...
 
     def __call__(self, x: Any) -> Any:
         """Of a number its colour, of a sequence of numbers a list of colours, of an array an array, as `paint` gives it.

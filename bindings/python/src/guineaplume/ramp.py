@@ -7,7 +7,7 @@ from enum import IntEnum
 from typing import TYPE_CHECKING, Any, Iterable, Tuple
 
 from ._library import zeros
-from .colour import Colour, ColourLike, channels_of, colours_of, floats
+from .colour import Colour, ColourLike, channels_of, colours_of, floats, warn_of_bytes
 from .gradient import Gradient
 from .refusal import fine
 
@@ -73,34 +73,41 @@ class Ramp(Gradient):
     # ---- making one
 
     @classmethod
+    def _of_stops(cls, kind: Kind, positions: Iterable[float], colours: Iterable[ColourLike]) -> 'Ramp':
+        made = cls(kind, positions, channels_of(colours))
+        warn_of_bytes(made._channels, 3)
+        return made
+
+    @classmethod
     def linear(cls, positions: Iterable[float], colours: Iterable[ColourLike]) -> 'Ramp':
         """Colours mixed linearly between stops. Refused with 1 where there are not as many positions as colours, or not 2 to
-        2,048; with 2 where a number is not finite; with 3 where a position is below the one before. So are the others.
+        2,048; with 2 where a number is not finite; with 3 where a position is below the one before. So are the others. A
+        channel above 1 is warned of.
 
         >>> Ramp.linear([0, 1], ['#000000', '#ffffff'])(0.25)
         Colour(r=0.25, g=0.25, b=0.25, a=1.0)
         """
-        return cls(Kind.LINEAR, positions, channels_of(colours))
+        return cls._of_stops(Kind.LINEAR, positions, colours)
 
     @classmethod
     def smoothstep(cls, positions: Iterable[float], colours: Iterable[ColourLike]) -> 'Ramp':
         """Colours mixed by a smooth step between stops."""
-        return cls(Kind.SMOOTHSTEP, positions, channels_of(colours))
+        return cls._of_stops(Kind.SMOOTHSTEP, positions, colours)
 
     @classmethod
     def sharp(cls, positions: Iterable[float], colours: Iterable[ColourLike]) -> 'Ramp':
         """Flat bands with soft edges: an even number of stops, of which each pair is one band. `bands` makes them."""
-        return cls(Kind.SHARP, positions, channels_of(colours))
+        return cls._of_stops(Kind.SHARP, positions, colours)
 
     @classmethod
     def basis(cls, positions: Iterable[float], colours: Iterable[ColourLike]) -> 'Ramp':
         """A basis spline: it starts and ends at the outer colours, and is drawn towards the others."""
-        return cls(Kind.BASIS, positions, channels_of(colours))
+        return cls._of_stops(Kind.BASIS, positions, colours)
 
     @classmethod
     def catmull_rom(cls, positions: Iterable[float], colours: Iterable[ColourLike]) -> 'Ramp':
         """A Catmull-Rom spline through the colours."""
-        return cls(Kind.CATMULL_ROM, positions, channels_of(colours))
+        return cls._of_stops(Kind.CATMULL_ROM, positions, colours)
 
     @classmethod
     def bands(
@@ -115,6 +122,7 @@ class Ramp(Gradient):
         given = channels_of(colours)
         positions, channels, told = zeros('f', len(given) // 2), zeros('f', 2 * len(given)), zeros('Q', 1)
         fine('sharp_told', given, *domain, softness, positions, channels, told)
+        warn_of_bytes(channels, 2)
         return cls(Kind.SHARP, positions, channels)
 
     @classmethod

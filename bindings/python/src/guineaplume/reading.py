@@ -8,7 +8,7 @@ from pathlib import Path
 from typing import List, Tuple, Union
 
 from ._library import call, text_of, zeros
-from .colour import Colour
+from .colour import Colour, warn_of_bytes
 from .leaves import token
 from .ramp import Kind, Ramp
 from .refusal import Refusal, Unread
@@ -100,4 +100,6 @@ def ramp_of_text(source: Source) -> Ramp:
             raise Unread(line, f'expected {expected}; found {said!r}')
         position, *channels = (number(line, field, expected) for field in fields)
         rows.append((line, position, tuple(channels)))
-    return ramp_of_rows(kind, rows)
+    ramp = ramp_of_rows(kind, rows)
+    warn_of_bytes(ramp._channels, 3)
+    return ramp

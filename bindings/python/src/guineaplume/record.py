@@ -68,6 +68,7 @@ class Record:
         return array('f', self._marks[:1].tobytes())[0]
 
     def copy(self) -> 'Record':
+        """A record of its own with the same contents."""
         made = Record.from_parts(*self._lent)
         made.evaluations = self.evaluations
         return made

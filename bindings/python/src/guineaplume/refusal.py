@@ -41,6 +41,7 @@ class Reason(IntEnum):
 
     @property
     def words(self) -> str:
+        """The library's words for it."""
         return text_of('message_told', int(self))
 
 
@@ -63,6 +64,7 @@ class Refusal(ValueError):
 
     @property
     def words(self) -> str:
+        """The library's words for it."""
         return self.number.words
 
     def __str__(self) -> str:

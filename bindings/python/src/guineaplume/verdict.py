@@ -42,6 +42,7 @@ class Verdict:
 
     @property
     def words(self) -> str:
+        """The library's words for it, without the stop or the point."""
         return text_of('verdict_message_told', int(self.number))
 
     def __str__(self) -> str:
