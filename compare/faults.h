@@ -1,6 +1,7 @@
 /* Faults put round calls of the library, one for each number, to see that the fuzzed calls find them: `compare/fuzz faults`.
  * 1 reading leaves an output as it was, 2 the tool leaves a short output, 3 a row has something after its count, 4 a refresh
- * takes every cell for clear, 5 reading writes one byte past an output, 6 a list that keeps its word is the published one. */
+ * takes every cell for clear, 5 reading writes one byte past an output, 6 a list that keeps its word is the published one, 7 a
+ * merged depth is told as kept. */
 #include "colorgrad.h"
 #include <stdlib.h>
 #include <string.h>
@@ -54,6 +55,22 @@ static ColorgradListed faulty_flatten_within(RAMP, float threshold, float hold, 
                              places_length, colours, colours_length);
 }
 #define colorgrad_flatten_within faulty_flatten_within
+#elif FAULT == 7
+static ColorgradApart faulty_apart(RAMP, float threshold, float step, const float *depths, size_t depths_length,
+                                   const float *places, size_t places_length, const float *colours,
+                                   size_t colours_length, uint8_t *faults, size_t faults_length)
+{
+    ColorgradApart told = colorgrad_apart(LENT, threshold, step, depths, depths_length, places, places_length, colours,
+                                          colours_length, faults, faults_length);
+    for (size_t i = 0; told.refusal == 0 && i < depths_length; i++)
+        faults[i] &= (uint8_t)~COLORGRAD_MERGED;
+    if (told.refusal == 0) {
+        told.merged = 0;
+        told.first_merged = depths_length;
+    }
+    return told;
+}
+#define colorgrad_apart faulty_apart
 #elif FAULT == 4
 /* The record as it was. */
 static float *kept(const float *rows, size_t rows_length, const uint8_t *counts, size_t counts_length)

@@ -67,6 +67,11 @@ typedef enum {
     COLORGRAD_TOO_FAR = 6 /* the point: its row and its index there, counted from 0, and its t; max is row 36, index 0 */
 } ColorgradVerdict;
 
+/* ---- faults: what a byte of colorgrad_ramp_apart says of its depth, added up */
+#define COLORGRAD_MOVED 1u  /* the list's colour is too far from the ramp's */
+#define COLORGRAD_CLOSE 2u  /* the ramp itself does not tell it from the depth before: no fault of the list */
+#define COLORGRAD_MERGED 4u /* the ramp tells it from the depth before, and the list does not */
+
 /* ---- codes of a GIMP segment that are carried: five of blending, three of colouring. The middle of a sinusoidal segment
  * must not be outside its ends, or the segment counts as not carried. With HSV the colours are mixed as hue, saturation and
  * value, by docs/HSV.md: hues rise, or fall, from the left one to the right one, and equal hues go the full turn. */
@@ -106,7 +111,7 @@ typedef enum {
 #define COLORGRAD_HOLD 0.001f
 
 /* ---- refusals; 0 is none. The first that holds is given: 1; then stop by stop 2, 3; then 4, 5, 20, 6; then, of a stop
- * added or moved, 1 and 3. */
+ * added or moved, 1 and 3. Of depths: 1 to 4, then 22, 23, 24 and 7. */
 #define COLORGRAD_FINE 0u
 #define COLORGRAD_MISSHAPEN 1u
 #define COLORGRAD_NOT_FINITE 2u
@@ -129,6 +134,9 @@ typedef enum {
 #define COLORGRAD_UNWRITABLE 19u
 #define COLORGRAD_OTHER_THRESHOLD 20u
 #define COLORGRAD_NOT_SHOWN 21u
+#define COLORGRAD_BAD_LIST 22u
+#define COLORGRAD_BAD_DEPTHS 23u
+#define COLORGRAD_BAD_STEP 24u
 
 /* What a refusal means, in one line of plain words; never null. colorgrad_message_told has the same texts. */
 static inline const char *colorgrad_message(uint32_t refusal)
@@ -156,6 +164,9 @@ static inline const char *colorgrad_message(uint32_t refusal)
     case COLORGRAD_UNWRITABLE: return "a number of the list cannot be written, or it does not run from 0 to 1";
     case COLORGRAD_OTHER_THRESHOLD: return "the record was sampled with another threshold or on another domain";
     case COLORGRAD_NOT_SHOWN: return "two stops that follow each other do not show what lies between them: colours beyond 16,384";
+    case COLORGRAD_BAD_LIST: return "the list is not 2 to 4,609 stops, finite and never falling, from where the ramp starts to where it ends";
+    case COLORGRAD_BAD_DEPTHS: return "there are no depths, or one is not finite, outside the domain of the ramp, or below the depth before it";
+    case COLORGRAD_BAD_STEP: return "the step is not finite or is below 0";
     default: return "no such refusal";
     }
 }
@@ -229,6 +240,14 @@ typedef struct {
     size_t colours_length;
 } ColorgradList;
 
+/* Depths to ask about, and where a byte for each goes. */
+typedef struct {
+    const float *depths;
+    size_t depths_length;
+    uint8_t *faults;
+    size_t faults_length;
+} ColorgradDepths;
+
 /* An edit, of a sort: what the sort does not name is not read. colorgrad_recolour, .._move, .._add, .._remove make one. */
 typedef struct {
     ColorgradSort sort;
@@ -270,6 +289,12 @@ static inline ColorgradRecord colorgrad_record(ColorgradRecordRoom *room)
 static inline ColorgradList colorgrad_list(ColorgradListRoom *room)
 {
     ColorgradList made = {room->places, COLORGRAD_MOST_POINTS, room->colours, 4 * COLORGRAD_MOST_POINTS};
+    return made;
+}
+
+static inline ColorgradDepths colorgrad_depths(const float *depths, uint8_t *faults, size_t n)
+{
+    ColorgradDepths made = {depths, n, faults, n};
     return made;
 }
 
@@ -361,6 +386,12 @@ typedef struct {
 } ColorgradJudged;
 
 typedef struct {
+    uint32_t refusal;
+    size_t moved, close, merged; /* how many depths have each fault */
+    size_t first_merged;         /* counted from 0; the number of depths where none is */
+} ColorgradApart;
+
+typedef struct {
     bool is_number;
     float value;
 } ColorgradToken;
@@ -381,6 +412,8 @@ extern "C" {
 #define COLORGRAD_OF_RAMP(x) (uint32_t)(x).kind, COLORGRAD_OF_SEGMENTS(x)
 #define COLORGRAD_OF_RECORD(x) (x).rows, (x).rows_length, (x).counts, (x).counts_length, (x).marks, (x).marks_length
 #define COLORGRAD_OF_LIST(x) (x).places, (x).places_length, (x).colours, (x).colours_length
+#define COLORGRAD_OF_DEPTHS(x) (x).depths, (x).depths_length
+#define COLORGRAD_OF_FAULTS(x) (x).faults, (x).faults_length
 #define COLORGRAD_OF_EDIT(x) (uint32_t)(x).sort, (x).stop, (x).position, (x).colour
 
 /* ---- ramps */
@@ -481,7 +514,8 @@ static inline ColorgradListed colorgrad_ramp_thin(ColorgradRamp ramp, float thre
  * below 2^127 in size, nor a smoothstep or sharp one with channels up to a sixth of FLT_MAX.
  *
  * A band of colour that is narrower than half a cell, a 72nd of the domain, can lie between the points that are looked at:
- * the list does not show it, whatever the threshold (README, 'What a list can lose'). Lists that keep their word, below, do. */
+ * the list does not show it, whatever the threshold (README, 'What a list can lose'). Lists that keep their word, below, do;
+ * colorgrad_ramp_apart tells of any list. */
 static inline ColorgradListed colorgrad_ramp_flatten(ColorgradRamp ramp, float threshold, ColorgradRecord record,
                                                      ColorgradList list)
 {
@@ -592,6 +626,22 @@ static inline ColorgradJudged colorgrad_ramp_judge(ColorgradRamp ramp, float thr
     return colorgrad_judge(COLORGRAD_OF_RAMP(ramp), threshold, COLORGRAD_OF_STOPS(list));
 }
 
+/* Which depths became one in such a list. The judge looks at the points of a sampling, and says yes to a list that lost a
+ * whole band between two of them; this call looks at the depths that it is asked about. Differences are in the threshold's
+ * measure, of the colours taken into 0..1. A depth gets COLORGRAD_MOVED unless the list's colour there differs from the ramp's
+ * by at most the threshold that colorgrad_threshold gives; COLORGRAD_CLOSE unless the ramp's colours at the depth before and
+ * there differ by more than the step; and, where it is not close, COLORGRAD_MERGED unless the list's two do. The first depth
+ * has none before it, and can only have moved. A difference that is not a number is a fault. What lies past the last byte
+ * stays. Refused with 1 to 4, of the ramp; 22, a list that the judge turns down before it asks for colours; 23, depths: none,
+ * or one that is not finite, outside min..max, or below the depth before it; 24, a step that is not finite, or below 0: the
+ * bytes stay as they were; with 7, fewer bytes than depths: all of them are set to zero. */
+static inline ColorgradApart colorgrad_ramp_apart(ColorgradRamp ramp, float threshold, float step, ColorgradStops list,
+                                                  ColorgradDepths depths)
+{
+    return colorgrad_apart(COLORGRAD_OF_RAMP(ramp), threshold, step, COLORGRAD_OF_DEPTHS(depths),
+                           COLORGRAD_OF_STOPS(list), COLORGRAD_OF_FAULTS(depths));
+}
+
 /* ---- the tool, and the leaves below it (colorgrad_calls.h)
  *
  * colorgrad_desk: what the tool `flatten` prints for an input, how many bytes. They are written to the start of output where
@@ -615,6 +665,8 @@ static inline ColorgradToken colorgrad_token(const uint8_t *text, size_t text_le
 #undef COLORGRAD_OF_RAMP
 #undef COLORGRAD_OF_RECORD
 #undef COLORGRAD_OF_LIST
+#undef COLORGRAD_OF_DEPTHS
+#undef COLORGRAD_OF_FAULTS
 #undef COLORGRAD_OF_EDIT
 
 #ifdef __cplusplus

@@ -117,6 +117,13 @@ uint32_t colorgrad_judge_told(uint32_t kind, const float *positions, size_t posi
                               const float *places, size_t places_length, const float *colours, size_t colours_length,
                               size_t *told, size_t told_length, float *t, size_t t_length);
 
+/* faults: a byte for each depth; told: how many moved, are close, are merged, and the first merged one */
+uint32_t colorgrad_apart_told(uint32_t kind, const float *positions, size_t positions_length, const float *channels,
+                              size_t channels_length, const uint8_t *codes, size_t codes_length, float threshold,
+                              float step, const float *depths, size_t depths_length, const float *places,
+                              size_t places_length, const float *colours, size_t colours_length, uint8_t *faults,
+                              size_t faults_length, size_t *told, size_t told_length);
+
 /* ---- edits: sort, stop, position, red, green, blue, alpha */
 
 /* told: evaluations */

@@ -1,7 +1,8 @@
-/* Guineaplume: the calls of version 0.1.0 and those of lists that keep their word, each argument by itself, answering
- * structs. colorgrad.h includes this header, and says what each does and what a refusal leaves: of colorgrad_flatten at colorgrad_ramp_flatten, and so on; of colorgrad_sharp
- * at colorgrad_build_sharp, of colorgrad_read at colorgrad_read_segments, of colorgrad_write_ggr at colorgrad_write_stops, and
- * of colorgrad_refresh at colorgrad_ramp_edit, since it is an edit of a colour. A record that is const is lent by these alone. */
+/* Guineaplume: the calls of version 0.1.0, those of lists that keep their word and that on depths, each argument by itself,
+ * answering structs. colorgrad.h includes this header, and says what each does and what a refusal leaves: of
+ * colorgrad_flatten at colorgrad_ramp_flatten, and so on; of colorgrad_sharp at colorgrad_build_sharp, of colorgrad_read at
+ * colorgrad_read_segments, of colorgrad_write_ggr at colorgrad_write_stops, and of colorgrad_refresh at colorgrad_ramp_edit,
+ * since it is an edit of a colour. A record that is const is lent by these alone. */
 #ifndef COLORGRAD_H
 #error "include colorgrad.h"
 #endif
@@ -181,6 +182,21 @@ static inline ColorgradJudged colorgrad_judge(uint32_t kind, const float *positi
                                             told, 4, &t, 1);
     ColorgradJudged judged = {refusal, (uint32_t)told[0], told[1], told[2], told[3], t};
     return judged;
+}
+
+static inline ColorgradApart colorgrad_apart(uint32_t kind, const float *positions, size_t positions_length,
+                                             const float *channels, size_t channels_length, const uint8_t *codes,
+                                             size_t codes_length, float threshold, float step, const float *depths,
+                                             size_t depths_length, const float *places, size_t places_length,
+                                             const float *colours, size_t colours_length, uint8_t *faults,
+                                             size_t faults_length)
+{
+    size_t told[4] = {0, 0, 0, 0};
+    uint32_t refusal = colorgrad_apart_told(kind, positions, positions_length, channels, channels_length, codes,
+                                            codes_length, threshold, step, depths, depths_length, places,
+                                            places_length, colours, colours_length, faults, faults_length, told, 4);
+    ColorgradApart apart = {refusal, told[0], told[1], told[2], told[3]};
+    return apart;
 }
 
 /* ---- edits */

@@ -28,7 +28,7 @@ pub fn run(options: &Options) {
     let unit = if count::output().is_some() { "instructions" } else { "ns" };
     println!("| call | beside | ours, {unit} | Rust, {unit} | ratio |");
     println!("|---|---|---|---|---|");
-    let tables: [(&str, fn(&mut Random)); 9] = [
+    let tables: [(&str, fn(&mut Random)); 10] = [
         ("root", roots),
         ("token", tokens),
         ("paint", paint),
@@ -37,6 +37,7 @@ pub fn run(options: &Options) {
         ("flatten", flatten),
         ("growth", growth),
         ("within", weighing::table),
+        ("apart", weighing::depths),
         ("refresh", typing::table),
     ];
     for (name, table) in tables {

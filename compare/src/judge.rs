@@ -92,27 +92,32 @@ fn name(verdict: Verdict) -> &'static str {
 
 /// The verdict by document 02 (xi), of a ramp that is not refused and has these colours.
 pub fn verdict(domain: (f32, f32), threshold: f32, list: &List, ramp: &dyn Fn(f32) -> [f32; 4]) -> Verdict {
-    let n = list.positions.len();
-    if !(2..=MOST_POINTS).contains(&n) || list.channels.len() != 4 * n {
-        return Verdict::WrongLength;
-    }
-    for i in 0..n {
-        let finite = list.positions[i].is_finite() && list.channels[4 * i..4 * i + 4].iter().all(|c| c.is_finite());
-        if !finite || i > 0 && list.positions[i] < list.positions[i - 1] {
-            return Verdict::BadStop(i);
-        }
-    }
-    if list.positions[0] != domain.0 {
-        return Verdict::WrongFirst;
-    }
-    if list.positions[n - 1] != domain.1 {
-        return Verdict::WrongLast;
+    if let Some(fault) = fault_of_shape(domain, list) {
+        return fault;
     }
     let far = |p: &Looked| p.distance.is_nan() || p.distance > oracle::clamped(threshold);
     match looked_at(domain, threshold, list, ramp).into_iter().find(far) {
         Some(Looked { place: (row, index), t, .. }) => Verdict::TooFar(row, index, t.to_bits()),
         None => Verdict::Yes,
     }
+}
+
+/// What is wrong with a list before its colours are asked for.
+pub fn fault_of_shape(domain: (f32, f32), list: &List) -> Option<Verdict> {
+    let n = list.positions.len();
+    if !(2..=MOST_POINTS).contains(&n) || list.channels.len() != 4 * n {
+        return Some(Verdict::WrongLength);
+    }
+    for i in 0..n {
+        let finite = list.positions[i].is_finite() && list.channels[4 * i..4 * i + 4].iter().all(|c| c.is_finite());
+        if !finite || i > 0 && list.positions[i] < list.positions[i - 1] {
+            return Some(Verdict::BadStop(i));
+        }
+    }
+    if list.positions[0] != domain.0 {
+        return Some(Verdict::WrongFirst);
+    }
+    (list.positions[n - 1] != domain.1).then_some(Verdict::WrongLast)
 }
 
 /// Every point of a fresh sampling, and then max, with how far a sound list is off there.
@@ -171,7 +176,7 @@ pub fn own_list(ramp: &Ramp, threshold: f32) -> Option<List> {
 }
 
 /// A list from elsewhere: the ramp's own stops, our own list disturbed, or any.
-fn another(random: &mut Random, ramp: &Ramp, own: Option<List>) -> List {
+pub fn another(random: &mut Random, ramp: &Ramp, own: Option<List>) -> List {
     let mut list = match (own, random.below(4)) {
         (Some(own), 0..=2) => own,
         (None, _) if random.one_in(2) => List { positions: vec![0.0, 1.0], channels: vec![0.5; 8] },

@@ -53,14 +53,14 @@ pub fn run(options: &Options) -> Vec<Tally> {
 }
 
 /// Every kind in turn, and sinusoidal segments.
-fn any_ramp(random: &mut Random, case: u64) -> Ramp {
+pub fn any_ramp(random: &mut Random, case: u64) -> Ramp {
     match KINDS.get(case as usize / 2 % (KINDS.len() + 1)) {
         Some(kind) => random_or_spoilt(random, *kind),
         None => sine::random_ramp(random),
     }
 }
 
-fn random_hold(random: &mut Random, threshold: f32) -> f32 {
+pub fn random_hold(random: &mut Random, threshold: f32) -> f32 {
     match random.below(8) {
         0 => random.pick(&[f32::NAN, f32::INFINITY, f32::NEG_INFINITY]),
         1 => random.pick(&[0.0, -1.0, 1.0e-9, 0.001, 0.001f32.next_down(), 0.001f32.next_up()]),
@@ -72,7 +72,7 @@ fn random_hold(random: &mut Random, threshold: f32) -> f32 {
 }
 
 /// Rubbish, another ramp's record, or one that is refused; with this ramp's words, but now and then.
-fn any_record(random: &mut Random, ramp: &Ramp, threshold: f32) -> Record {
+pub fn any_record(random: &mut Random, ramp: &Ramp, threshold: f32) -> Record {
     let mut record = random_record(random, ramp, threshold);
     if early(ramp) == 0 && random.one_in(3) {
         let mut stale = ramp.clone();
@@ -89,7 +89,7 @@ fn any_record(random: &mut Random, ramp: &Ramp, threshold: f32) -> Record {
 }
 
 /// Refusals 1 to 5 and 20, which change nothing.
-fn refused(ramp: &Ramp, threshold: f32, record: &Record) -> u32 {
+pub fn refused(ramp: &Ramp, threshold: f32, record: &Record) -> u32 {
     let number = early(ramp);
     let is_whole = record.rows.len() == CELLS * ROW && record.counts.len() == CELLS && record.marks.len() == MARKS;
     let counts = || record.counts.iter().all(|n| (1..=ROW).contains(&(*n as usize)));

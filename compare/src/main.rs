@@ -1,5 +1,6 @@
 //! Compares the library with the published Rust, and times both.
 
+mod apart;
 mod bench;
 // the exports, declared once in the repository; not all of them are compared here
 #[allow(dead_code)]
@@ -17,9 +18,11 @@ mod judge;
 mod limits;
 mod list_limits;
 mod lists;
+mod lists_apart;
 mod lists_within;
 mod many;
 mod marks;
+mod merged;
 mod options;
 mod oracle;
 mod ordinary;
@@ -33,11 +36,13 @@ mod refused;
 mod report;
 mod roots;
 mod sample;
+mod sample_within;
 mod sharp;
 mod shown;
 mod sine;
 mod sine_lists;
 mod smallest;
+mod sorts;
 mod steps;
 mod texts;
 mod tokens;
@@ -54,16 +59,17 @@ use std::path::Path;
 use std::process::ExitCode;
 
 const USAGE: &str = "compare COMMAND [N] [--seed S] [--case I]
-  roots tokens colours sine waves hues sharp texts counts torn lists refresh edits marks many promise steps numerals written judge within
+  roots tokens colours sine waves hues sharp texts counts torn lists refresh edits marks many promise steps numerals written judge within apart
                      one comparison, of N inputs or at its full size
   all [PERCENT]      every comparison, at its full size or at that part of it
   differences        the smallest inputs of docs/DIFFERENCES.md, with the Rust's answers and ours
   gimp FOLDER [N]    N lists written there as .ggr files (200), for compare/gimp.py
   files FOLDER       the .ggr files in it, as compare/fetch gets them
-  bench [TABLE]      times beside the Rust's: root token paint files read flatten growth within refresh
+  bench [TABLE]      times beside the Rust's: root token paint files read flatten growth within apart refresh
   count [TABLE]      instructions in place of times, by valgrind's callgrind
   own [N] [FOLDER]   how many of our own lists are turned down, of N random ramps and of the .ggr files in FOLDER
   word [N] [FOLDER]  lists that keep their word beside the published ones, of N ramps of each sort (2,000) and of those files
+  merged [N] [FOLDER] how many lists show two depths as one, published ones and those that keep their word, of the same ramps
   typing             request (x): how much of a fresh flattening a keystroke is, and whether its two figures hold
   shown FILE ..      the colours of .ggr files at 256 points, as text, for compare/gimp_colours.py
   sample FOLDER      the stored answers of the program replay, as FOLDER/stdin and FOLDER/stdout";
@@ -71,7 +77,7 @@ const USAGE: &str = "compare COMMAND [N] [--seed S] [--case I]
 type Comparison = (&'static str, fn(&Options) -> Vec<Tally>, u64);
 
 /// Each comparison with its full size.
-const COMPARISONS: [Comparison; 21] = [
+const COMPARISONS: [Comparison; 22] = [
     ("roots", roots::run, 1 << 32),
     ("tokens", tokens::run, 100_000_000),
     ("colours", colours::run, 2_000_000),
@@ -93,6 +99,7 @@ const COMPARISONS: [Comparison; 21] = [
     ("written", written::lists, 100_000),
     ("judge", judge::run, 100_000),
     ("within", lists_within::run, 100_000),
+    ("apart", lists_apart::run, 100_000),
 ];
 
 fn main() -> ExitCode {
@@ -136,6 +143,7 @@ fn run(words: &[String]) -> Result<bool, String> {
         "typing" => Ok(typing::run()),
         "own" => Ok(own_lists::run(&Options::read(rest, 100_000)?)),
         "word" => Ok(word::run(&Options::read(rest, 2_000)?)),
+        "merged" => Ok(merged::run(&Options::read(rest, 2_000)?)),
         "shown" => {
             shown::run(rest, 256);
             Ok(true)

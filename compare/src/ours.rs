@@ -1,5 +1,6 @@
 //! The library under test, over this package's own ramps and records.
 
+use crate::apart;
 use crate::calls;
 use crate::judge::Verdict;
 use crate::oracle::Record;
@@ -245,6 +246,19 @@ pub fn refresh_list(
     colours: &mut [f32],
 ) -> Listed {
     edit_list(ramp, &edit.sorted(), threshold, record, places, colours)
+}
+
+/// 0 or the refusal; and what is told: how many moved, are close, are merged, and the first merged one.
+pub fn apart(
+    ramp: &Ramp,
+    asked: &apart::Asked,
+    places: &[f32],
+    colours: &[f32],
+    faults: &mut [u8],
+) -> (u32, [usize; 4]) {
+    let mut told = [UNTOLD; 4];
+    let refusal = over!(ramp, apart(asked.threshold, asked.step, &asked.depths, places, colours, faults, &mut told));
+    (refusal, told)
 }
 
 /// What is said of a list, or the number of the ramp's refusal.

@@ -1,4 +1,5 @@
-//! The stored answers that the program `replay` runs: all of them the Rust's, or document 01's refusals.
+//! The stored answers that the program `replay` runs: all of them the Rust's, or document 01's refusals, but for the lists that
+//! keep their word, which `sample_within` works out.
 //! A word is eight hexadecimal digits and a line end; README.md has the records.
 
 use crate::edits::{self, changed, ADD, COLOUR, SORTS};
@@ -11,6 +12,7 @@ use crate::ours::{Edit, Sorted};
 use crate::ramps::{random_or_spoilt, random_points, Kind, Ramp, KINDS, MOST_SEGMENTS};
 use crate::random::Random;
 use crate::refresh::{self, REFRESHED};
+use crate::sample_within;
 use crate::sharp;
 use crate::texts;
 use std::collections::BTreeSet;
@@ -54,12 +56,12 @@ const MANY: [(usize, Spacing); 3] = [(40, Spacing::Even), (300, Spacing::Even), 
 
 /// What is longer is left out, but for these and for one ramp of each size that is the most.
 const LONG_RAMP: usize = 12;
-const LONG_LIST: usize = 32;
+pub const LONG_LIST: usize = 32;
 const LONG_TEXT: usize = 380;
 
 /// How the program lends a record and outputs: in full, a record too short, outputs for two stops.
 #[derive(Clone, Copy, PartialEq)]
-enum Room {
+pub enum Room {
     Full,
     ShortRecord,
     Small,
@@ -67,13 +69,13 @@ enum Room {
 
 impl Room {
     /// The lengths of positions and channels.
-    fn outputs(self) -> (usize, usize) {
+    pub fn outputs(self) -> (usize, usize) {
         (if self == Room::Small { 2 } else { MOST_POINTS }, 4 * MOST_POINTS)
     }
 }
 
 #[derive(Default)]
-struct Words {
+pub struct Words {
     text: String,
     /// Records of the sort at hand, those of them that are not refused, and what of all is compared.
     records: u64,
@@ -85,20 +87,20 @@ struct Words {
 }
 
 impl Words {
-    fn word(&mut self, n: u32) {
+    pub fn word(&mut self, n: u32) {
         writeln!(self.text, "{n:08x}").expect("a string takes it");
     }
 
-    fn size(&mut self, n: usize) {
+    pub fn size(&mut self, n: usize) {
         self.word(u32::try_from(n).expect("a small number"));
     }
 
     /// Every not-a-number is stored as one.
-    fn float(&mut self, x: f32) {
+    pub fn float(&mut self, x: f32) {
         self.word(if x.is_nan() { 0x7fc0_0000 } else { x.to_bits() });
     }
 
-    fn floats(&mut self, list: &[f32]) {
+    pub fn floats(&mut self, list: &[f32]) {
         list.iter().for_each(|x| self.float(*x));
     }
 
@@ -106,7 +108,7 @@ impl Words {
         list.iter().for_each(|b| self.word(*b as u32));
     }
 
-    fn ramp(&mut self, ramp: &Ramp) {
+    pub fn ramp(&mut self, ramp: &Ramp) {
         self.word(ramp.kind.code());
         self.size(ramp.positions.len());
         self.size(ramp.channels.len());
@@ -137,11 +139,16 @@ impl Words {
         let kept = List { stops: Vec::new(), evaluations: 0 };
         let (number, positions, channels) = emitted(if refusal == 0 { list } else { &kept }, room.outputs());
         let refusal = if refusal == 0 { number } else { refusal };
-        let stops = if refusal == 0 { list.stops.len() } else { 0 };
+        let told = if refusal == 0 { (list.stops.len(), list.evaluations) } else { (0, 0) };
+        self.listed(refusal, told, &positions, &channels);
+    }
+
+    /// An answer, its stops and evaluations, and the start of the outputs that it leaves.
+    pub fn listed(&mut self, refusal: u32, (stops, evaluations): (usize, usize), positions: &[f32], channels: &[f32]) {
         let shown = (stops + 1).min(positions.len());
         self.word(refusal);
         self.size(stops);
-        self.size(if refusal == 0 { list.evaluations } else { 0 });
+        self.size(evaluations);
         self.size(shown);
         self.floats(&positions[..shown]);
         self.size(4 * shown);
@@ -150,7 +157,7 @@ impl Words {
     }
 
     /// The points that a record's counts name, each after its place, then the counts and the words.
-    fn record(&mut self, record: &Record) {
+    pub fn record(&mut self, record: &Record) {
         let points = |cell: usize| (0..(record.counts[cell] as usize).min(ROW)).map(move |i| cell * ROW + i);
         let places: Vec<usize> = (0..CELLS).flat_map(points).collect();
         self.size(places.len());
@@ -174,7 +181,7 @@ impl Words {
     }
 
     /// One record more, of so many answers.
-    fn record_done(&mut self, refusal: u32, answers: u64) {
+    pub fn record_done(&mut self, refusal: u32, answers: u64) {
         self.records += 1;
         self.answered += (refusal == 0) as u64;
         self.refusals.insert(refusal);
@@ -182,7 +189,7 @@ impl Words {
     }
 
     /// One sort is at its end.
-    fn printed(&mut self, name: &str) {
+    pub fn printed(&mut self, name: &str) {
         let n = std::mem::take(&mut self.answers);
         let (records, answered) = (std::mem::take(&mut self.records), std::mem::take(&mut self.answered));
         let refusals: Vec<u32> = std::mem::take(&mut self.refusals).into_iter().filter(|n| *n != 0).collect();
@@ -200,6 +207,7 @@ pub fn run(options: &Options, folder: &Path) -> std::io::Result<()> {
     refreshed(options, &mut words);
     gimp(options, &mut words);
     built(options, &mut words);
+    sample_within::run(options, &mut words);
     std::fs::write(folder.join("stdin"), &words.text)?;
     std::fs::write(folder.join("stdout"), &words.printed)
 }
@@ -212,7 +220,7 @@ fn items(ramp: &Ramp) -> usize {
     }
 }
 
-fn short(random: &mut Random, kind: Kind) -> Ramp {
+pub fn short(random: &mut Random, kind: Kind) -> Ramp {
     loop {
         let ramp = random_or_spoilt(random, kind);
         if items(&ramp) <= LONG_RAMP {
@@ -260,7 +268,7 @@ fn list_of(ramp: &Ramp, threshold: f32) -> List {
 }
 
 /// Whether a case may have this refusal: the first ones have theirs.
-fn is_wanted(wanted: &[u32], case: u64, refusal: u32) -> bool {
+pub fn is_wanted(wanted: &[u32], case: u64, refusal: u32) -> bool {
     wanted.get(case as usize).is_none_or(|number| *number == refusal)
 }
 
@@ -313,7 +321,7 @@ fn close_colours(options: &Options, stops: usize, spacing: Spacing) -> Ramp {
 }
 
 /// A record of few points: each row has one or two, some of them rubbish.
-fn few_points(random: &mut Random, ramp: &Ramp, threshold: f32) -> Record {
+pub fn few_points(random: &mut Random, ramp: &Ramp, threshold: f32) -> Record {
     let mut record = random_record(random, ramp, threshold);
     record.counts.iter_mut().for_each(|count| *count = 1 + *count % 2);
     if random.one_in(6) {

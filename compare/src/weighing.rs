@@ -1,6 +1,9 @@
-//! Times of lists that keep their word, beside those that thinning makes of the same records.
+//! Times of lists that keep their word, beside those that thinning makes of the same records; and of depths asked of a list,
+//! beside a verdict on it.
 
+use crate::apart;
 use crate::bench::{row, timed, used};
+use crate::judge::own_list;
 use crate::lists::MOST_POINTS;
 use crate::oracle::Record;
 use crate::ours;
@@ -64,4 +67,26 @@ fn beside(name: &str, ramp: &Ramp, asked: Asked) {
         || used(ours::thin(ramp, asked.threshold, &record, &mut others.0, &mut others.1)),
     );
     row(&format!("thin_within, {name}"), "our own thin", ours, thin);
+}
+
+/// `apart` of published lists at the ramp's own positions, beside `judge` of the same lists.
+pub fn depths(random: &mut Random) {
+    for kind in [Kind::Linear, Kind::Smoothstep, Kind::CatmullRom] {
+        asked(&format!("{STOPS} in turn, {}", kind.name()), &striped(kind, STOPS));
+        let shades: Vec<f32> = (0..MOST_STOPS).map(|_| random.unit()).collect();
+        let any = |x: f32| shades[(x * (MOST_STOPS - 1) as f32).round() as usize];
+        asked(&format!("2,048 random, {}", kind.name()), &grays(kind, MOST_STOPS, any));
+    }
+}
+
+fn asked(name: &str, ramp: &Ramp) {
+    let asked = apart::Asked { threshold: 0.007, step: 0.02, depths: ramp.positions.clone() };
+    let list = own_list(ramp, asked.threshold).expect("a list");
+    let mut faults = vec![0; asked.depths.len()];
+    let (ours, judge) = timed(
+        REPETITIONS,
+        || used(ours::apart(ramp, &asked, &list.positions, &list.channels, &mut faults)),
+        || used(ours::judge(ramp, asked.threshold, &list.positions, &list.channels)),
+    );
+    row(&format!("apart, {name}"), "our own judge", ours, judge);
 }

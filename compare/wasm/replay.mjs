@@ -1,6 +1,7 @@
 #!/usr/bin/env node
-// replay.mjs: the stored answers of the published Rust, as ../README.md has their form, asked of the library as WebAssembly.
-// It prints what the program `replay` prints, and its status is 1 where that is not what crates/replay/stdout has.
+// replay.mjs: the stored answers of the published Rust, and the lists that keep their word, as ../README.md has their form, asked
+// of the library as WebAssembly. It prints what the program `replay` prints of these, and its status is 1 where that is not
+// how crates/replay/stdout begins.
 import { readFileSync } from 'node:fs';
 import { join } from 'node:path';
 import { call, CELLS, copy, lend, MARKS, ROOT, ROWS, takeBack } from './library.mjs';
@@ -61,12 +62,16 @@ function lists() {
     return listed(call('flatten_told', ...of, threshold, ...lent.record, ...lent.outputs, lent.told), lent);
 }
 
-function thinned() {
-    const [of, threshold, lent] = [ramp(), float(), room(0, 0)];
-    const [rows, counts, marks] = lent.record;
+/** The stored points, counts and words of a record. */
+function store([rows, counts, marks]) {
     for (let left = word(); left > 0; left--) rows[word()] = float();
     counts.set(words(CELLS));
     marks.set(words(MARKS));
+}
+
+function thinned() {
+    const [of, threshold, lent] = [ramp(), float(), room(0, 0)];
+    store(lent.record);
     return listed(call('thin_told', ...of, threshold, ...lent.record, ...lent.outputs, lent.told), lent);
 }
 
@@ -98,6 +103,17 @@ function sharp() {
     return [same([refusal, ...numbersOf(told)], words(2)), ...outputs.map(output => startsAs(output))];
 }
 
+function within() {
+    const [of, threshold, hold, lent] = [ramp(), float(), float(), room(0)];
+    return listed(call('flatten_within_told', ...of, threshold, hold, ...lent.record, ...lent.outputs, lent.told), lent);
+}
+
+function stale() {
+    const [of, lent, threshold, hold] = [ramp(), room(word(), 0), float(), float()];
+    store(lent.record);
+    return listed(call('thin_within_told', ...of, threshold, hold, ...lent.record, ...lent.outputs, lent.told), lent);
+}
+
 /** As many records of one sort as the next word says. */
 function replayed(sort) {
     const equal = [];
@@ -108,6 +124,6 @@ function replayed(sort) {
     return `${sort.name} ${equal.length} equal ${equal.filter(Boolean).length}\n`;
 }
 
-const printed = [colours, lists, thinned, refreshed, texts, sharp].map(replayed).join('');
+const printed = [colours, lists, thinned, refreshed, texts, sharp, within, stale].map(replayed).join('');
 process.stdout.write(printed);
-process.exit(printed === readFileSync(join(FOLDER, 'stdout'), 'latin1') ? 0 : 1);
+process.exit(readFileSync(join(FOLDER, 'stdout'), 'latin1').startsWith(printed) ? 0 : 1);

@@ -116,6 +116,7 @@ static void short_numbers(void)
 {
     size_t *told = rubbish();
     float stop[2] = {7.0f, 7.0f};
+    uint8_t faults[2];
     expect(colorgrad_flatten_told(LENT, 0.01f, RECORD(record), LIST(list), told, 1) == 0, "a list");
     expect(told[0] == STOPS && told[1] == RUBBISH, "its stops, and not the evaluations");
     expect(colorgrad_thin_told(LENT, 0.01f, RECORD(record), LIST(other_list), NULL, 0) == 0, "a list of which nothing is told");
@@ -126,6 +127,11 @@ static void short_numbers(void)
     told = rubbish();
     expect(colorgrad_judge_told(LENT, 0.01f, list.places, STOPS, list.colours, 4 * STOPS, told, 1, NULL, 0) == 0, "a verdict");
     expect(told[0] == COLORGRAD_YES && told[1] == RUBBISH, "yes, and nothing past it");
+    expect(colorgrad_apart_told(LENT, 0.01f, 0.02f, positions, 2, list.places, STOPS, list.colours, 4 * STOPS, faults, 2, told,
+                                3) == 0,
+           "depths");
+    expect(told[2] == 0 && told[3] == RUBBISH && faults[1] == 0, "none merged, and not the first");
+    told = rubbish();
     expect(colorgrad_read_told((const uint8_t *)"x", 1, 0, 0, 0, 0, 0, 0, 0, 0, NULL, 0, NULL, 0, NULL, 0, told, 1) ==
                COLORGRAD_BAD_HEADER,
            "no GIMP text");
@@ -201,6 +207,19 @@ static void long_within(void)
     expect(colorgrad_hold(0.5f, 0.01f) == 0.01f, "no hold above the threshold");
 }
 
+/* Of a list of the ends alone the stop between them has moved. */
+static void long_apart(void)
+{
+    const float ends[2] = {-1.0f, 2.0f}, colours[8] = {0.1f, 0.2f, 0.3f, 0.4f, 0.0f, 0.5f, 1.0f, 1.0f};
+    uint8_t faults[STOPS + 1] = {7, 7, 7, 7}, told[STOPS] = {7, 7, 7};
+    ColorgradApart one = colorgrad_apart(LENT, 0.01f, 0.02f, positions, STOPS, ends, 2, colours, 8, faults, STOPS + 1);
+    ColorgradApart other = colorgrad_ramp_apart(ramp(), 0.01f, 0.02f, colorgrad_stops(ends, colours, 2),
+                                                colorgrad_depths(positions, told, STOPS));
+    expect(one.refusal == 0 && one.moved == 1 && one.merged == 0 && one.first_merged == STOPS, "a depth moved");
+    expect(memcmp(faults, told, STOPS) == 0 && faults[1] == COLORGRAD_MOVED && faults[STOPS] == 7, "its byte");
+    expect(other.moved == one.moved && other.close == one.close && other.first_merged == STOPS, "the same over structs");
+}
+
 /* Each sort of edit by the long call, and over structs: the record and the list are the same. */
 static void long_edits(void)
 {
@@ -257,6 +276,7 @@ int main(void)
     long_ramps();
     long_lists();
     long_within();
+    long_apart();
     long_edits();
     long_texts();
     puts(wrong ? "calls: WRONG" : "calls: the headers are the library's");

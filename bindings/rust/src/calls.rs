@@ -87,6 +87,10 @@ exports! {
         kind: u32, positions: &[f32], channels: &[f32], codes: &[u8], threshold: f32,
         places: &[f32], colours: &[f32], told: &mut [usize], t: &mut [f32]
     ) -> u32;
+    apart = colorgrad_apart_told(
+        kind: u32, positions: &[f32], channels: &[f32], codes: &[u8], threshold: f32, step: f32,
+        depths: &[f32], places: &[f32], colours: &[f32], faults: &mut [u8], told: &mut [usize]
+    ) -> u32;
     edit = colorgrad_edit_told(
         kind: u32, positions: &[f32], channels: &[f32], codes: &[u8],
         sort: u32, stop: usize, position: f32, r: f32, g: f32, b: f32, a: f32, threshold: f32,

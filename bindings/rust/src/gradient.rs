@@ -2,7 +2,7 @@
 
 use crate::color::{flat, unflat};
 use crate::lent::{self, Kind, MOST_SEGMENTS};
-use crate::{Color, Edit, List, ParseGgrError, Record, Refusal, Stops, Verdict};
+use crate::{Apart, Color, Edit, List, ParseGgrError, Record, Refusal, Stops, Verdict};
 
 /// What passed its check is not refused.
 pub(crate) fn taken<T>(answer: Result<T, Refusal>) -> T {
@@ -154,6 +154,24 @@ pub trait Gradient {
     /// what is wrong if not. Refused with 4 where the domain reaches beyond 1e38. Examples are at [`Verdict`].
     fn judge(&self, threshold: f32, positions: &[f32], colors: &[Color]) -> Result<Verdict, Refusal> {
         self.lent().judge(threshold, positions, &flat(colors))
+    }
+
+    /// Which depths became one in a list of stops, whoever made it. At each depth the list's colour is held against the ramp's
+    /// by the threshold, and both are asked whether they tell it from the depth before: whether the two colours differ by more
+    /// than the step. Refused with 4; 22 where the list is none that [`judge`](Gradient::judge) would ask for colours; 23 where
+    /// there are no depths, or one is not finite, outside the domain, or below the one before; 24 where the step is not finite
+    /// or below 0. An example is at [`Apart`].
+    fn apart(
+        &self,
+        threshold: f32,
+        step: f32,
+        depths: &[f32],
+        positions: &[f32],
+        colors: &[Color],
+    ) -> Result<Apart, Refusal> {
+        let mut faults = vec![0; depths.len()];
+        let told = self.lent().apart(threshold, step, depths, positions, &flat(colors), &mut faults)?;
+        Ok(Apart::told(told, depths, &faults))
     }
 }
 

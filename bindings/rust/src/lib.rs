@@ -32,13 +32,15 @@
 //! `linearize` can leave a thin band out. Where every stop of the ramp must be seen, [`Gradient::flatten_within`] makes a list
 //! that keeps its word.
 //!
-//! A list of stops from elsewhere is held against a ramp by [`Gradient::judge`], which answers a [`Verdict`].
+//! A list of stops from elsewhere is held against a ramp by [`Gradient::judge`], which answers a [`Verdict`]; and
+//! [`Gradient::apart`] says which depths became one in it, in plain words.
 //!
 //! The module [`lent`] has the same calls on slices of the caller's, with nothing allocated.
 
 #![deny(missing_docs)]
 #![deny(unsafe_op_in_unsafe_fn)]
 
+mod apart;
 mod calls;
 mod color;
 mod edit;
@@ -50,6 +52,7 @@ mod refusal;
 mod steps;
 mod verdict;
 
+pub use apart::{Apart, Depth};
 pub use color::Color;
 pub use edit::Edit;
 pub use gradient::{

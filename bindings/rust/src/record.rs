@@ -2,7 +2,7 @@
 
 use crate::color::{flat, unflat};
 use crate::lent::{self, CELLS, MARKS, MOST_POINTS, MOST_WRITTEN, ROWS};
-use crate::{Color, LinearGradient, Refusal};
+use crate::{Apart, Color, Gradient, LinearGradient, Refusal};
 
 /// How finely each of 36 cells of a ramp's domain has to be cut, at one threshold.
 ///
@@ -155,6 +155,17 @@ impl List {
         let bytes = lent::write_ggr(&self.positions, &flat(&self.colors), &mut text)?;
         text.truncate(bytes);
         Ok(String::from_utf8(text).expect("what is written is ASCII"))
+    }
+
+    /// Which depths of a ramp became one in this list, as [`Gradient::apart`].
+    pub fn apart(
+        &self,
+        ramp: &(impl Gradient + ?Sized),
+        threshold: f32,
+        step: f32,
+        depths: &[f32],
+    ) -> Result<Apart, Refusal> {
+        ramp.apart(threshold, step, depths, &self.positions, &self.colors)
     }
 
     /// The list as a ramp of its own. Refused with 1 where it has more than 2,048 stops.

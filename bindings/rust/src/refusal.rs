@@ -30,7 +30,7 @@ pub enum Refusal {
     BadRecord = 5,
     /// 6: an edit of no stop that may be edited so, with a number that is not finite, or of a ramp that cannot be edited so.
     BadEdit = 6,
-    /// 7: one more colour or stop than the output has room for.
+    /// 7: one more colour or stop than the output has room for, or fewer bytes than depths.
     NoRoom = 7,
     /// 8: a stop of the list would not be finite.
     ListNotFinite = 8,
@@ -61,10 +61,17 @@ pub enum Refusal {
     /// 21: two stops of a list that keeps its word, which follow each other, do not show what lies between them: colours
     /// beyond 16,384.
     NotShown = 21,
+    /// 22: a list that is asked about depths does not have 2 to 4,609 stops, finite and never falling, or does not start and
+    /// end where the ramp does.
+    BadList = 22,
+    /// 23: no depths, or one that is not finite, outside the ramp's domain, or below the depth before it.
+    BadDepths = 23,
+    /// 24: a step that is not finite, or below 0.
+    BadStep = 24,
 }
 
 /// Every refusal, in the order of the numbers.
-const ALL: [Refusal; 21] = [
+const ALL: [Refusal; 24] = [
     Refusal::Misshapen,
     Refusal::NotFinite,
     Refusal::Falling,
@@ -86,10 +93,13 @@ const ALL: [Refusal; 21] = [
     Refusal::Unwritable,
     Refusal::OtherThreshold,
     Refusal::NotShown,
+    Refusal::BadList,
+    Refusal::BadDepths,
+    Refusal::BadStep,
 ];
 
 impl Refusal {
-    /// Its number, 1 to 21.
+    /// Its number, 1 to 24.
     pub fn number(self) -> u32 {
         self as u32
     }

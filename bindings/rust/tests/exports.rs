@@ -100,8 +100,9 @@ fn of_table() -> Vec<Export> {
 
 fn of_source() -> Vec<Export> {
     let files = fs::read_dir(Path::new(SOURCE)).expect("the library's source");
-    let texts: Vec<String> =
-        files.map(|file| fs::read_to_string(file.expect("a file").path()).expect("its text")).collect();
+    // the exports stand in the files of this folder; a folder in it has what they are made of
+    let files = files.map(|file| file.expect("a file").path()).filter(|path| path.is_file());
+    let texts: Vec<String> = files.map(|path| fs::read_to_string(path).expect("its text")).collect();
     let exports = texts.iter().flat_map(|text| text.split("pub extern \"C\" fn ").skip(1));
     sorted(exports.map(of_rust).collect())
 }

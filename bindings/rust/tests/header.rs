@@ -31,6 +31,13 @@ fn kinds_have_the_codes_of_the_header() {
 }
 
 #[test]
+fn faults_have_the_numbers_of_the_header() {
+    for (name, fault) in [("MOVED", lent::MOVED), ("CLOSE", lent::CLOSE), ("MERGED", lent::MERGED)] {
+        assert!(HEADER.lines().any(|line| line.starts_with(&format!("#define COLORGRAD_{name} {fault}u "))), "{name}");
+    }
+}
+
+#[test]
 fn limits_are_those_of_the_header() {
     for (name, limit) in [
         ("MOST_STOPS", lent::MOST_STOPS),

@@ -1,10 +1,10 @@
 -- The refusals, test by test; and what a call that is not refused was lent. Assumes nothing.
 use mathlib.Core.Path.{_≡_, refl, sym, ap, ap₂, _∙_}
-use mathlib.Core.Bool.{Bool, true, false, cond, true≢false}
+use mathlib.Core.Bool.{Bool, true, false, not, cond, _&&_, true≢false}
 use mathlib.Core.List.{List, [], _∷_}
 use Prim.Native.Nat.{ℕ, _-_, _≤_, _<_}
 use native.Mathlib.Omega.{arith}
-use borrow.Author.Tests.{lt-ltb, le-ltb}
+use borrow.Author.Tests.{not-true, lt-ltb, le-ltb, ltb-false}
 use types.Run.{OneOf, miss}
 use denote.Enum.Declared.{tagOf}
 use lib.Dec.{ltb}
@@ -12,6 +12,7 @@ use lib.ListN.{length}
 use lib.Ieee.{Float, lt}
 use lib.Ieee.Scale.{finite}
 use Rattle.float.specs.F32.{f0}
+use Rattle.float.proofs.Flags.{both-r}
 use Rattle.refusals.specs.Refusals.{noRoom, badList, badDepths, badStep}
 use Rattle.stops.specs.Lent.{Ramp}
 use Rattle.stops.specs.Stops.{posAt}
@@ -25,7 +26,7 @@ use Rattle.judge.specs.inner.Steps.{Sound}
 use Rattle.judge.specs.declared.Verdict.{Verdict}
 use Rattle.judge.specs.declared.Verdict.the-variants.{Yes, WrongLength, BadStop, WrongFirst, WrongLast, TooFar, Refused}
 use Rattle.judge.proofs.Verdict.{the-type}
-use Rattle.judge.proofs.Failing.{from-start}
+use Rattle.judge.proofs.Failing.{from-start, all-pass}
 use Rattle.judge.proofs.Shaping.{shape-sound}
 use Rattle.apart.specs.Checks.{isYes, goodList, goodDepth, firstBadDepth, goodDepths, goodStep, askedCheck, givenCheck, lentCheck, apartCheck}
 
@@ -157,6 +158,10 @@ chosen : (b : Bool) (x : Checked) (n : ℕ) → cond b x (checked.Refused n) ≡
 chosen true x n h = refl
 chosen false x n h = absurd (not-fine n h)
 
+taken : (b : Bool) (x : Checked) (n : ℕ) → cond b x (checked.Refused n) ≡ checked.Fine → x ≡ checked.Fine
+taken true x n h = h
+taken false x n h = absurd (not-fine n h)
+
 wide : (b : Bool) (n : ℕ) → cond b (checked.Refused n) checked.Fine ≡ checked.Fine → b ≡ false
 wide true n h = absurd (not-fine n h)
 wide false n h = refl
@@ -172,6 +177,19 @@ module _ (ramp : Ramp) (offer : Offer) (ds : List Float) (step : Float) where
       let k = second-fine (rampCheck ramp) (cond (goodList (minOf ramp) (maxOf ramp) offer) (askedCheck (minOf ramp) (maxOf ramp) ds step) (checked.Refused badList)) h in
       let b = chosen (goodList (minOf ramp) (maxOf ramp) offer) (askedCheck (minOf ramp) (maxOf ramp) ds step) badList k in
       shape-sound (minOf ramp) (maxOf ramp) offer refl (is-yes (shapeVerdict (minOf ramp) (maxOf ramp) offer Yes) b)
+
+  pub lent-depths : lentCheck ramp offer ds step ≡ checked.Fine → (i : ℕ) → i < length ds → goodDepth (minOf ramp) (maxOf ramp) ds i ≡ true
+  unfolding lentCheck givenCheck askedCheck goodDepths firstBadDepth
+  lent-depths h i l =
+      let lo = minOf ramp in
+      let hi = maxOf ramp in
+      let first = firstFailing (goodDepth lo hi ds) (length ds) 0 in
+      let good : Bool = ltb 0 (length ds) && not (ltb first (length ds)) in
+      let stepped : Checked = cond (goodStep step) checked.Fine (checked.Refused badStep) in
+      let k = second-fine (rampCheck ramp) (cond (goodList lo hi offer) (cond good stepped (checked.Refused badDepths)) (checked.Refused badList)) h in
+      let d = chosen good stepped badDepths (taken (goodList lo hi offer) (cond good stepped (checked.Refused badDepths)) badList k) in
+      let past = ltb-false first (length ds) (not-true (ltb first (length ds)) (both-r (ltb 0 (length ds)) (not (ltb first (length ds))) d)) in
+      all-pass (goodDepth lo hi ds) (length ds) 0 (omega (arith, past)) i (omega arith) (omega arith)
 
   module _ (room : ℕ) (h : apartCheck ramp offer ds step room ≡ checked.Fine) where
     pub fine-lent : lentCheck ramp offer ds step ≡ checked.Fine

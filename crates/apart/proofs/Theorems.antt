@@ -1,15 +1,16 @@
 -- The theorems of the call: lists with the same stops get the same answer and bytes; what a byte of 4 says; when nothing is moved. Assumes nothing.
 use mathlib.Core.Path.{_≡_, refl, sym, ap, _∙_}
-use mathlib.Core.Bool.{Bool, true, false, not, cond, true≢false}
+use mathlib.Core.Bool.{Bool, true, false, not, cond, _&&_, true≢false}
 use mathlib.Core.List.{List, [], _∷_}
 use mathlib.Core.Logic.{⊎-elim}
-use Prim.Native.Nat.{ℕ, zero, suc, _+_, _-_, _≤_, _<_}
+use Prim.Native.Nat.{ℕ, zero, suc, _+_, _-_, _%_, _≤_, _<_}
 use native.Mathlib.Omega.{arith}
 use borrow.Author.Tests.{not-true, not-false}
 use lib.Dec.{T, ltb}
 use lib.ListN.{length, getD, drop, replicate, List·getD-append}
 use lib.Ieee.{Float, lt, le}
 use lib.Ieee.Bits.{is-true}
+use lib.Ieee.Scale.{finite}
 use Rattle.float.proofs.Flags.{both-l, both-r}
 use Rattle.float.proofs.Order.{as-T}
 use Rattle.slices.specs.Joined.{joined}
@@ -20,18 +21,19 @@ use Rattle.stops.specs.Lent.{Ramp}
 use Rattle.stops.specs.Stops.{posAt}
 use Rattle.stops.specs.declared.Checked.{Checked}
 use Rattle.stops.specs.declared.Checked.the-variants as checked
-use Rattle.gradient.specs.Ramp.{minOf, maxOf, colourOf}
+use Rattle.gradient.specs.Ramp.{checkOf, minOf, maxOf, colourOf}
 use Rattle.difference.specs.Difference.{distanceOf, differs}
 use Rattle.sampling.specs.Constants.{thresholdOf}
 use Rattle.sampling.specs.Midpoints.{Gradient}
 use Rattle.sampling.specs.Sampling.{andThen}
+use Rattle.sampling.proofs.Checks.{ramp-fine}
 use Rattle.judge.specs.Lists.{Offer, sized, offeredRamp}
 use Rattle.judge.specs.Verdicts.{rampCheck, close}
 use Rattle.judge.specs.Conditions.{Near, SameStops}
 use Rattle.judge.specs.declared.Verdict.the-variants as verdict
 use Rattle.judge.proofs.Shaping.{wrong-length}
 use Rattle.judge.proofs.Stopwise.{same-or-unsized}
-use Rattle.apart.specs.Checks.{isYes, givenCheck, lentCheck, apartCheck}
+use Rattle.apart.specs.Checks.{isYes, goodDepth, givenCheck, lentCheck, apartCheck}
 use Rattle.apart.specs.Faults.{flag, howMany, isMoved, isClose, isMerged, faultOf, faultsOf}
 use Rattle.apart.specs.Answers.{toldOf, faultsOver, apartOf, bytesOf}
 use Rattle.apart.specs.Conditions.{Merged}
@@ -39,7 +41,7 @@ use Rattle.apart.specs.Promises.{TellsApart}
 use Rattle.apart.specs.declared.told.Apart.{Apart}
 use Rattle.apart.specs.declared.told.Apart.the-variants.{Told, Refused}
 use Rattle.apart.proofs.Counting.{flag-most, how-many-none, none-of}
-use Rattle.apart.proofs.Checking.{fine-lent, fine-room}
+use Rattle.apart.proofs.Checking.{lent-ramp, lent-depths, fine-lent, fine-room}
 use Rattle.apart.proofs.Answering.{answer-told}
 
 -- ---- one answer
@@ -112,6 +114,12 @@ movedOf (Refused n) = 0
 four : (a b c : Bool) → 4 ≤ flag 1 a + flag 2 b + flag 4 c → c ≡ true
 four a b true h = refl
 four a b false h = absurd (omega (arith, flag-most 1 a, flag-most 2 b))
+
+no-one : (b c : Bool) → (flag 1 false + flag 2 b + flag 4 c) % 2 ≡ 0
+no-one true true = refl
+no-one true false = refl
+no-one false true = refl
+no-one false false = refl
 
 not-so : (b : Bool) → (T b → ⊥) → b ≡ false
 not-so true n = absurd (n tt)
@@ -197,3 +205,28 @@ module _ (ramp : Ramp) (asked step : Float) (offer : Offer) (ds : List Float) wh
     unmoved-near z i l =
         as-T _ (not-false (le (distanceOf (g (posAt ds i)) (h (posAt ds i))) (thresholdOf asked))
         (none-of (isMoved g h (thresholdOf asked) step ds) (length ds) i (moved-is ∙ z) l))
+
+    -- its byte has no 1 where it is near
+    pub near-no-one : (i : ℕ) → i < length ds → Near ramp asked offer (posAt ds i) → getD is i 0 % 2 ≡ 0
+    unfolding faultOf isMoved close
+    near-no-one i l near =
+        rw (byte-at i l, is-true (le (distanceOf (g (posAt ds i)) (h (posAt ds i))) (thresholdOf asked)) near)
+        (no-one (isClose g h (thresholdOf asked) step ds i) (isMerged g h (thresholdOf asked) step ds i))
+
+    -- ---- the ramp passed its check, and each depth is within the domain
+    pub told-ramp : checkOf ramp ≡ checked.Fine
+    told-ramp = ramp-fine ramp _ _ _ (lent-ramp ramp offer ds step (fine-lent ramp offer ds step (length was) fine))
+
+    depth-good : (i : ℕ) → i < length ds → goodDepth (minOf ramp) (maxOf ramp) ds i ≡ true
+    depth-good = lent-depths ramp offer ds step (fine-lent ramp offer ds step (length was) fine)
+
+    pub depth-inside : (i : ℕ) → i < length ds → (finite (posAt ds i) ≡ true) × ((lt (posAt ds i) (minOf ramp) ≡ false) × (lt (maxOf ramp) (posAt ds i) ≡ false))
+    unfolding goodDepth
+    depth-inside i l =
+        let d = posAt ds i in
+        let a = finite d in
+        let b = not (lt d (minOf ramp)) in
+        let c = not (lt (maxOf ramp) d) in
+        let e = both-l (a && b && c) (not (lt d (posAt ds (i - 1)))) (depth-good i l) in
+        let f = both-l (a && b) c e in
+        (both-l a b f, (not-true _ (both-r a b f), not-true _ (both-r (a && b) c e)))

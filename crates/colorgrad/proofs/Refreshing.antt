@@ -10,9 +10,9 @@ use Rattle.sampling.specs.Lent.{Held}
 use Rattle.sampling.specs.Sampling.{marksOf, heldCheck, fresh, sampleHeld}
 use Rattle.linearize.specs.Desk.{flattenOutput}
 use Rattle.sampling.proofs.Words.{same-threshold}
-use Rattle.editing.specs.Edited.{edited}
+use Rattle.refresh.specs.editing.Edited.{edited}
 use Rattle.refresh.specs.RefreshDesk.{refreshCheck, renewed, refreshHeld, refreshOutput}
-use Rattle.editing.specs.declared.Edit.{Edit}
+use Rattle.refresh.specs.declared.editing.Edit.{Edit}
 use Rattle.refresh.proofs.EditChecks.{allowed, own-words, edited-sampling}
 use Rattle.refresh.proofs.Theorem as theorem
 use Rattle.colorgrad.specs.Fresh.{RefreshedIsFresh}

@@ -7,9 +7,9 @@ use Rattle.sampling.specs.Lent.{Held}
 use Rattle.linearize.specs.Lent.{Output}
 use Rattle.sampling.specs.Sampling.{sampleHeld}
 use Rattle.linearize.specs.Desk.{flattenOutput}
-use Rattle.editing.specs.Edited.{edited}
+use Rattle.refresh.specs.editing.Edited.{edited}
 use Rattle.refresh.specs.RefreshDesk.{refreshHeld, refreshOutput}
-use Rattle.editing.specs.declared.Edit.{Edit}
+use Rattle.refresh.specs.declared.editing.Edit.{Edit}
 
 pub record RefreshedIsFresh (ramp : Ramp) (e : Edit) (asked mine : Float) (was : Held) : Type 0 where
   pub same-record : refreshHeld ramp e mine (sampleHeld ramp asked was) ≡ sampleHeld (edited ramp e) mine was

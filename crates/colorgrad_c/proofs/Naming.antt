@@ -6,8 +6,8 @@ use Rattle.stops.specs.Lent.{Change}
 use Rattle.segment.specs.Store.{Store}
 use Rattle.ggr.specs.File.{FileRead, Done, numberOfAnswer, lineOfAnswer, segmentsOfAnswer}
 use Rattle.ggr.specs.declared.Answer.{Answer}
-use Rattle.plain.specs.Telling.{telling, Reply}
-use Rattle.plain.proofs.Stored.{tells-same}
+use Rattle.colorgrad_c.specs.plain.Telling.{telling, Reply}
+use Rattle.colorgrad_c.proofs.plain.Stored.{tells-same}
 use Rattle.colorgrad_c.specs.Gimp.{ShowsFile}
 
 -- what `ggr` promises of its answer, of the number and the numbers told

@@ -5,7 +5,7 @@ use Rattle.stops.specs.Lent.{Ramp, Change}
 use Rattle.sampling.specs.Lent.{Held}
 use Rattle.linearize.specs.Lent.{Output}
 use Rattle.linearize.specs.declared.Listed.{Listed}
-use Rattle.editing.specs.declared.Edit.{Edit}
+use Rattle.refresh.specs.declared.editing.Edit.{Edit}
 use Rattle.refresh.specs.RefreshDesk.{Refreshes, RefreshLists}
 use Rattle.refresh.specs.declared.Refreshed.{Refreshed}
 

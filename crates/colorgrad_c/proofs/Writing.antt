@@ -4,9 +4,9 @@ use mathlib.Core.List.{List, [], _∷_}
 use Prim.Native.Nat.{ℕ}
 use lib.ListN.{length}
 use Rattle.stops.specs.Lent.{Change}
-use Rattle.plain.specs.Telling.{telling, Reply}
-use Rattle.plain.specs.Name.{named}
-use Rattle.plain.proofs.Stored.{tells-same}
+use Rattle.colorgrad_c.specs.plain.Telling.{telling, Reply}
+use Rattle.colorgrad_c.specs.plain.Name.{named}
+use Rattle.colorgrad_c.proofs.plain.Stored.{tells-same}
 use Rattle.ggr_writing.specs.File.{FileWritten, WritesAs, numberOfWriteAnswer, bytesOfWriteAnswer}
 use Rattle.ggr_writing.specs.declared.WriteAnswer.{WriteAnswer}
 use Rattle.colorgrad_c.specs.Writer.{ShowsText}

@@ -39,6 +39,9 @@ refusalTexts =
     ∷ "a number of the list cannot be written, or it does not run from 0 to 1"
     ∷ "the record was sampled with another threshold or on another domain"
     ∷ "two stops that follow each other do not show what lies between them: colours beyond 16,384"
+    ∷ "the list is not 2 to 4,609 stops, finite and never falling, from where the ramp starts to where it ends"
+    ∷ "there are no depths, or one is not finite, outside the domain of the ramp, or below the depth before it"
+    ∷ "the step is not finite or is below 0"
     ∷ []
 
 -- the verdicts from 0 on

@@ -4,30 +4,20 @@ use mathlib.Core.List.{List}
 use Prim.Native.Nat.{ℕ}
 use lib.Ieee.{Float}
 use Rattle.refusals.specs.Refusals.{misshapen}
-use Rattle.stops.specs.Lent.{Lent, old, new, Change, change}
+use Rattle.stops.specs.Lent.{Change}
 use Rattle.stops.specs.declared.Kind.{Kind}
-use Rattle.sampling.specs.Lent.{Held, lentHeld}
-use Rattle.linearize.specs.Lent.{Output, lentOutput}
+use Rattle.sampling.specs.Lent.{Held}
 use Rattle.linearize.specs.Desk.{numberOfListed}
-use Rattle.editing.specs.declared.Edit.{Edit}
+use Rattle.refresh.specs.declared.editing.Edit.{Edit}
 use Rattle.refresh.specs.RefreshDesk.{Refreshes, RefreshLists, numberOfRefreshed}
 use Rattle.refresh.specs.declared.Refreshed.{Refreshed}
 use Rattle.refresh.specs.declared.Refreshed.the-variants as refreshed
 use Rattle.linearize.specs.declared.Listed.{Listed}
 use Rattle.linearize.specs.declared.Listed.the-variants as listed
-use Rattle.plain.specs.Telling.{Reply}
-use Rattle.plain.specs.Kinds.{CodedRamp, Tells}
-use Rattle.plain.specs.Lists.{listedTold, refreshedTold}
-
--- what is lent to a refresh that makes a list: the record, the two outputs of the list, and what is told into
-pub record Lendings : Type 0 where
-  pub held : Change Held
-  pub list : Change Output
-  pub told : Change (List ℕ)
-
-abbrev pub lent : Lent Float → Lent ℕ → Lent ℕ → Lent Float → Lent Float → Lent ℕ → Lendings
-lent rows counts marks places colours told =
-    record { held = lentHeld rows counts marks; list = lentOutput places colours; told = change (old told) (new told) }
+use Rattle.colorgrad_c.specs.plain.Telling.{Reply}
+use Rattle.colorgrad_c.specs.plain.Kinds.{CodedRamp, Tells}
+use Rattle.colorgrad_c.specs.plain.Lists.{listedTold, refreshedTold}
+use Rattle.colorgrad_c.specs.Lists.{Lendings}
 
 -- the promises of `refresh`, of a ramp of any kind and an edit; a code that names no kind is 1 and changes nothing
 module _ (by : CodedRamp) (e : Edit) (asked : Float) where

@@ -6,7 +6,7 @@ use Rattle.blend.specs.declared.Rgba.{Rgba}
 use Rattle.stops.specs.Lent.{Change}
 use Rattle.segment.specs.Store.{Store}
 use Rattle.ggr.specs.File.{FileRead, fileOf, roomIn, numberIn, lineIn, segmentsIn, storeLeft}
-use Rattle.plain.specs.Telling.{telling, Reply}
+use Rattle.colorgrad_c.specs.plain.Telling.{telling, Reply}
 
 -- the line of a refusal, and how many segments were read
 abbrev pub readTold : FileRead → List ℕ

@@ -8,3 +8,4 @@ pub mod Judging
 pub mod Edits
 pub mod inner
 pub mod Writer
+pub mod plain

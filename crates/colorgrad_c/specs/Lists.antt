@@ -4,10 +4,10 @@ use mathlib.Core.List.{List}
 use Prim.Native.Nat.{ℕ}
 use lib.Ieee.{Float}
 use Rattle.refusals.specs.Refusals.{misshapen}
-use Rattle.stops.specs.Lent.{Change}
+use Rattle.stops.specs.Lent.{Lent, old, new, Change, change}
 use Rattle.stops.specs.declared.Kind.{Kind}
-use Rattle.sampling.specs.Lent.{Held}
-use Rattle.linearize.specs.Lent.{Output}
+use Rattle.sampling.specs.Lent.{Held, lentHeld}
+use Rattle.linearize.specs.Lent.{Output, lentOutput}
 use Rattle.sampling.specs.Promises.{Samples}
 use Rattle.sampling.specs.Sampling.{numberOfSampled}
 use Rattle.linearize.specs.Promises.{Thins, Flattens}
@@ -17,9 +17,19 @@ use Rattle.sampling.specs.declared.Sampled.{Sampled}
 use Rattle.sampling.specs.declared.Sampled.the-variants as sampled
 use Rattle.linearize.specs.declared.Listed.{Listed}
 use Rattle.linearize.specs.declared.Listed.the-variants as listed
-use Rattle.plain.specs.Telling.{Reply}
-use Rattle.plain.specs.Kinds.{CodedRamp, Tells}
-use Rattle.plain.specs.Lists.{sampledTold, listedTold}
+use Rattle.colorgrad_c.specs.plain.Telling.{Reply}
+use Rattle.colorgrad_c.specs.plain.Kinds.{CodedRamp, Tells}
+use Rattle.colorgrad_c.specs.plain.Lists.{sampledTold, listedTold}
+
+-- what is lent to a call that makes a list of a record: the record, the two outputs of the list, and what is told into
+pub record Lendings : Type 0 where
+  pub held : Change Held
+  pub list : Change Output
+  pub told : Change (List ℕ)
+
+abbrev pub lent : Lent Float → Lent ℕ → Lent ℕ → Lent Float → Lent Float → Lent ℕ → Lendings
+lent rows counts marks places colours told =
+    record { held = lentHeld rows counts marks; list = lentOutput places colours; told = change (old told) (new told) }
 
 -- the promises of `linearize` and `within`, of a ramp of any kind; a code that names no kind is 1 and changes nothing
 module _ (by : CodedRamp) (asked : Float) (held : Change Held) where
@@ -42,16 +52,18 @@ module _ (by : CodedRamp) (asked : Float) (held : Change Held) where
       (λ (a : Listed). (a ≡ listed.Refused misshapen) × ((held .exit ≡ held .entry) × (out .exit ≡ out .entry)))
       numberOfListed listedTold
 
-  -- with a hold
-  module _ (hold : Float) where
-    abbrev pub CodedThinsWithin : Change Output → Reply (List ℕ) → Type 0
-    CodedThinsWithin out =
-        Tells (by .code) (λ (kind : Kind). ThinsWithin (by .ramp kind) asked hold (held .entry) out)
-        (λ (a : Listed). (a ≡ listed.Refused misshapen) × (out .exit ≡ out .entry))
-        numberOfListed listedTold
+-- with a hold
+module _ (by : CodedRamp) (asked hold : Float) (l : Lendings) where
+  abbrev pub CodedThinsWithin : ℕ → Type 0
+  CodedThinsWithin n =
+      Tells (by .code) (λ (kind : Kind). ThinsWithin (by .ramp kind) asked hold (l .held .entry) (l .list))
+      (λ (a : Listed). (a ≡ listed.Refused misshapen) × (l .list .exit ≡ l .list .entry))
+      numberOfListed listedTold
+      (record { number = n; told = l .told })
 
-    abbrev pub CodedFlattensWithin : Change Output → Reply (List ℕ) → Type 0
-    CodedFlattensWithin out =
-        Tells (by .code) (λ (kind : Kind). FlattensWithin (by .ramp kind) asked hold held out)
-        (λ (a : Listed). (a ≡ listed.Refused misshapen) × ((held .exit ≡ held .entry) × (out .exit ≡ out .entry)))
-        numberOfListed listedTold
+  abbrev pub CodedFlattensWithin : ℕ → Type 0
+  CodedFlattensWithin n =
+      Tells (by .code) (λ (kind : Kind). FlattensWithin (by .ramp kind) asked hold (l .held) (l .list))
+      (λ (a : Listed). (a ≡ listed.Refused misshapen) × ((l .held .exit ≡ l .held .entry) × (l .list .exit ≡ l .list .entry)))
+      numberOfListed listedTold
+      (record { number = n; told = l .told })

@@ -20,9 +20,9 @@ use Rattle.paint.specs.declared.Painted.the-variants as painted
 use Rattle.sharp_ramp.specs.Sharp.{Builds, numberOfBuilt}
 use Rattle.sharp_ramp.specs.declared.Built.{Built}
 use Rattle.linearize.specs.Lent.{Output}
-use Rattle.plain.specs.Telling.{telling, Reply, after}
-use Rattle.plain.specs.Kinds.{ShowsOf, Shows, CodedRamp, Tells}
-use Rattle.plain.specs.Ramps.{endsTold, colourTold, builtTold}
+use Rattle.colorgrad_c.specs.plain.Telling.{telling, Reply, after}
+use Rattle.colorgrad_c.specs.plain.Kinds.{ShowsOf, Shows, CodedRamp, Tells}
+use Rattle.colorgrad_c.specs.plain.Ramps.{endsTold, colourTold, builtTold}
 
 -- the number and the ends, which are worked out with the check
 abbrev pub domainBy : Checked → Float → Float → ℕ × List Float

@@ -9,9 +9,9 @@ use Rattle.stops.specs.declared.Kind.{Kind}
 use Rattle.sampling.specs.Lent.{Held}
 use Rattle.next_stop.specs.Step.{refusedAt, HandsOut, numberOfTold}
 use Rattle.next_stop.specs.declared.Handed.{Handed}
-use Rattle.plain.specs.Telling.{Reply}
-use Rattle.plain.specs.Kinds.{CodedRamp, TellsBoth}
-use Rattle.plain.specs.Steps.{placeFrom, stopTold, handedTold}
+use Rattle.colorgrad_c.specs.plain.Telling.{Reply}
+use Rattle.colorgrad_c.specs.plain.Kinds.{CodedRamp, TellsBoth}
+use Rattle.colorgrad_c.specs.plain.Steps.{placeFrom, stopTold, handedTold}
 
 -- the promise of `next_stop`, of a ramp of any kind, a record that is only read and a place; a code that names no kind is 1, and the place stays
 module _ (by : CodedRamp) (asked : Float) (held : Change Held) (state row index : ℕ) where

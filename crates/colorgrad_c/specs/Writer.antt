@@ -6,7 +6,7 @@ use lib.ListN.{length}
 use lib.Ieee.{Float}
 use Rattle.stops.specs.Lent.{Change}
 use Rattle.ggr_writing.specs.File.{FileWritten, fileWrittenOf, writeAnswerOf, numberOfWriteAnswer, bytesOfWriteAnswer, leftIn}
-use Rattle.plain.specs.Telling.{telling, Reply}
+use Rattle.colorgrad_c.specs.plain.Telling.{telling, Reply}
 
 -- of what is written, how many bytes; and of a list
 pub record ShowsText (o : FileWritten) (out : Change (List ℕ)) (r : Reply (List ℕ)) : Type 0 where

@@ -1,5 +1,5 @@
 // What the library says of itself: its version, and what each refusal and each verdict means, in one line of plain words.
-use plain::name::write_name;
+use crate::plain::name::write_name;
 use text::line_at;
 ghost use mathlib.Core.Path.{_≡_};
 ghost use mathlib.Core.Bool.{cond};
@@ -8,7 +8,7 @@ ghost use lib.Dec.{ltb};
 ghost use lib.ListN.{length, getD};
 ghost use Rattle.stops.specs.Lent.{old, new};
 ghost use Rattle.text.specs.Text.{lines};
-ghost use Rattle.plain.specs.Name.{named};
+ghost use Rattle.colorgrad_c.specs.plain.Name.{named};
 ghost use Rattle.colorgrad_c.specs.About.{version, messageOf, verdictMessageOf};
 
 const MAJOR: u32 = 0;
@@ -17,7 +17,7 @@ const MINOR: u32 = 2;
 
 const PATCH: u32 = 0;
 
-const REFUSALS: usize = 22;
+const REFUSALS: usize = 25;
 
 const VERDICTS: usize = 7;
 
@@ -95,6 +95,9 @@ pub extern "C" fn colorgrad_message_told(refusal: u32, out: &mut [u8]) -> usize
         a number of the list cannot be written, or it does not run from 0 to 1\n\
         the record was sampled with another threshold or on another domain\n\
         two stops that follow each other do not show what lies between them: colours beyond 16,384\n\
+        the list is not 2 to 4,609 stops, finite and never falling, from where the ramp starts to where it ends\n\
+        there are no depths, or one is not finite, outside the domain of the ramp, or below the depth before it\n\
+        the step is not finite or is below 0\n\
         no such refusal\n",
         k,
         out,

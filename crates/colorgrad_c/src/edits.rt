@@ -1,17 +1,18 @@
 // A record refreshed after an edit of any sort, which is given by its code and its parts, and the list made of it.
+use crate::plain::edits::edit_of;
+use crate::plain::kinds;
+use crate::plain::kinds::Coded;
+use crate::plain::lists::tell_listed;
+use crate::plain::lists::tell_refreshed;
 use linearize::Listed;
-use plain::edits::edit_of;
-use plain::kinds;
-use plain::kinds::Coded;
-use plain::lists::tell_listed;
-use plain::lists::tell_refreshed;
 use refresh::Refreshed;
 use refusals::MISSHAPEN;
 ghost use Rattle.sampling.specs.Lent.{lentHeld};
-ghost use Rattle.plain.specs.Telling.{reply};
-ghost use Rattle.plain.specs.Kinds.{rampBy};
-ghost use Rattle.plain.specs.Edits.{editOf};
-ghost use Rattle.colorgrad_c.specs.Edits.{CodedRefreshes, CodedRelists, lent};
+ghost use Rattle.colorgrad_c.specs.plain.Telling.{reply};
+ghost use Rattle.colorgrad_c.specs.plain.Kinds.{rampBy};
+ghost use Rattle.colorgrad_c.specs.plain.Edits.{editOf};
+ghost use Rattle.colorgrad_c.specs.Lists.{lent};
+ghost use Rattle.colorgrad_c.specs.Edits.{CodedRefreshes, CodedRelists};
 
 // Tells the evaluations.
 #[no_mangle]

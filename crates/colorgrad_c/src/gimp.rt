@@ -1,17 +1,17 @@
 // GIMP texts: their segments, and their name.
+use crate::plain::name::write_name;
+use crate::plain::telling::tell_numbers;
 use blend::Rgba;
 use ggr::Answer;
-use plain::name::write_name;
-use plain::telling::tell_numbers;
 ghost use mathlib.Core.Path.{_≡_};
 ghost use mathlib.Core.List.{[], _∷_};
 ghost use lib.ListN.{length};
 ghost use Rattle.stops.specs.Lent.{old, new};
 ghost use Rattle.segment.specs.Store.{lentStore};
 ghost use Rattle.ggr.specs.File.{nameOf, numberOfAnswer, lineOfAnswer, segmentsOfAnswer};
-ghost use Rattle.plain.specs.Telling.{telling, reply};
-ghost use Rattle.plain.specs.Edits.{rgbaOf};
-ghost use Rattle.plain.specs.Name.{named};
+ghost use Rattle.colorgrad_c.specs.plain.Telling.{telling, reply};
+ghost use Rattle.colorgrad_c.specs.plain.Edits.{rgbaOf};
+ghost use Rattle.colorgrad_c.specs.plain.Name.{named};
 ghost use Rattle.colorgrad_c.specs.Gimp.{ShowsRead};
 
 // The refusal; tells its line, 0 if none, and how many segments were read.

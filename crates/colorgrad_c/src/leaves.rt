@@ -6,11 +6,11 @@ ghost use Rattle.sqrt.specs.Cutoff.{IsCutoff};
 ghost use Rattle.decimal.specs.Decimal.{readOf};
 ghost use Rattle.sampling.specs.Constants.{thresholdOf};
 ghost use Rattle.within.specs.Lists.{holdOf};
-ghost use Rattle.plain.specs.Telling.{telling};
+ghost use Rattle.colorgrad_c.specs.plain.Telling.{telling};
 ghost use Rattle.colorgrad_c.specs.Leaves.{isNumber, valueTold};
+use crate::plain::telling::tell_floats;
 use decimal::Token;
 use linearize::Sampler;
-use plain::telling::tell_floats;
 
 fn tell_token(token: Token, value: &mut [f32]) -> u32
     ensures { λ r. ⌜ r ≡ isNumber token ⌝ }

@@ -7,6 +7,7 @@ pub mod gimp;
 pub mod judging;
 pub mod leaves;
 pub mod lists;
+pub mod plain;
 pub mod ramps;
 pub mod steps;
 pub mod tool;

@@ -1,16 +1,16 @@
 // Sampling a ramp into a record, thinning a record to a list of stops, and both at once; the same of lists that keep their word.
+use crate::plain::kinds;
+use crate::plain::kinds::Coded;
+use crate::plain::lists::tell_listed;
+use crate::plain::lists::tell_sampled;
 use linearize::Listed;
 use linearize::Sampled;
-use plain::kinds;
-use plain::kinds::Coded;
-use plain::lists::tell_listed;
-use plain::lists::tell_sampled;
 use refusals::MISSHAPEN;
 ghost use Rattle.sampling.specs.Lent.{lentHeld};
 ghost use Rattle.linearize.specs.Lent.{lentOutput};
-ghost use Rattle.plain.specs.Telling.{reply};
-ghost use Rattle.plain.specs.Kinds.{rampBy};
-ghost use Rattle.colorgrad_c.specs.Lists.{CodedSamples, CodedThins, CodedFlattens, CodedThinsWithin, CodedFlattensWithin};
+ghost use Rattle.colorgrad_c.specs.plain.Telling.{reply};
+ghost use Rattle.colorgrad_c.specs.plain.Kinds.{rampBy};
+ghost use Rattle.colorgrad_c.specs.Lists.{CodedSamples, CodedThins, CodedFlattens, CodedThinsWithin, CodedFlattensWithin, lent};
 
 // Tells the evaluations.
 #[no_mangle]
@@ -129,7 +129,7 @@ pub extern "C" fn colorgrad_thin_within_told(
     colours: &mut [f32],
     told: &mut [usize],
 ) -> u32
-    ensures { λ r. ⌜ CodedThinsWithin (rampBy kind positions channels codes) threshold (lentHeld rows counts marks) hold (lentOutput places colours) (reply r told) ⌝ }
+    ensures { λ r. ⌜ CodedThinsWithin (rampBy kind positions channels codes) threshold hold (lent rows counts marks places colours told) r ⌝ }
 {
     let Coded::Of(known) = kinds::kind_of(kind) else {
         return tell_listed(Listed::Refused(MISSHAPEN), told);
@@ -166,7 +166,7 @@ pub extern "C" fn colorgrad_flatten_within_told(
     colours: &mut [f32],
     told: &mut [usize],
 ) -> u32
-    ensures { λ r. ⌜ CodedFlattensWithin (rampBy kind positions channels codes) threshold (lentHeld rows counts marks) hold (lentOutput places colours) (reply r told) ⌝ }
+    ensures { λ r. ⌜ CodedFlattensWithin (rampBy kind positions channels codes) threshold hold (lent rows counts marks places colours told) r ⌝ }
 {
     let Coded::Of(known) = kinds::kind_of(kind) else {
         return tell_listed(Listed::Refused(MISSHAPEN), told);

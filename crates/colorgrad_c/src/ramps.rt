@@ -1,18 +1,18 @@
 // A ramp's check, its domain, its colour at t, its colours at many points, and a sharp ramp built.
+use crate::plain::kinds;
+use crate::plain::kinds::Coded;
+use crate::plain::ramps::checked_number;
+use crate::plain::ramps::painted_number;
+use crate::plain::ramps::tell_built;
+use crate::plain::ramps::tell_colour;
+use crate::plain::ramps::tell_domain;
 use paint::ColourAnswer;
-use plain::kinds;
-use plain::kinds::Coded;
-use plain::ramps::checked_number;
-use plain::ramps::painted_number;
-use plain::ramps::tell_built;
-use plain::ramps::tell_colour;
-use plain::ramps::tell_domain;
 use refusals::MISSHAPEN;
 use stops::Checked;
 ghost use Rattle.stops.specs.Lent.{old, new, change};
 ghost use Rattle.linearize.specs.Lent.{lentOutput};
-ghost use Rattle.plain.specs.Telling.{reply};
-ghost use Rattle.plain.specs.Kinds.{rampBy};
+ghost use Rattle.colorgrad_c.specs.plain.Telling.{reply};
+ghost use Rattle.colorgrad_c.specs.plain.Kinds.{rampBy};
 ghost use Rattle.colorgrad_c.specs.Ramps.{CodedChecks, CodedDomain, CodedAt, CodedPaints, ShowsBuilt};
 
 // 0, or the refusal.

@@ -1,14 +1,14 @@
 // A list handed out one stop at a time.
+use crate::plain::kinds;
+use crate::plain::kinds::Coded;
+use crate::plain::steps::place_from;
+use crate::plain::steps::tell_handed;
 use next_stop::Handed;
 use next_stop::Told;
-use plain::kinds;
-use plain::kinds::Coded;
-use plain::steps::place_from;
-use plain::steps::tell_handed;
 use refusals::MISSHAPEN;
 ghost use Rattle.sampling.specs.Lent.{lentHeld};
-ghost use Rattle.plain.specs.Telling.{replies};
-ghost use Rattle.plain.specs.Kinds.{rampBy};
+ghost use Rattle.colorgrad_c.specs.plain.Telling.{replies};
+ghost use Rattle.colorgrad_c.specs.plain.Kinds.{rampBy};
 ghost use Rattle.colorgrad_c.specs.Steps.{CodedHandsOut};
 
 // Tells whether there is a stop, the evaluations, and the state, the row and the index to go on from; and the stop.

@@ -1,15 +1,15 @@
 // Lists as GIMP texts, and numbers as they are written there.
+use crate::plain::name::write_name;
+use crate::plain::telling::tell_numbers;
 use ggr_writing::WriteAnswer;
-use plain::name::write_name;
-use plain::telling::tell_numbers;
 ghost use mathlib.Core.Path.{_≡_};
 ghost use mathlib.Core.List.{[], _∷_};
 ghost use lib.ListN.{length};
 ghost use Rattle.stops.specs.Lent.{old, new, change};
 ghost use Rattle.numerals.specs.Written.{textOf};
 ghost use Rattle.ggr_writing.specs.File.{numberOfWriteAnswer, bytesOfWriteAnswer};
-ghost use Rattle.plain.specs.Telling.{telling, reply};
-ghost use Rattle.plain.specs.Name.{named};
+ghost use Rattle.colorgrad_c.specs.plain.Telling.{telling, reply};
+ghost use Rattle.colorgrad_c.specs.plain.Name.{named};
 ghost use Rattle.colorgrad_c.specs.Writer.{ShowsWritten};
 
 fn tell_written(answer: WriteAnswer, told: &mut [usize]) -> u32

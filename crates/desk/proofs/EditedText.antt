@@ -25,15 +25,15 @@ use Rattle.sampling.specs.Lent.{Held}
 use Rattle.sampling.specs.Sampling.{andThen, farOf, shapeCheck, sampleCheck, heldCheck, fresh, freshEvaluations, sampleAnswer, sampleHeld}
 use Rattle.linearize.specs.Desk.{pointsIn, flattenEvaluations}
 use Rattle.sampling.proofs.Checks.{ramp-fine}
-use Rattle.editing.specs.Edited.{changed, edited}
-use Rattle.editing.specs.Rules.{editCheck}
+use Rattle.refresh.specs.editing.Edited.{changed, edited}
+use Rattle.refresh.specs.editing.Rules.{editCheck}
 use Rattle.refresh.specs.RefreshDesk.{newEvaluations}
-use Rattle.editing.specs.declared.Edit.{Edit}
-use Rattle.editing.specs.declared.Edit.the-variants.{Colour}
+use Rattle.refresh.specs.declared.editing.Edit.{Edit}
+use Rattle.refresh.specs.declared.editing.Edit.the-variants.{Colour}
 use Rattle.entries.specs.declared.fields.Recolour.{Recolour}
-use Rattle.editing.proofs.Recoloured.{colour-other, colour-new, changed-length}
-use Rattle.editing.proofs.EditRules.{colour-fine}
-use Rattle.editing.proofs.EditSound.{edit-sound}
+use Rattle.refresh.proofs.editing.Recoloured.{colour-other, colour-new, changed-length}
+use Rattle.refresh.proofs.editing.EditRules.{colour-fine}
+use Rattle.refresh.proofs.editing.EditSound.{edit-sound}
 use Rattle.refresh.proofs.Theorem.{refresh-passes, fresh-renewed}
 use Rattle.entries.specs.Input.{input, mostKept, inputOf}
 use Rattle.writing.specs.Printed.{refusedText}

@@ -24,10 +24,10 @@ use Rattle.sampling.proofs.Answers.{fresh-bound}
 use Rattle.linearize.proofs.Bounds.{list-bound}
 use Rattle.linearize.proofs.Calls.{kept-room}
 use Rattle.places.proofs.Following.{list-some, list-most}
-use Rattle.editing.specs.Edited.{edited}
+use Rattle.refresh.specs.editing.Edited.{edited}
 use Rattle.refresh.specs.RefreshDesk.{refreshCheck}
-use Rattle.editing.specs.declared.Edit.{Edit}
-use Rattle.editing.specs.declared.Edit.the-variants.{Colour}
+use Rattle.refresh.specs.declared.editing.Edit.{Edit}
+use Rattle.refresh.specs.declared.editing.Edit.the-variants.{Colour}
 use Rattle.refresh.proofs.RefreshAnswers.{relist-most}
 use Rattle.entries.specs.Input.{Input, unread, input, mostKept, inputOf}
 use Rattle.writing.specs.Printed.{refusedText, listText, Puts}

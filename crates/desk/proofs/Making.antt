@@ -31,10 +31,10 @@ use Rattle.sampling.specs.declared.Sampled.{Sampled}
 use Rattle.sampling.specs.declared.Sampled.the-variants as sampled
 use Rattle.linearize.proofs.Calls.{kept-room}
 use Rattle.sampling.proofs.Answers.{sample-most}
-use Rattle.editing.specs.Edited.{edited}
+use Rattle.refresh.specs.editing.Edited.{edited}
 use Rattle.refresh.specs.RefreshDesk.{refreshCheck, newEvaluations, refreshOutput, RefreshLists}
-use Rattle.editing.specs.declared.Edit.{Edit}
-use Rattle.editing.specs.declared.Edit.the-variants.{Colour}
+use Rattle.refresh.specs.declared.editing.Edit.{Edit}
+use Rattle.refresh.specs.declared.editing.Edit.the-variants.{Colour}
 use Rattle.entries.specs.declared.fields.Recolour.{Recolour}
 use Rattle.writing.specs.Printed.{countText, stopText, rowsText, stopsWord, evaluationsWord, listText, replyText, Puts}
 use Rattle.writing.specs.declared.Reply.{Reply}

@@ -22,7 +22,7 @@ use Rattle.rows.specs.declared.digits.Digits.{Digits}
 use Rattle.rows.specs.declared.digits.Digits.the-variants.{Bad, Is}
 use Rattle.rows.proofs.Read.{Finite, numbers-finite}
 use Rattle.sampling.specs.Constants.{defaultThreshold}
-use Rattle.editing.specs.Rules.{refreshable}
+use Rattle.refresh.specs.editing.Rules.{refreshable}
 use Rattle.entries.specs.Entries.{exactly, toThreshold, thresholdEntry, toStop, stopEntry, stopIndexOf, toChange, changeEntry, editEntry, stopTag, thresholdTag, editTag, kindLinear, kindSmoothstep, entryOf}
 use Rattle.entries.specs.Input.{Input, unread, input, mostBytes, ifRamp, ifThreshold, ifStop, ifChange, fromEnd, fromEdit, stopsOf, afterStops, fromStops, fromThreshold, fromKind, inputOf}
 use Rattle.entries.specs.declared.fields.Recolour.{Recolour}

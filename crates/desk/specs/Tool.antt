@@ -21,12 +21,12 @@ use Rattle.linearize.specs.declared.Listed.{Listed}
 use Rattle.linearize.specs.declared.Listed.the-variants as listed
 use Rattle.sampling.specs.declared.Sampled.{Sampled}
 use Rattle.sampling.specs.declared.Sampled.the-variants as sampled
-use Rattle.editing.specs.Edited.{edited}
+use Rattle.refresh.specs.editing.Edited.{edited}
 use Rattle.refresh.specs.RefreshDesk.{refreshCheck, renewed, newEvaluations}
 use Rattle.entries.specs.Input.{Input, unread, input, mostKept, inputOf}
 use Rattle.writing.specs.Printed.{unreadText, refusedText, listText}
-use Rattle.editing.specs.declared.Edit.{Edit}
-use Rattle.editing.specs.declared.Edit.the-variants.{Colour}
+use Rattle.refresh.specs.declared.editing.Edit.{Edit}
+use Rattle.refresh.specs.declared.editing.Edit.the-variants.{Colour}
 use Rattle.entries.specs.declared.reading.Edited.{Edited}
 use Rattle.entries.specs.declared.reading.Edited.the-variants as edit
 use Rattle.desk.specs.declared.Desked.{Desked}

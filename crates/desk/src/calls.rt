@@ -1,9 +1,9 @@
 // The calls that make a list, and the reply that tells of it.
-use editing::Edit;
 use entries::reading::Edited;
 use linearize::Listed;
 use linearize::Sampled;
 use linearize::Sampler;
+use refresh::editing::Edit;
 use stops::Kind;
 use writing::Reply;
 ghost use mathlib.Core.Path.{_≡_};

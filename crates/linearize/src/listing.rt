@@ -5,11 +5,9 @@ use places::next_place;
 use places::point_at;
 use sampling::Sampler;
 use sampling::cells::evaluate;
+use sampling::cells::evaluate_along;
 use slices::zero_from;
 use stops::Kind;
-use stops::Window;
-use stops::segments;
-use stops::segments::follow;
 use thinning::Progress;
 use thinning::emit;
 use thinning::room_of;
@@ -23,12 +21,12 @@ ghost use Rattle.places.specs.Places.{Ready};
 ghost use Rattle.thinning.specs.Kept.{writtenOf};
 ghost use Rattle.linearize.specs.Desk.{listedOf};
 ghost use Rattle.stops.specs.declared.Checked.the-variants.{Fine};
-ghost use Rattle.linearize.specs.inner.Steps.{windowRoom, Started, points, MakesList, ThinsAll, ThinsRest};
+ghost use Rattle.linearize.specs.inner.Steps.{Started, points, MakesList, ThinsAll, ThinsRest};
 ghost use Rattle.linearize.specs.Lent.{lentOutput};
 ghost use Rattle.stops.specs.Lent.{rampIn, lentRamp, old, new};
 
-// Thins the points after the first, from place to place; the last is always kept. The table goes with the points: it has the
-// segments of the pairs from that of one of the last points on, so that each is worked out once or, at its start, twice.
+// Thins the points after the first, from place to place; the last is always kept. The pair of the last point goes along, drawn
+// where the ramp is Catmull-Rom.
 fn thin_points(
     kind: Kind,
     positions: &[f32],
@@ -42,40 +40,34 @@ fn thin_points(
     counts: &[u8],
     out_positions: &mut [f32],
     out_channels: &mut [f32],
-    table: &mut [[[f32; 4]; 4]],
 ) -> Progress
     requires { ⌜ Ready (now rows) (now counts) × Started (colourOf (rampIn kind positions channels codes)) room start ⌝ }
     requires { ⌜ checkOf (rampIn kind positions channels codes) ≡ Fine ⌝ }
     ensures { λ r. ⌜ ThinsRest (lentRamp kind positions channels codes) cutoff room (points rows counts max) start (lentOutput «out_positions» «out_channels») r ⌝ }
 {
-    let n = positions.len();
+    let mut drawn = [[0.0f32; 4]; 7];
     let mut s = start;
-    let none = Window { base: 0, count: 0 };
     let mut place = next_place(counts, RowPlace { row: 0, index: 0 });
-    let mut x = evaluate(
+    let mut x = evaluate_along(
         kind,
         positions,
         channels,
         codes,
         point_at(rows, max, place),
-        1,
         0,
-        &table[..0],
+        &mut drawn,
     );
-    let mut w = follow(channels, n, none, 0, x.pair, table);
     while place.row < Sampler::CELLS {
         let after = next_place(counts, place);
-        let next = evaluate(
+        let next = evaluate_along(
             kind,
             positions,
             channels,
             codes,
             point_at(rows, max, after),
             x.pair,
-            w.base,
-            &table[..w.count],
+            &mut drawn,
         );
-        w = follow(channels, n, w, x.pair, next.pair, table);
         s = step(cutoff, room, s, x, next, out_positions, out_channels);
         let refusal = s.refusal;
         if refusal != 0 {
@@ -100,12 +92,11 @@ fn thin_all(
     counts: &[u8],
     out_positions: &mut [f32],
     out_channels: &mut [f32],
-    table: &mut [[[f32; 4]; 4]],
 ) -> Progress
     requires { ⌜ Ready (now rows) (now counts) × (checkOf (rampIn kind positions channels codes) ≡ Fine) ⌝ }
     ensures { λ r. ⌜ ThinsAll (lentRamp kind positions channels codes) cutoff room (points rows counts max) (lentOutput «out_positions» «out_channels») r ⌝ }
 {
-    let first = evaluate(kind, positions, channels, codes, rows[0], 1, 0, &table[..0]);
+    let first = evaluate(kind, positions, channels, codes, rows[0], 1);
     let start = Progress {
         last: first,
         stops: 0,
@@ -130,7 +121,6 @@ fn thin_all(
         counts,
         out_positions,
         out_channels,
-        table,
     )
 }
 
@@ -153,8 +143,8 @@ fn finish(s: Progress, out_positions: &mut [f32], out_channels: &mut [f32]) -> L
     }
 }
 
-// Thins a record's points, and writes the stops, with room in hand for segments.
-fn thin_each(
+// Thins a record's points, and writes the stops.
+pub(crate) fn thin_record(
     kind: Kind,
     positions: &[f32],
     channels: &[f32],
@@ -165,7 +155,6 @@ fn thin_each(
     counts: &[u8],
     out_positions: &mut [f32],
     out_channels: &mut [f32],
-    table: &mut [[[f32; 4]; 4]],
 ) -> Listed
     requires { ⌜ Ready (now rows) (now counts) × (checkOf (rampIn kind positions channels codes) ≡ Fine) ⌝ }
     ensures { λ r. ⌜ MakesList (lentRamp kind positions channels codes) cutoff (points rows counts max) (lentOutput «out_positions» «out_channels») r ⌝ }
@@ -183,50 +172,6 @@ fn thin_each(
         counts,
         out_positions,
         out_channels,
-        table,
     );
     finish(s, out_positions, out_channels)
-}
-
-// The room for segments that a ramp of a kind needs: only Catmull-Rom ramps have any.
-fn room_for(kind: Kind) -> usize
-    ensures { λ r. ⌜ r ≤ windowRoom ⌝ }
-{
-    if segments::is_catmull_rom(kind) {
-        return segments::AHEAD;
-    }
-    0
-}
-
-// Thins a record's points, and writes the stops. A Catmull-Rom ramp has a window of segments.
-pub(crate) fn thin_record(
-    kind: Kind,
-    positions: &[f32],
-    channels: &[f32],
-    codes: &[u8],
-    cutoff: f32,
-    max: f32,
-    rows: &[f32],
-    counts: &[u8],
-    out_positions: &mut [f32],
-    out_channels: &mut [f32],
-) -> Listed
-    requires { ⌜ Ready (now rows) (now counts) × (checkOf (rampIn kind positions channels codes) ≡ Fine) ⌝ }
-    ensures { λ r. ⌜ MakesList (lentRamp kind positions channels codes) cutoff (points rows counts max) (lentOutput «out_positions» «out_channels») r ⌝ }
-{
-    let mut table = [[[0.0f32; 4]; 4]; segments::AHEAD];
-    let room = room_for(kind);
-    thin_each(
-        kind,
-        positions,
-        channels,
-        codes,
-        cutoff,
-        max,
-        rows,
-        counts,
-        out_positions,
-        out_channels,
-        &mut table[..room],
-    )
 }

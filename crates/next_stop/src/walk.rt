@@ -19,8 +19,7 @@ ghost use Rattle.stops.specs.declared.Checked.the-variants.{Fine};
 ghost use Rattle.places.specs.Places.{Ready, InRecord};
 ghost use Rattle.next_stop.specs.inner.Steps.{FindsNext};
 
-// The point at t, tried in the pair `guess` first. A step has no table of Catmull-Rom segments: it would be worked out anew
-// each time.
+// The point at t, tried in the pair `guess` first. A step carries no pair that is drawn: it would be drawn anew each time.
 pub(crate) fn lone_point(
     kind: Kind,
     positions: &[f32],
@@ -32,8 +31,7 @@ pub(crate) fn lone_point(
     requires { ⌜ checkOf (rampIn kind positions channels codes) ≡ Fine ⌝ }
     ensures { λ r. ⌜ PointAt (colourOf (lentRamp kind positions channels codes)) t r ⌝ }
 {
-    let none = [[[0.0f32; 4]; 4]; 1];
-    evaluate(kind, positions, channels, codes, t, guess, 0, &none[..0])
+    evaluate(kind, positions, channels, codes, t, guess)
 }
 
 // The first point kept after the one at a place. It starts from there, and looks at no point before it.

@@ -20,7 +20,7 @@ use Rattle.stops.proofs.Valid.{Valid}
 use Rattle.gradient.specs.Ramp.{isGimp, minIn, maxIn, minOf, maxOf}
 use Rattle.gradient.proofs.Valid.{valid}
 use Rattle.sampling.specs.Constants.{farthest}
-use Rattle.reach.specs.KeptCells.{isDomain}
+use Rattle.refresh.specs.reach.KeptCells.{isDomain}
 use Rattle.sharp_ramp.specs.Sharp.{bandAt, insetOf, sharpPositions, bandChannel, sharpChannels, bands, buildOf}
 use Rattle.sharp_ramp.specs.declared.Built.the-variants.{Stops}
 use Rattle.sharp_ramp.proofs.Filling.{listed-at}

@@ -20,7 +20,7 @@ use Rattle.float.proofs.SignedOrder.{zero-of}
 use Rattle.float.proofs.SignedRound.{con}
 use Rattle.sampling.specs.Constants.{farthest}
 use Rattle.sampling.specs.Cells.{edgeOf}
-use Rattle.reach.specs.KeptCells.{isDomain}
+use Rattle.refresh.specs.reach.KeptCells.{isDomain}
 use Rattle.ordinary.proofs.UnitBlend.{once-high}
 use Rattle.ordinary.proofs.Rising as domains
 use Rattle.ordinary.proofs.Rising.{along}

@@ -21,7 +21,7 @@ use Rattle.float.proofs.SignedRound.{pro, mul-rounds}
 use Rattle.sampling.specs.Constants.{depth}
 use Rattle.sampling.specs.Midpoints.{Gradient, Far, halves}
 use Rattle.sampling.specs.Cells.{edgeOf}
-use Rattle.reach.specs.KeptCells.{isDomain}
+use Rattle.refresh.specs.reach.KeptCells.{isDomain}
 use Rattle.ordinary.proofs.Climbing.{Climbs}
 use Rattle.float.proofs.Spans.{rounded-below}
 use Rattle.ordinary.proofs.Rising as domains

@@ -26,8 +26,8 @@ use Rattle.sampling.specs.Midpoints.{Gradient, Far, halves}
 use Rattle.sampling.specs.Cells.{edgeOf, pointsOf, rowOf, cellRow, cellCount, rowsOf, countsOf}
 use Rattle.sampling.proofs.Rows.{cell-count-most}
 use Rattle.places.specs.Places.{rowPoints, listOf}
-use Rattle.reach.specs.KeptCells.{isDomain}
-use Rattle.reach.proofs.Domains.{end-within}
+use Rattle.refresh.specs.reach.KeptCells.{isDomain}
+use Rattle.refresh.proofs.reach.Domains.{end-within}
 use Rattle.refresh.proofs.Agree.{row-at, count-at}
 use Rattle.ordinary.proofs.Climbing.{Climbs, to-higher, then, within-number, halves-climb}
 

@@ -13,7 +13,7 @@ use Rattle.sampling.specs.Constants.{depth}
 use Rattle.sampling.specs.Midpoints.{Gradient, Far, midOf, keeps, halves}
 use Rattle.sampling.specs.Cells.{edgeOf, pointsOf, rowsOf, countsOf}
 use Rattle.places.specs.Places.{rowPoints, listOf}
-use Rattle.reach.specs.KeptCells.{isDomain}
+use Rattle.refresh.specs.reach.KeptCells.{isDomain}
 use Rattle.thinning.specs.Kept.{stays, thinned, keptOf}
 use Rattle.ordinary.proofs.Rising.{row-points}
 

@@ -27,11 +27,11 @@ use Rattle.places.specs.Places.{listOf}
 use Rattle.linearize.specs.Desk.{numberOfListed, numberBy, pointsIn, room}
 use Rattle.linearize.specs.Promises.{Thins, Flattens}
 use Rattle.linearize.specs.declared.Listed.{Listed}
-use Rattle.reach.specs.Stretch.{outsideOf, midsOutside, clearOf, cellClear}
-use Rattle.reach.specs.KeptCells.{isDomain}
-use Rattle.reach.proofs.Domains.{checked-domain}
-use Rattle.reach.specs.declared.stretch.Stretch.{Stretch}
-use Rattle.reach.proofs.Kept.{before-cell, after-cell}
+use Rattle.refresh.specs.reach.Stretch.{outsideOf, midsOutside, clearOf, cellClear}
+use Rattle.refresh.specs.reach.KeptCells.{isDomain}
+use Rattle.refresh.proofs.reach.Domains.{checked-domain}
+use Rattle.refresh.specs.declared.reach.stretch.Stretch.{Stretch}
+use Rattle.refresh.proofs.reach.Kept.{before-cell, after-cell}
 use Rattle.refresh.specs.AfterEdit.{Shaped}
 use Rattle.ordinary.specs.Ordinary.{Ordinary, Moderate, FiniteOnDomain, NeverRefused, NeverFalls, UnitColour, WithinUnit, OneOuterSide, NoMidpointInside}
 use Rattle.ordinary.proofs.Climbing.{in-order}

@@ -18,9 +18,9 @@ use Rattle.stops.specs.declared.Checked.the-variants.{Fine}
 use Rattle.gradient.specs.Ramp.{checkOf, minOf, maxOf, colourOf}
 use Rattle.sampling.specs.Constants.{depth}
 use Rattle.sampling.specs.Cells.{edgeOf}
-use Rattle.reach.specs.Stretch.{beforeOf, afterOf, outsideOf, midsOutside}
-use Rattle.reach.specs.KeptCells.{isDomain}
-use Rattle.reach.specs.declared.stretch.Stretch.{Stretch}
+use Rattle.refresh.specs.reach.Stretch.{beforeOf, afterOf, outsideOf, midsOutside}
+use Rattle.refresh.specs.reach.KeptCells.{isDomain}
+use Rattle.refresh.specs.declared.reach.stretch.Stretch.{Stretch}
 use Rattle.linearize.specs.Lent.{Output}
 use Rattle.linearize.specs.Desk.{stopsOfListed, evaluationsOfListed}
 use Rattle.linearize.specs.declared.Listed.{Listed}

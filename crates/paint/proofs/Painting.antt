@@ -26,10 +26,8 @@ use Rattle.gradient.proofs.Same.{same-colour}
 use Rattle.gradient.proofs.Valid.{valid}
 use Rattle.gradient.proofs.GimpLaws.{fine-shape}
 use Rattle.paint.specs.Answers.{atAnswer, paintCheck, paintAnswer}
-use Rattle.paint_segments.specs.Over.{paintedOver, segmentsOver}
-use Rattle.paint_segments.specs.inner.Steps.{Fits}
-use Rattle.paint_segments.proofs.Fitting.{over-fit}
-use Rattle.paint.specs.Canvas.{colourRoom, canvas}
+use Rattle.paint.specs.inner.Segments.{Fits}
+use Rattle.paint.specs.Canvas.{colourRoom, paintedOver, canvas}
 use Rattle.paint.specs.Promises.{AtIs, PaintIs}
 use Rattle.paint.specs.inner.Steps.{stopColour, Paintable}
 use Rattle.paint.specs.declared.ColourAnswer.the-variants as answer
@@ -95,13 +93,11 @@ module _ (ramp : Ramp) (ts out : List Float) where
     unfolding colourOf
     is-gimp t = simp gimp
 
-    fits : checkOf ramp ≡ checked.Fine → 4 * length ts ≤ length out → Fits (ramp .positions) (ramp .channels) (ramp .codes) ts out
+    pub fits : checkOf ramp ≡ checked.Fine → 4 * length ts ≤ length out → Fits (ramp .positions) (ramp .channels) (ramp .codes) ts out
     unfolding checkOf
     fits fine l =
         let s = fine-shape (ramp .positions) (ramp .channels) (ramp .codes) (sym (simp gimp) ∙ fine) in
         record { cut = record { least = s .least; channels = s .channels; codes = s .codes }; room = l }
 
-    pub as-gimp : {out′ : List Float} → checkOf ramp ≡ checked.Fine → 4 * length ts ≤ length out → out′ ≡ segmentsOver (ramp .positions) (ramp .channels) (ramp .codes) ts out → out′ ≡ paintedOver (colourOf ramp) ts out
-    as-gimp fine l e =
-        e ∙ over-fit (ramp .positions) (ramp .channels) (ramp .codes) ts out (fits fine l)
-        ∙ ap (λ (g : Float → Rgba). paintedOver g ts out) (fun-ext is-gimp)
+    pub as-gimp : {out′ : List Float} → out′ ≡ paintedOver (gimpColour (ramp .positions) (ramp .channels) (ramp .codes)) ts out → out′ ≡ paintedOver (colourOf ramp) ts out
+    as-gimp e = e ∙ ap (λ (g : Float → Rgba). paintedOver g ts out) (fun-ext is-gimp)

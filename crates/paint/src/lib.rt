@@ -16,10 +16,11 @@ ghost use Rattle.stops.specs.Near.{segmentFor};
 ghost use Rattle.stops.specs.Segments.{Segments};
 ghost use Rattle.stops.specs.declared.Checked.the-variants.{Fine};
 ghost use Rattle.gradient.specs.Ramp.{checkOf, colourOf};
-ghost use Rattle.paint_segments.specs.Over.{paintedOver};
+ghost use Rattle.paint.specs.Canvas.{paintedOver};
 ghost use Rattle.paint.specs.Promises.{AtIs, PaintIs};
 ghost use Rattle.paint.specs.inner.Steps.{stopColour, Paintable};
 
+mod gimp;
 mod pairs;
 
 // The colour at t, or the number of the refusal.
@@ -49,9 +50,9 @@ pub fn at(kind: Kind, positions: &[f32], channels: &[f32], codes: &[u8], t: f32)
     }
 }
 
-// Stores a colour where there is room for it. `stops` has this store for any output, and `paint_segments` one like this: only
-// a private function may ask for room, and the compiler does not see at each point that `paint` has tested it, so one store
-// for all would cost each point a test. So it is with `colour` of `pairs`, and the colour that `stops` reads.
+// Stores a colour where there is room for it. `stops` has this store for any output: only a private function may ask for
+// room, and the compiler does not see at each point that `paint` has tested it, so that store would cost each point a test.
+// So it is with `colour` of `pairs`, and the colour that `stops` reads.
 fn put_colour(out: &mut [f32], k: usize, c: Rgba)
     requires { ⌜ k + 4 ≤ length (now out) ⌝ }
     ensures { λ _. ⌜ new out ≡ sets (old out) k (channelsOf c) ⌝ }
@@ -177,7 +178,7 @@ fn paint_all(
     ensures { λ _. ⌜ new out ≡ paintedOver (colourOf (lentRamp kind positions channels codes)) (old ts) (old out) ⌝ }
 {
     if gradient::is_gimp(kind) {
-        paint_segments::paint(positions, channels, codes, ts, out);
+        gimp::paint(positions, channels, codes, ts, out);
         return;
     }
     if segments::is_catmull_rom(kind) {

@@ -73,7 +73,7 @@ pub(crate) fn find_place(positions: &[f32], t: f32, k: usize, span: usize) -> Pl
 }
 
 // Colour i, read without a test.
-fn colour(channels: &[f32], i: usize) -> Rgba
+pub(crate) fn colour(channels: &[f32], i: usize) -> Rgba
     requires { ⌜ 4 * i + 4 ≤ length (now channels) ⌝ }
     ensures { λ r. ⌜ r ≡ colourAt (now (channels .entry)) i ⌝ }
 {

@@ -5,9 +5,9 @@ use Prim.Native.Nat.{ℕ}
 use mathlib.Core.Path.{sym, _∙_, ap}
 use Rattle.sqrt.proofs.Theorems.{cutoff-unique}
 use Rattle.stops.specs.declared.Kind.{Kind}
-use Rattle.plain.specs.Kinds.{kindOf, onKind, Shows, ShowsOf}
-use Rattle.plain.specs.declared.kinds.Coded.{Coded}
-use Rattle.plain.specs.declared.kinds.Coded.the-variants.{Of, Unknown}
+use Rattle.colorgrad_c.specs.plain.Kinds.{kindOf, onKind, Shows, ShowsOf}
+use Rattle.colorgrad_c.specs.declared.plain.kinds.Coded.{Coded}
+use Rattle.colorgrad_c.specs.declared.plain.kinds.Coded.the-variants.{Of, Unknown}
 use Rattle.promises.proofs.Parts.{rows-of, counts-of, marks-of, positions-of, channels-of}
 use Rattle.promises.proofs.Segment as stored
 use Rattle.promises.specs.Law.{Coincide, coincide, answer, _with_, both}
@@ -34,6 +34,7 @@ use Rattle.colorgrad_c.proofs.lists.colorgrad_thin_within_told.Reads as of-thin
 use Rattle.colorgrad_c.proofs.lists.colorgrad_flatten_within_told.Reads as of-flatten-within
 use Rattle.colorgrad_c.proofs.steps.colorgrad_next_stop_told.Reads as of-next-stop
 use Rattle.colorgrad_c.proofs.judging.colorgrad_judge_told.Reads as of-judge
+use Rattle.colorgrad_c.proofs.judging.colorgrad_apart_told.Reads as of-apart
 use Rattle.colorgrad_c.proofs.edits.colorgrad_edit_told.Reads as of-edit
 use Rattle.colorgrad_c.proofs.edits.colorgrad_edit_list_told.Reads as of-edit-list
 
@@ -149,6 +150,10 @@ edit-list κs a =
 -- with the lent output
 pub paint : (κs : Lfts 5) (a : _) → Coincide (of-paint.Learnt κs a) (λ r e. r with now (e .1 .1 .1 .1 .1 .0))
 paint κs a = by-code _ (a .0) (λ kind. coincide (λ r e w. both (w .answer) (w .contents))) (coincide (λ r e w. both (w .0) (w .1)))
+
+-- with the bytes of the depths
+pub apart : (κs : Lfts 8) (a : _) → Coincide (of-apart.Learnt κs a) (λ r e. (r with now (e .1 .1 .1 .1 .1 .1 .1 .1 .1 .1 .0)) with now (e .1 .1 .1 .1 .1 .1 .1 .1 .1 .0))
+apart κs a = by-code _ (a .0) (λ kind. coincide (λ r e w. both (w .answer) (w .bytes))) (coincide (λ r e w. both (w .0) (w .1)))
 
 -- with what is told alone
 pub check : (κs : Lfts 3) (a : _) → Coincide (of-check.Learnt κs a) answer

@@ -4,13 +4,9 @@ use denote.Ref.{now}
 use Rattle.promises.specs.Law.{Coincide, coincide, answer, _with_, both}
 use Rattle.judge.proofs.check_list.Reads as of-check-list
 use Rattle.judge.proofs.judge.Reads as of-judge
-use Rattle.plain.proofs.verdicts.tell_verdict.Reads as of-tell-verdict
 
 pub check-list : (κs : Lfts 2) (a : _) → Coincide (of-check-list.Learnt κs a) answer
 check-list κs a = coincide (λ r e w. w)
 
 pub judge : (κs : Lfts 5) (a : _) → Coincide (of-judge.Learnt κs a) answer
 judge κs a = coincide (λ r e w. w .answer)
-
-pub tell-verdict : (κs : Lfts 2) (a : _) → Coincide (of-tell-verdict.Learnt κs a) (λ r e. r with now (e .1 .0) with now (e .1 .1 .0))
-tell-verdict κs a = coincide (λ r e w. both (w .0) (both (w .1 .0) (w .1 .1)))

@@ -25,14 +25,11 @@ pub mod Linearize
 pub mod Weighed
 pub mod Within
 pub mod NextStop
-pub mod Reach
-pub mod Editing
 pub mod Refresh
 pub mod Judge
 pub mod Apart
 pub mod Paint
 pub mod Desk
-pub mod Plain
 pub mod Face
 pub mod GgrWriting
 pub mod Spelling

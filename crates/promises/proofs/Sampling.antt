@@ -16,6 +16,8 @@ use Rattle.sampling.proofs.resample.Reads as of-resample
 use Rattle.sampling.proofs.cells.edge.Reads as of-edge
 use Rattle.sampling.proofs.cells.evaluate.Reads as of-evaluate
 use Rattle.sampling.proofs.cells.placed.Reads as of-placed
+use Rattle.sampling.proofs.cells.drawn_at.Reads as of-drawn-at
+use Rattle.sampling.proofs.cells.evaluate_along.Reads as of-evaluate-along
 
 pub stands-out : (κs : Lfts 0) (a : _) → Coincide (of-stands-out.Learnt κs a) answer
 stands-out κs a = coincide (λ r e w. w)
@@ -46,8 +48,15 @@ resample κs a = coincide (λ r e w. both (w .answer) (both (rows-of (w .left)) 
 pub edge : (κs : Lfts 0) (a : _) → Coincide (of-edge.Learnt κs a) answer
 edge κs a = coincide (λ r e w. w)
 
-pub evaluate : (κs : Lfts 4) (a : _) → Coincide (of-evaluate.Learnt κs a) answer
+pub evaluate : (κs : Lfts 3) (a : _) → Coincide (of-evaluate.Learnt κs a) answer
 evaluate κs a = coincide (λ r e w. w)
 
-pub placed : (κs : Lfts 3) (a : _) → Coincide (of-placed.Learnt κs a) answer
+pub placed : (κs : Lfts 2) (a : _) → Coincide (of-placed.Learnt κs a) answer
 placed κs a = coincide (λ r e w. w)
+
+-- the point and the pair in hand
+pub drawn-at : (κs : Lfts 3) (a : _) → Coincide (of-drawn-at.Learnt κs a) (λ r e. r with now (e .1 .1 .1 .1 .1 .0))
+drawn-at κs a = coincide (λ r e w. both (w .point) (w .drawn))
+
+pub evaluate-along : (κs : Lfts 4) (a : _) → Coincide (of-evaluate-along.Learnt κs a) (λ r e. r with now (e .1 .1 .1 .1 .1 .1 .0))
+evaluate-along κs a = coincide (λ r e w. both (w .point) (w .drawn))

@@ -22,10 +22,7 @@ use Rattle.stops.proofs.near.segment_for.Reads as of-segment-for
 use Rattle.stops.proofs.near.segment_colour.Reads as of-segment-colour
 use Rattle.stops.proofs.segments.is_catmull_rom.Reads as of-is-catmull-rom
 use Rattle.stops.proofs.segments.fill.Reads as of-fill
-use Rattle.stops.proofs.segments.has.Reads as of-has
-use Rattle.stops.proofs.segments.follow.Reads as of-follow
 use Rattle.stops.proofs.segments.segment.Reads as of-segment
-use Rattle.stops.proofs.segments.pair_colour.Reads as of-pair-colour
 
 pub less : (κs : Lfts 0) (a : _) → Coincide (of-less.Learnt κs a) answer
 less κs a = coincide (λ r e w. w)
@@ -89,14 +86,5 @@ is-catmull-rom κs a = coincide (λ r e w. w)
 pub fill : (κs : Lfts 2) (a : _) → Coincide (of-fill.Learnt κs a) (λ r e. r with now (e .1 .1 .1 .0))
 fill κs a = coincide (λ r e w. both (w .many) (w .written))
 
-pub has : (κs : Lfts 0) (a : _) → Coincide (of-has.Learnt κs a) answer
-has κs a = coincide (λ r e w. w)
-
-pub follow : (κs : Lfts 2) (a : _) → Coincide (of-follow.Learnt κs a) (λ r e. r with now (e .1 .1 .1 .1 .1 .0))
-follow κs a = coincide (λ r e w. both (w .place) (w .written))
-
 pub segment : (κs : Lfts 2) (a : _) → Coincide (of-segment.Learnt κs a) answer
 segment κs a = coincide (λ r e w. w)
-
-pub pair-colour : (κs : Lfts 3) (a : _) → Coincide (of-pair-colour.Learnt κs a) answer
-pair-colour κs a = coincide (λ r e w. w)

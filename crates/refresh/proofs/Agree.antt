@@ -15,7 +15,7 @@ use Rattle.sampling.specs.Constants.{cells, depth, rowLength}
 use Rattle.sampling.specs.Midpoints.{Gradient, Far, midOf, keeps, halves, tries}
 use Rattle.slices.specs.Joined.{joined}
 use Rattle.sampling.specs.Cells.{edgeOf, pointsOf, padded, rowOf, cellRow, cellCount, cellTries, rowsOf, countsOf}
-use Rattle.reach.specs.Stretch.{midsOutside, clearOf, cellClear}
+use Rattle.refresh.specs.reach.Stretch.{midsOutside, clearOf, cellClear}
 use Rattle.slices.proofs.Joined.{length-joined, single}
 use Rattle.sampling.proofs.Rows.{cell-length}
 use Rattle.sampling.specs.Anew.{anewRow, anewCount, anewRows, anewCounts}

@@ -30,15 +30,15 @@ use Rattle.linearize.proofs.Checks.{ready}
 use Rattle.sampling.proofs.Checks.{ramp-fine, record-lengths}
 use Rattle.sampling.proofs.Words.{same-threshold}
 use Rattle.records.proofs.Marking.{marks-pass, marks-either, marks-equal}
-use Rattle.reach.specs.Stretch.{cellClear}
-use Rattle.editing.specs.Edited.{edited}
-use Rattle.editing.specs.Rules.{editCheck}
-use Rattle.editing.specs.Reached.{away, clearCell}
-use Rattle.editing.specs.Sound.{Sound}
-use Rattle.editing.proofs.EditSound.{edit-sound}
+use Rattle.refresh.specs.reach.Stretch.{cellClear}
+use Rattle.refresh.specs.editing.Edited.{edited}
+use Rattle.refresh.specs.editing.Rules.{editCheck}
+use Rattle.refresh.specs.editing.Reached.{away, clearCell}
+use Rattle.refresh.specs.editing.Sound.{Sound}
+use Rattle.refresh.proofs.editing.EditSound.{edit-sound}
 use Rattle.refresh.specs.RefreshDesk.{numberOfRefreshed, refreshCheck, renewed, refreshAnswer, refreshHeld, refreshOutput, Refreshes, RefreshLists}
 use Rattle.refresh.specs.AfterEdit.{Shaped, OneList, ByThreshold, Fresh, RefreshedThenThinned, FreshList, SameCell}
-use Rattle.editing.specs.declared.Edit.{Edit}
+use Rattle.refresh.specs.declared.editing.Edit.{Edit}
 use Rattle.refresh.specs.declared.Refreshed.{Refreshed}
 use Rattle.refresh.proofs.EditChecks.{thin-fine, edited-sampling}
 use Rattle.refresh.proofs.Agree.{row-at, count-at}

@@ -19,18 +19,18 @@ use Rattle.records.specs.Fitness.{thinCheck}
 use Rattle.sampling.specs.Anew.{keptBy}
 use Rattle.sampling.proofs.Checks.{passes-both, ramp-fine}
 use Rattle.records.proofs.Passing.{sample-fine, marks-own}
-use Rattle.reach.proofs.Kept.{checked-kept}
-use Rattle.editing.specs.Edited.{stopsAfter, edited}
-use Rattle.editing.specs.Rules.{editCheck}
-use Rattle.editing.specs.Reached.{stretchOf, cellsKept, clearCell}
-use Rattle.editing.specs.Copied.{copyCheck, copyAnswer, Copies}
-use Rattle.editing.specs.declared.Edit.{Edit}
-use Rattle.editing.specs.declared.copy.Copied.{Copied}
-use Rattle.editing.specs.declared.copy.Copied.the-variants as copied
-use Rattle.editing.proofs.Splices.{written-is}
-use Rattle.editing.proofs.Copying.{copy-check, fits-are}
-use Rattle.editing.specs.Sound.{Sound}
-use Rattle.editing.proofs.EditSound.{edit-sound}
+use Rattle.refresh.proofs.reach.Kept.{checked-kept}
+use Rattle.refresh.specs.editing.Edited.{stopsAfter, edited}
+use Rattle.refresh.specs.editing.Rules.{editCheck}
+use Rattle.refresh.specs.editing.Reached.{stretchOf, cellsKept, clearCell}
+use Rattle.refresh.specs.editing.Copied.{copyCheck, copyAnswer, Copies}
+use Rattle.refresh.specs.declared.editing.Edit.{Edit}
+use Rattle.refresh.specs.declared.editing.copy.Copied.{Copied}
+use Rattle.refresh.specs.declared.editing.copy.Copied.the-variants as copied
+use Rattle.refresh.proofs.editing.Splices.{written-is}
+use Rattle.refresh.proofs.editing.Copying.{copy-check, fits-are}
+use Rattle.refresh.specs.editing.Sound.{Sound}
+use Rattle.refresh.proofs.editing.EditSound.{edit-sound}
 use Rattle.refresh.specs.RefreshDesk.{refreshCheck}
 
 -- ---- the check of a refresh

@@ -28,14 +28,14 @@ use Rattle.linearize.proofs.Checks.{ready}
 use Rattle.linearize.proofs.Answers.{tells}
 use Rattle.linearize.proofs.Bounds.{list-bound}
 use Rattle.places.proofs.Following.{list-some, list-most}
-use Rattle.editing.specs.Edited.{edited}
-use Rattle.editing.specs.Reached.{cellsKept, clearCell}
+use Rattle.refresh.specs.editing.Edited.{edited}
+use Rattle.refresh.specs.editing.Reached.{cellsKept, clearCell}
 use Rattle.linearize.specs.Relist.{countFits, countsFit, relistCheck, relistHeld, relistOutput, Relists}
 use Rattle.sampling.specs.Anew.{keptBy, anewTries, anewEvaluations, resampled, resampledEvaluations, resampleAnswer, resampleHeld}
 use Rattle.sampling.specs.Promises.{Resamples}
 use Rattle.refresh.specs.inner.Steps.{refreshedBy}
 use Rattle.refresh.specs.RefreshDesk.{evaluationsOfRefreshed, renewed, newEvaluations, refreshCheck, refreshAnswer, refreshEvaluations, refreshHeld, refreshOutput, Refreshes, RefreshLists}
-use Rattle.editing.specs.declared.Edit.{Edit}
+use Rattle.refresh.specs.declared.editing.Edit.{Edit}
 use Rattle.refresh.specs.declared.Refreshed.{Refreshed}
 use Rattle.refresh.specs.declared.Refreshed.the-variants as refreshed
 use Rattle.refresh.proofs.EditChecks.{thin-fine, sampled, own-words, allowed, edited-sampling, same-marks, kept}

@@ -17,10 +17,10 @@ use Rattle.linearize.specs.Promises.{Thins}
 use Rattle.linearize.specs.declared.Listed.{Listed}
 use Rattle.linearize.proofs.Checks.{ready, ready-counts}
 use Rattle.linearize.proofs.Answers.{added}
-use Rattle.editing.specs.Edited.{edited}
+use Rattle.refresh.specs.editing.Edited.{edited}
 use Rattle.refresh.specs.RefreshDesk.{refreshCheck, renewed, newEvaluations, refreshAnswer, refreshHeld, refreshOutput, Refreshes, RefreshLists}
 use Rattle.refresh.specs.AfterEdit.{RefreshedThenThinned}
-use Rattle.editing.specs.declared.Edit.{Edit}
+use Rattle.refresh.specs.declared.editing.Edit.{Edit}
 use Rattle.refresh.specs.declared.Refreshed.{Refreshed}
 use Rattle.refresh.proofs.EditChecks.{thin-fine, own-words, allowed, same-marks}
 use Rattle.refresh.proofs.RefreshAnswers.{edited-held, renewed-thins, words-stay}

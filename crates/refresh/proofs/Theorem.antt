@@ -19,14 +19,14 @@ use Rattle.records.proofs.Marking.{marks-pass}
 use Rattle.sampling.proofs.Checks.{record-lengths}
 use Rattle.linearize.proofs.Checks.{ready-counts}
 use Rattle.linearize.proofs.Records.{fresh-ready}
-use Rattle.reach.specs.Stretch.{cellClear}
-use Rattle.editing.specs.Edited.{edited}
-use Rattle.editing.specs.Rules.{editCheck}
-use Rattle.editing.specs.Reached.{away}
+use Rattle.refresh.specs.reach.Stretch.{cellClear}
+use Rattle.refresh.specs.editing.Edited.{edited}
+use Rattle.refresh.specs.editing.Rules.{editCheck}
+use Rattle.refresh.specs.editing.Reached.{away}
 use Rattle.refresh.specs.RefreshDesk.{refreshCheck, renewed}
-use Rattle.editing.specs.declared.Edit.{Edit}
+use Rattle.refresh.specs.declared.editing.Edit.{Edit}
 use Rattle.refresh.proofs.Agree.{same-row, same-count, refreshed-rows, refreshed-counts}
-use Rattle.editing.specs.Sound.{Sound}
+use Rattle.refresh.specs.editing.Sound.{Sound}
 use Rattle.refresh.proofs.EditChecks.{same-marks}
 
 module _ (ramp : Ramp) (e : Edit) (ok : Sound ramp e) (asked : Float) where

@@ -17,9 +17,9 @@ use Rattle.sampling.specs.declared.Sampled.{Sampled}
 use Rattle.sampling.specs.declared.Sampled.the-variants as sampled
 use Rattle.linearize.specs.declared.Listed.{Listed}
 use Rattle.linearize.specs.declared.Listed.the-variants as listed
-use Rattle.editing.specs.Edited.{edited}
+use Rattle.refresh.specs.editing.Edited.{edited}
 use Rattle.refresh.specs.RefreshDesk.{newEvaluations}
-use Rattle.editing.specs.declared.Edit.{Edit}
+use Rattle.refresh.specs.declared.editing.Edit.{Edit}
 use Rattle.refresh.specs.declared.Refreshed.{Refreshed}
 use Rattle.refresh.specs.declared.Refreshed.the-variants as refreshed
 

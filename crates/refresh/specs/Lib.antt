@@ -1,3 +1,5 @@
 pub mod RefreshDesk
 pub mod AfterEdit
 pub mod inner
+pub mod editing
+pub mod reach

@@ -15,10 +15,10 @@ use Rattle.linearize.specs.Desk.{pointsIn, written}
 use Rattle.linearize.specs.Promises.{TellsOf}
 use Rattle.linearize.specs.declared.Listed.{Listed}
 use Rattle.sampling.specs.Anew.{anewRows, anewCounts, anewEvaluations}
-use Rattle.editing.specs.Edited.{edited}
-use Rattle.editing.specs.Rules.{editCheck}
-use Rattle.editing.specs.Reached.{clearCell}
-use Rattle.editing.specs.declared.Edit.{Edit}
+use Rattle.refresh.specs.editing.Edited.{edited}
+use Rattle.refresh.specs.editing.Rules.{editCheck}
+use Rattle.refresh.specs.editing.Reached.{clearCell}
+use Rattle.refresh.specs.declared.editing.Edit.{Edit}
 use Rattle.refresh.specs.declared.Refreshed.{Refreshed}
 use Rattle.refresh.specs.declared.Refreshed.the-variants as refreshed
 

@@ -1,8 +1,8 @@
 // Refreshing a record after an edit of its ramp: a cell clear of the change keeps what it holds, any other is sampled anew.
-use editing::Edit;
-use editing::copy::Copied;
-use editing::copy::copy;
-use editing::kept;
+use crate::editing::Edit;
+use crate::editing::copy::Copied;
+use crate::editing::copy::copy;
+use crate::editing::kept;
 use linearize::Listed;
 use linearize::Sampled;
 use linearize::relist;
@@ -17,6 +17,9 @@ ghost use Rattle.sampling.specs.Lent.{lentHeld};
 ghost use Rattle.linearize.specs.Lent.{lentOutput};
 ghost use Rattle.refresh.specs.RefreshDesk.{Refreshes, RefreshLists};
 ghost use Rattle.refresh.specs.inner.Steps.{refreshedBy};
+
+pub mod editing;
+pub mod reach;
 
 // What a refresh answers: the evaluations, or the number of the refusal.
 pub enum Refreshed {

@@ -1,6 +1,6 @@
 // A stored edit: its sort, a stop, a position and a colour, of which the sort takes those that it has.
 use crate::words;
-use editing::Edit;
+use refresh::editing::Edit;
 
 pub fn next() -> Edit {
     let sort = words::word();

@@ -6,15 +6,15 @@ use linearize::Listed;
 use linearize::Sampler;
 use stops::Kind;
 
-const RECORD: usize = Sampler::CELLS * Sampler::ROW;
+pub const RECORD: usize = Sampler::CELLS * Sampler::ROW;
 
 // How a record and outputs are lent: in full, a record too short, outputs for two stops.
 const SHORT_RECORD: u32 = 1;
 
-const SMALL_ROOM: u32 = 2;
+pub const SMALL_ROOM: u32 = 2;
 
 // What stands in lent memory before a call, so that what stays and what is set to zero both show.
-const RUBBISH: f32 = 7.5;
+pub const RUBBISH: f32 = 7.5;
 
 // Whether the answer is the next three words: refusal, stops, evaluations.
 fn is_answer(made: Listed) -> bool {
@@ -39,7 +39,7 @@ fn is_answer(made: Listed) -> bool {
 }
 
 // The answer, the positions and the channels, each an answer of its own.
-fn compared(made: Listed, places: &[f32], colours: &[f32], before: Tally) -> Tally {
+pub fn compared(made: Listed, places: &[f32], colours: &[f32], before: Tally) -> Tally {
     let answered = before.with(is_answer(made));
     let n = words::word();
     let placed = answered.with(words::are_words(places, n));

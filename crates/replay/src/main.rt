@@ -1,8 +1,9 @@
 // Runs the answers that `compare/` stored, and counts those that are equal here: the published Rust's, and of what the Rust has
-// not got those that were worked out from document 02.
+// not got those that were worked out from document 02, and from the rule of lists that keep their word.
 mod bands;
 mod colours;
 mod edits;
+mod held;
 mod lists;
 mod ramps;
 mod steps;
@@ -69,6 +70,8 @@ fn main() {
     print(b"refreshed ", records(ramps::REFRESHED));
     print(b"texts ", records(ramps::TEXTS));
     print(b"sharp ", records(ramps::BANDS));
+    print(b"within ", records(ramps::WITHIN));
+    print(b"stale ", records(ramps::STALE));
     print(b"waves ", records(ramps::COLOURS));
     print(b"written ", records(ramps::WRITTEN));
     print(b"verdicts ", records(ramps::VERDICTS));

@@ -1,6 +1,7 @@
 // A stored ramp, of any kind, and what was asked of it.
 use crate::Tally;
 use crate::colours;
+use crate::held;
 use crate::lists;
 use crate::steps;
 use crate::verdicts;
@@ -24,6 +25,10 @@ pub const WRITTEN: u32 = 7;
 pub const VERDICTS: u32 = 8;
 
 pub const STEPS: u32 = 9;
+
+pub const WITHIN: u32 = 10;
+
+pub const STALE: u32 = 11;
 
 // One more than a ramp may have, 2,048 stops or 256 segments, so that the refusal of it is stored too.
 const MOST_POSITIONS: usize = 2049;
@@ -65,6 +70,12 @@ fn answers(
     }
     if sort == STEPS {
         return steps::answers(kind, positions, channels, codes, before);
+    }
+    if sort == WITHIN {
+        return held::flattened(kind, positions, channels, codes, before);
+    }
+    if sort == STALE {
+        return held::thinned(kind, positions, channels, codes, before);
     }
     lists::refreshed(kind, positions, channels, codes, before)
 }

@@ -1,9 +1,10 @@
 -- Laws that belong to no one function.
-pub mod Tabled
+pub mod Nearness
 pub mod Thresholds
 pub mod Words
 pub mod Halves
-pub mod EndSegments
+pub mod Drawing
+pub mod Along
 pub mod Rows
 pub mod Ends
 pub mod Filling

@@ -3,6 +3,8 @@ use crate::Carried;
 use crate::Point;
 use crate::Sampler;
 use crate::Task;
+use crate::drawn::curve_of;
+use crate::drawn::follow;
 use crate::halving::row_into;
 use blend::Rgba;
 use blend::basis;
@@ -19,11 +21,13 @@ ghost use Prim.Native.Nat.{_≤_, _<_};
 ghost use lib.ListN.{length};
 ghost use Rattle.sampling.specs.Constants.{cells, recordLength};
 ghost use Rattle.sampling.specs.Cells.{endOf};
-ghost use Rattle.sampling.specs.Segments.{pairBy, placedPoint, pointNear};
-ghost use Rattle.sampling.specs.inner.Steps.{Prepared, Reaches, taskRamp, taskColours, taskEnd, taskFar, PointAt, CellCarried};
+ghost use Rattle.sampling.specs.Segments.{placedPoint, pointNear, Draws, GoesAlong};
+ghost use Rattle.sampling.specs.inner.Steps.{Carrying, Reaches, taskRamp, taskColours, taskEnd, taskFar, PointAt, CellCarried};
 ghost use Rattle.sampling.specs.Lent.{lentBody};
-ghost use Rattle.stops.specs.Lent.{lentRamp, old};
+ghost use Rattle.stops.specs.Lent.{lentRamp, old, new};
 ghost use Rattle.stops.specs.Pair.{between};
+ghost use Rattle.stops.specs.declared.Checked.the-variants.{Fine};
+ghost use Rattle.gradient.specs.Ramp.{checkOf};
 
 // The colour between stop k - 1 and stop k. It is mixed here: behind the call that any place takes, the stops would go through
 // memory at each point.
@@ -49,35 +53,9 @@ fn pair_at(kind: Kind, positions: &[f32], channels: &[f32], k: usize, t: f32) ->
     }
 }
 
-// The same with a table of Catmull-Rom segments in hand.
-fn within(
-    kind: Kind,
-    positions: &[f32],
-    channels: &[f32],
-    base: usize,
-    table: &[[[f32; 4]; 4]],
-    k: usize,
-    t: f32,
-) -> Rgba
-    ensures { λ r. ⌜ r ≡ pairBy kind (old positions) (old channels) base (old table) k t ⌝ }
-{
-    if segments::is_catmull_rom(kind) {
-        return segments::pair_colour(positions, channels, base, table, k, t);
-    }
-    pair_at(kind, positions, channels, k, t)
-}
-
 // The point at t, whose place among the stops is known.
-pub fn placed(
-    kind: Kind,
-    positions: &[f32],
-    channels: &[f32],
-    base: usize,
-    table: &[[[f32; 4]; 4]],
-    t: f32,
-    place: Place,
-) -> Point
-    ensures { λ r. ⌜ r ≡ placedPoint kind (old positions) (old channels) base (old table) t place ⌝ }
+pub fn placed(kind: Kind, positions: &[f32], channels: &[f32], t: f32, place: Place) -> Point
+    ensures { λ r. ⌜ r ≡ placedPoint kind (old positions) (old channels) t place ⌝ }
 {
     match place {
         Place::End(i) => Point {
@@ -96,15 +74,14 @@ pub fn placed(
             pair: 0,
         },
         Place::Between(k) => Point {
-            colour: within(kind, positions, channels, base, table, k, t),
+            colour: pair_at(kind, positions, channels, k, t),
             t,
             pair: k,
         },
     }
 }
 
-// The point at t, tried in the pair `guess` before its place is searched for, with a table of Catmull-Rom segments from the
-// pair `base` on in hand, which is empty where the ramp has none: where it has the segment of t's pair, that one is used.
+// The point at t, tried in the pair `guess` before its place is searched for.
 pub fn evaluate(
     kind: Kind,
     positions: &[f32],
@@ -112,17 +89,52 @@ pub fn evaluate(
     codes: &[u8],
     t: f32,
     guess: usize,
-    base: usize,
-    table: &[[[f32; 4]; 4]],
 ) -> Point
-    ensures { λ r. ⌜ r ≡ pointNear (lentRamp kind positions channels codes) base (old table) t guess ⌝ }
+    ensures { λ r. ⌜ r ≡ pointNear (lentRamp kind positions channels codes) t guess ⌝ }
 {
     if gradient::is_gimp(kind) {
         let colour = gimp::colour_at(positions, channels, codes, t);
         return Point { colour, t, pair: 0 };
     }
     let place = near::find_place(positions, t, guess);
-    placed(kind, positions, channels, base, table, t, place)
+    placed(kind, positions, channels, t, place)
+}
+
+// The point of a Catmull-Rom ramp at t, whose place is known. The pair `guess` is in hand, drawn, and becomes that of the place.
+pub fn drawn_at(
+    positions: &[f32],
+    channels: &[f32],
+    t: f32,
+    place: Place,
+    guess: usize,
+    drawn: &mut [[f32; 4]; 7],
+) -> Point
+    ensures { λ r. ⌜ Draws (old positions) (old channels) t place guess (old drawn) (new drawn) r ⌝ }
+{
+    let pair = near::pair_or(place, 0);
+    follow(channels, positions.len(), guess, pair, drawn);
+    let colour = near::segment_colour(positions, channels, curve_of(drawn), t, place);
+    Point { colour, t, pair }
+}
+
+// The point at t, tried in the pair `guess` first, which goes along where the ramp is Catmull-Rom: it is in hand, drawn, and
+// becomes that of the point.
+pub fn evaluate_along(
+    kind: Kind,
+    positions: &[f32],
+    channels: &[f32],
+    codes: &[u8],
+    t: f32,
+    guess: usize,
+    drawn: &mut [[f32; 4]; 7],
+) -> Point
+    ensures { λ r. ⌜ GoesAlong (lentRamp kind positions channels codes) t guess (old drawn) (new drawn) r ⌝ }
+{
+    if !segments::is_catmull_rom(kind) {
+        return evaluate(kind, positions, channels, codes, t, guess);
+    }
+    let place = near::find_place(positions, t, guess);
+    drawn_at(positions, channels, t, place, guess, drawn)
 }
 
 // The end between cell i - 1 and cell i; past the last cell it is max.
@@ -135,7 +147,7 @@ pub fn edge(min: f32, max: f32, i: usize) -> f32
     min + (max - min) * (float::from_whole(i as u64) / float::from_whole(Sampler::CELLS as u64))
 }
 
-// The point between cell i - 1 and cell i, tried in the pair `guess` first.
+// The point between cell i - 1 and cell i, tried in the pair `guess` first, which goes along.
 fn end_at(
     task: Task,
     positions: &[f32],
@@ -143,15 +155,15 @@ fn end_at(
     codes: &[u8],
     i: usize,
     guess: usize,
-    table: &[[[f32; 4]; 4]],
+    drawn: &mut [[f32; 4]; 7],
 ) -> Point
-    requires { ⌜ i ≤ cells ⌝ }
-    requires { ⌜ Prepared (taskRamp task positions channels codes) (task .base) (now table) ⌝ }
-    ensures { λ r. ⌜ PointAt (taskColours task positions channels codes) (taskEnd task i) r ⌝ }
+    requires { ⌜ (i ≤ cells) × (checkOf (taskRamp task positions channels codes) ≡ Fine) ⌝ }
+    requires { ⌜ Carrying (taskRamp task positions channels codes) guess (now drawn) ⌝ }
+    ensures { λ r. ⌜ PointAt (taskColours task positions channels codes) (taskEnd task i) r × Carrying (lentRamp (task .kind) positions channels codes) (r .pair) (new drawn) ⌝ }
 {
     let kind = task.kind;
     let t = edge(task.min, task.max, i);
-    evaluate(kind, positions, channels, codes, t, guess, task.base, table)
+    evaluate_along(kind, positions, channels, codes, t, guess, drawn)
 }
 
 // The point where cell i starts: the one in hand, if it is known.
@@ -162,19 +174,20 @@ fn left_end(
     codes: &[u8],
     i: usize,
     carried: Carried,
-    table: &[[[f32; 4]; 4]],
+    drawn: &mut [[f32; 4]; 7],
 ) -> Point
     requires { ⌜ i ≤ cells ⌝ }
-    requires { ⌜ Reaches (taskRamp task positions channels codes) (task .base) (now table) (task .min) (task .max) i carried ⌝ }
-    ensures { λ r. ⌜ PointAt (taskColours task positions channels codes) (taskEnd task i) r ⌝ }
+    requires { ⌜ Reaches (taskRamp task positions channels codes) (now drawn) (task .min) (task .max) i carried ⌝ }
+    ensures { λ r. ⌜ PointAt (taskColours task positions channels codes) (taskEnd task i) r × Carrying (lentRamp (task .kind) positions channels codes) (r .pair) (new drawn) ⌝ }
 {
+    let point = carried.point;
     if carried.known {
-        return carried.point;
+        return point;
     }
-    end_at(task, positions, channels, codes, i, 1, table)
+    end_at(task, positions, channels, codes, i, point.pair, drawn)
 }
 
-// Cell i: kept, or sampled anew from the point carried to it.
+// Cell i: kept, or sampled anew from the point carried to it, whose pair is in hand, drawn.
 pub(crate) fn resample_cell(
     task: Task,
     positions: &[f32],
@@ -185,11 +198,12 @@ pub(crate) fn resample_cell(
     carried: Carried,
     rows: &mut [f32],
     counts: &mut [u8],
-    table: &[[[f32; 4]; 4]],
+    drawn: &mut [[f32; 4]; 7],
 ) -> Carried
     requires { ⌜ (i < cells) × ((length (now rows) ≡ recordLength) × (length (now counts) ≡ cells)) ⌝ }
-    requires { ⌜ Reaches (taskRamp task positions channels codes) (task .base) (now table) (task .min) (task .max) i carried ⌝ }
+    requires { ⌜ Reaches (taskRamp task positions channels codes) (now drawn) (task .min) (task .max) i carried ⌝ }
     ensures { λ r. ⌜ CellCarried (taskColours task positions channels codes) (taskFar task) kept (task .min) (task .max) i (lentBody rows counts) carried r ⌝ }
+    ensures { λ r. ⌜ Carrying (lentRamp (task .kind) positions channels codes) (r .point .pair) (new drawn) ⌝ }
 {
     if kept {
         let point = carried.point;
@@ -199,12 +213,13 @@ pub(crate) fn resample_cell(
             tries: carried.tries,
         };
     }
-    let p = left_end(task, positions, channels, codes, i, carried, table);
-    let q = end_at(task, positions, channels, codes, i + 1, p.pair, table);
+    let p = left_end(task, positions, channels, codes, i, carried, drawn);
+    let first = *drawn;
+    let q = end_at(task, positions, channels, codes, i + 1, p.pair, drawn);
     let a = i * Sampler::ROW;
     let e = a + Sampler::ROW;
     let row = &mut rows[a..e];
-    let h = row_into(task, positions, channels, codes, row, p, q, table);
+    let h = row_into(task, positions, channels, codes, row, p, q, &first, drawn);
     counts[i] = h.at as u8;
     Carried {
         point: q,

@@ -14,7 +14,6 @@ ghost use Rattle.sampling.specs.Lent.{lentHeld};
 ghost use Rattle.sampling.specs.Promises.{Samples, Resamples};
 
 pub mod cells;
-mod covering;
 mod drawn;
 mod halving;
 mod marks;
@@ -73,14 +72,12 @@ pub struct Point {
     pub pair: usize,
 }
 
-// What a sampling works by, beside the ramp's lists: the ramp's kind and domain, how far apart colours may be, and the pair
-// that the table of segments in hand starts at.
+// What a sampling works by, beside the ramp's lists: the ramp's kind and domain, and how far apart colours may be.
 pub(crate) struct Task {
     pub(crate) kind: Kind,
     pub(crate) cutoff: f32,
     pub(crate) min: f32,
     pub(crate) max: f32,
-    pub(crate) base: usize,
 }
 
 // Where the next point goes, and how many stretches were tried.
@@ -201,7 +198,6 @@ pub fn resample(
                 cutoff,
                 min,
                 max,
-                base: 0,
             };
             let n = resampling::resample_cells(
                 task,

@@ -10,5 +10,4 @@ pub mod Nearby
 pub mod Pairs
 pub mod Colours
 pub mod Tables
-pub mod Windows
 pub mod Chording

@@ -18,7 +18,7 @@ use Rattle.blend.specs.declared.Rgba.{Rgba}
 use Rattle.blend.specs.declared.Stop.{Stop}
 use Rattle.stops.specs.Stops.{stopAt}
 use Rattle.stops.specs.Near.{segmentFor, segmentIn}
-use Rattle.stops.specs.Segments.{Table, segmentsFrom, FillsTable, Segments, InHand, segmentBy, cubicBy}
+use Rattle.stops.specs.Segments.{Table, segmentsFrom, FillsTable, Segments, InHand, segmentBy}
 use Rattle.stops.specs.declared.Place.the-variants.{Between}
 use Rattle.stops.proofs.Nearby.{by-between}
 
@@ -110,9 +110,3 @@ module _ (cs : List Float) (n base : ℕ) where
         go (yes b) (no h) =
             let e : base + (k - base) ≡ k = omega arith in
             sym (segment-there b (lt-of-not-le h)) ∙ w .each (k - base) (lt-of-not-le h) ∙ ap (segmentFor cs n) e
-
--- ---- the colour
-pub colour-by : (ps cs : List Float) (base : ℕ) (table : Table) (t : Float) (k : ℕ) {i : ℕ} {p q : Stop} {s : List (List Float)} {x : Float} {z : Rgba}
-    → i ≡ k - 1 → p ≡ stopAt ps cs i → q ≡ stopAt ps cs k → s ≡ segmentBy cs (length ps) base table k → x ≡ shareOf p q t → z ≡ segmentAt s x
-    → z ≡ cubicBy ps cs base table k t
-colour-by ps cs base table t k {i} {p} {q} {s} h a b c d e = by-between ps cs s t k refl h a b d e ∙ ap (λ (u : List (List Float)). segmentIn ps cs u t (Between k)) c

@@ -57,31 +57,9 @@ pub record InHand (cs : List Float) (n : ℕ) (w : Window) (table : Table) : Typ
   pub fits : w .count ≤ length table
   pub segments : Segments cs n (w .base) (take (w .count) table)
 
--- ---- a window that goes with the points
--- it has the segment of pair k
-unfoldable pub hasPair : Window → ℕ → Bool
-hasPair w k = cond (ltb k (w .base)) false (ltb (k - w .base) (w .count))
-
--- the points leap over pairs from one to another, or go back
-unfoldable pub leapsOver : ℕ → ℕ → Bool
-leapsOver last k = cond (ltb k last) true (ltb 3 (k - last))
-
--- it stays where the points come from one pair to pair k: it has that segment, or they leap, or k is no pair, or there is no room
-unfoldable pub staysFor : Window → ℕ → ℕ → ℕ → Bool
-staysFor w last k room = cond (ltb 0 room) (cond (ltb 0 k) (cond (hasPair w k) true (leapsOver last k)) true) true
-
--- the window for pair k, and the table that it stands in: as they were, or filled from that pair on
-pub record Follows (cs : List Float) (n : ℕ) (w : Window) (last k : ℕ) (table table′ : Table) (r : Window) : Type 0 where
-  pub place : r ≡ cond (staysFor w last k (length table)) w (record { base = k; count = min (n - k) (length table) })
-  pub written : table′ ≡ cond (staysFor w last k (length table)) table (sets table 0 (segmentsFrom cs n k (min (n - k) (length table))))
-
 -- the segment of the pair k - 1, k: out of any table, whose first is that of the pair `base`, or worked out where the table has none
 unfoldable pub segmentBy : List Float → ℕ → ℕ → Table → ℕ → List (List Float)
 segmentBy cs n base table k =
     cond (ltb k base)
     (segmentFor cs n k)
     (cond (ltb (k - base) (length table)) (getD table (k - base) []) (segmentFor cs n k))
-
--- the colour between stop k - 1 and stop k by that segment
-abbrev pub cubicBy : List Float → List Float → ℕ → Table → ℕ → Float → Rgba
-cubicBy ps cs base table k t = segmentIn ps cs (segmentBy cs (length ps) base table k) t (Between k)

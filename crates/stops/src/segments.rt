@@ -1,15 +1,12 @@
 // Catmull-Rom segments worked out once for a call: those of the pairs from one on, as many as a table has room for.
 use crate::Kind;
-use crate::Window;
 use crate::colour;
 use crate::left_of;
 use crate::less;
 use crate::near;
 use crate::right_of;
-use crate::stop;
 use blend::Rgba;
 use blend::catmull_rom;
-use blend::utils;
 ghost use mathlib.Core.Path.{_≡_};
 ghost use mathlib.Core.Bool.{cond};
 ghost use Prim.Native.Nat.{_-_};
@@ -18,16 +15,13 @@ ghost use Rattle.blend.specs.Chords.{chordsOf};
 ghost use Rattle.stops.specs.Lent.{old, new};
 ghost use Rattle.stops.specs.Near.{segmentFor};
 ghost use Rattle.stops.specs.Stops.{colourAt};
-ghost use Rattle.stops.specs.Segments.{isCatmullRom, FillsTable, hasPair, leapsOver, staysFor, Follows, segmentBy, cubicBy, chordsAfter, Chords};
+ghost use Rattle.stops.specs.Segments.{isCatmullRom, FillsTable, segmentBy, chordsAfter, Chords};
 
 // The pairs of a table on the stack: 16 KiB, and 2 KiB for ramps of few stops, since setting the larger one up takes longer than
 // flattening a ramp of two.
 pub const ROOM: usize = 256;
 
 pub const FEW: usize = 32;
-
-// The pairs of a window that goes with points from left to right: enough that a pair costs little more than its own four roots.
-pub const AHEAD: usize = 16;
 
 pub fn is_catmull_rom(kind: Kind) -> bool
     ensures { λ r. ⌜ r ≡ isCatmullRom kind ⌝ }
@@ -128,62 +122,6 @@ pub fn fill(channels: &[f32], n: usize, base: usize, table: &mut [[[f32; 4]; 4]]
     i
 }
 
-// A window has the segment of pair k.
-pub fn has(w: Window, k: usize) -> bool
-    ensures { λ r. ⌜ r ≡ hasPair w k ⌝ }
-{
-    if k < w.base {
-        return false;
-    }
-    k - w.base < w.count
-}
-
-// The points leap over pairs from `last` to k, or go back. Pairs that are passed over have no point, and with more than two of
-// them it costs less to work one segment out alone than to fill a table with those that follow.
-fn leaps(last: usize, k: usize) -> bool
-    ensures { λ r. ⌜ r ≡ leapsOver last k ⌝ }
-{
-    if k < last {
-        return true;
-    }
-    3 < k - last
-}
-
-// A window stays where the points come from the pair `last` to k: it has that segment, or they leap, or there is no such pair
-// or no room.
-fn stays_for(w: Window, last: usize, k: usize, room: usize) -> bool
-    ensures { λ r. ⌜ r ≡ staysFor w last k room ⌝ }
-{
-    if room == 0 {
-        return true;
-    }
-    if k == 0 {
-        return true;
-    }
-    if has(w, k) {
-        return true;
-    }
-    leaps(last, k)
-}
-
-// The window for a point in pair k, where the point before it was in the pair `last`: the one in hand, or one filled from k on.
-pub fn follow(
-    channels: &[f32],
-    n: usize,
-    w: Window,
-    last: usize,
-    k: usize,
-    table: &mut [[[f32; 4]; 4]],
-) -> Window
-    ensures { λ r. ⌜ Follows (old channels) n w last k (old table) (new table) r ⌝ }
-{
-    if stays_for(w, last, k, table.len()) {
-        return w;
-    }
-    let count = fill(channels, n, k, table);
-    Window { base: k, count }
-}
-
 // The segment of the pair k - 1, k: out of a table of the pairs from `base` on, or worked out where the table has none.
 pub fn segment(
     channels: &[f32],
@@ -202,21 +140,4 @@ pub fn segment(
         return table[i];
     }
     near::segment_for(channels, n, k)
-}
-
-// The colour between stop k - 1 and stop k, by the segment of that pair.
-pub fn pair_colour(
-    positions: &[f32],
-    channels: &[f32],
-    base: usize,
-    table: &[[[f32; 4]; 4]],
-    k: usize,
-    t: f32,
-) -> Rgba
-    ensures { λ r. ⌜ r ≡ cubicBy (old positions) (old channels) base (old table) k t ⌝ }
-{
-    let p = stop(positions, channels, less(k));
-    let q = stop(positions, channels, k);
-    let s = segment(channels, positions.len(), base, table, k);
-    catmull_rom::segment_at(s, utils::share(p, q, t))
 }

@@ -23,16 +23,19 @@ use Rattle.stops.specs.Lent.{Ramp}
 use Rattle.stops.specs.Stops.{posAt}
 use Rattle.stops.specs.Place.{Rising, placeOf}
 use Rattle.stops.specs.Pair.{colourIn}
+use Rattle.stops.specs.Segments.{isCatmullRom}
+use Rattle.stops.specs.declared.Checked.the-variants.{Fine}
 use Rattle.stops.specs.declared.Place.the-variants.{Between}
 use Rattle.stops.specs.declared.Window.{Window}
 use Rattle.stops.proofs.Choice.{rising-numbers, le-is, first-is, place-between}
-use Rattle.gradient.specs.Ramp.{isGimp, colourOf}
+use Rattle.gradient.specs.Ramp.{isGimp, checkOf, colourOf}
 use Rattle.gradient.proofs.Valid.{valid}
 use Rattle.sampling.specs.Midpoints.{Gradient}
-use Rattle.sampling.specs.inner.Steps.{Coloured, PointAt, Prepared}
-use Rattle.sampling.specs.Segments.{placedPoint}
+use Rattle.sampling.specs.inner.Steps.{Coloured, PointAt, Carrying}
+use Rattle.sampling.specs.Segments.{Drawn, placedPoint, Draws}
 use Rattle.sampling.specs.declared.Point.{Point}
-use Rattle.sampling.proofs.Tabled.{placed-is}
+use Rattle.sampling.proofs.Nearness.{placed-is}
+use Rattle.sampling.proofs.Along.{drawn-point}
 use Rattle.difference.specs.Difference.{clampedOf, squaresOf}
 use Rattle.within.specs.Shown.{Near, offAt, nearBelow, fairly}
 use Rattle.within.specs.inner.Weighing.{siteAt, entryAt, pointFair, blockFair, fairFrom, allFrom, isUpTo, NearPair, ColoursInHand, Fills, Covers}
@@ -158,17 +161,24 @@ module _ (ps : List Float) (t : Float) (k : ℕ) where
       number
       ∙ ap Between (first-is t ps k number (rising-numbers ps R) (omega arith) (λ j l. is-true (lt (posAt ps j) t) (le-lt-trans (posAt ps j) (posAt ps (k - 1)) t (R j (k - 1) (omega arith) (omega arith)) (u .below))) (λ l. le→not-lt (posAt ps k) t (u .above)))
 
--- the point of a checked ramp in its pair
-pub placed-point : (ramp : Ramp) (base : ℕ) (table : List (List (List Float))) → Prepared ramp base table → (t : Float) (k : ℕ) (x : Point)
-    → isGimp (ramp .kind) ≡ false → isUpTo (ramp .positions) t k ≡ true → x ≡ placedPoint (ramp .kind) (ramp .positions) (ramp .channels) base table t (Between k) → PointAt (colourOf ramp) t x
-unfolding colourOf
-placed-point ramp base table w t k x e h q =
-    let v = valid ramp e (w .fine) in
-    let p = placed-is (ramp .kind) (ramp .positions) (ramp .channels) base table t (w .segments) (Between k) in
-    let c : x .colour ≡ colourIn (ramp .kind) (ramp .positions) (ramp .channels) t (placeOf (ramp .positions) t) =
-    ap (λ (y : Point). y .colour) q ∙ p .1 ∙ ap (colourIn (ramp .kind) (ramp .positions) (ramp .channels) t) (sym (found (ramp .positions) t k (v .rising) h)) in
-    let at : x .t ≡ t = ap (λ (y : Point). y .t) q ∙ p .0 in
-    (at, rw (e, at) c)
+-- the point of a checked ramp in its pair, mixed or by the pair, drawn
+module _ (ramp : Ramp) (fine : checkOf ramp ≡ Fine) (t : Float) (k : ℕ) (h : isUpTo (ramp .positions) t k ≡ true) where
+  pub placed-point : (x : Point) → isGimp (ramp .kind) ≡ false → x ≡ placedPoint (ramp .kind) (ramp .positions) (ramp .channels) t (Between k) → PointAt (colourOf ramp) t x
+  unfolding colourOf
+  placed-point x e q =
+      let v = valid ramp e fine in
+      let p = placed-is (ramp .kind) (ramp .positions) (ramp .channels) t (Between k) in
+      let c : x .colour ≡ colourIn (ramp .kind) (ramp .positions) (ramp .channels) t (placeOf (ramp .positions) t) =
+      ap (λ (y : Point). y .colour) q ∙ p .1 ∙ ap (colourIn (ramp .kind) (ramp .positions) (ramp .channels) t) (sym (found (ramp .positions) t k (v .rising) h)) in
+      let at : x .t ≡ t = ap (λ (y : Point). y .t) q ∙ p .0 in
+      (at, rw (e, at) c)
+
+  pub drawn-there : (i : ℕ) {s s′ : Drawn} {x : Point} → isGimp (ramp .kind) ≡ false → (curved : isCatmullRom (ramp .kind) ≡ true) → Carrying ramp i s
+      → Draws (ramp .positions) (ramp .channels) t (Between k) i s s′ x → PointAt (colourOf ramp) t x × Carrying ramp (x .pair) s′
+  drawn-there i e curved has q =
+      let v = valid ramp e fine in
+      let w = drawn-point ramp fine curved t i (has curved) (sym (found (ramp .positions) t k (v .rising) h)) q in
+      (w .0, (λ d. w .1))
 
 -- ---- a window has an index
 pub holds-in : (b n i : ℕ) → b ≤ i → ltb (i - b) n ≡ true → (b ≤ i) × (i < b + n)

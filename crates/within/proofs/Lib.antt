@@ -8,4 +8,5 @@ pub mod Blocks
 pub mod Lenting
 pub mod Questions
 pub mod Emitting
+pub mod Sites
 pub mod Making

@@ -1,31 +1,24 @@
 -- A list within a hold is made: its answer and both outputs, from the stops written. Assumes nothing.
 use mathlib.Core.Path.{_≡_, refl, sym, ap, ap₂, _∙_, subst}
-use mathlib.Core.Bool.{Bool, true, false, cond, _&&_}
-use lib.Dec.{T, leb, eqb}
-use borrow.Author.Tests.{leb-true, eqb-true}
-use Rattle.float.proofs.Flags.{both-l, both-r}
-use Rattle.refusals.specs.Refusals.{misshapen}
-use Rattle.refusals.specs.Limits.{mostStops}
-use Rattle.gradient.specs.Gimp.{segments, gimpShaped, allCarried, gimpCheck}
-use Rattle.gradient.proofs.Valid.{valid}
-use mathlib.Core.List.{List, [], _∷_, _++_}
-use Prim.Native.Nat.{ℕ, zero, suc, _+_, _*_, _≤_, min}
+use mathlib.Core.Bool.{Bool, true, false}
+use lib.Dec.{T}
+use mathlib.Core.List.{List}
+use Prim.Native.Nat.{ℕ, zero, suc, _+_, _≤_, min}
 use native.Mathlib.Omega.{arith}
-use lib.ListN.{length, replicate, length-append}
+use lib.ListN.{length}
 use lib.Seq.{sets, length-sets}
 use lib.Ieee.{Float}
-use Rattle.float.specs.F32.{f0}
 use Rattle.blend.specs.Channels.{coloursOf}
 use Rattle.sqrt.specs.Cutoff.{IsCutoff}
 use Rattle.stops.specs.declared.Checked.{Checked}
 use Rattle.stops.specs.declared.Checked.the-variants as checked
 use Rattle.stops.specs.Answers.{onFine, numberOfChecked}
 use Rattle.stops.specs.Lent.{Ramp, Change, change}
-use Rattle.gradient.specs.Ramp.{isGimp, checkOf, minOf, maxOf, colourOf}
+use Rattle.gradient.specs.Ramp.{minOf, maxOf, colourOf}
 use Rattle.sampling.specs.Constants.{thresholdOf}
 use Rattle.sampling.specs.Lent.{Held}
 use Rattle.sampling.specs.Midpoints.{Gradient}
-use Rattle.sampling.specs.Sampling.{heldCheck, fresh, freshEvaluations, sampleHeld, sampleAnswer, numberOfSampled}
+use Rattle.sampling.specs.Sampling.{heldCheck, freshEvaluations, sampleHeld, sampleAnswer, numberOfSampled}
 use Rattle.sampling.specs.Promises.{Samples}
 use Rattle.sampling.specs.declared.Sampled.{Sampled}
 use Rattle.sampling.specs.declared.Sampled.the-variants as sampled
@@ -35,101 +28,23 @@ use Rattle.places.specs.Places.{listOf, Ready}
 use Rattle.places.proofs.Following.{list-most}
 use Rattle.thinning.specs.Kept.{writtenOf}
 use Rattle.thinning.specs.declared.Progress.{Progress}
-use Rattle.linearize.specs.Lent.{Output, outputOf}
+use Rattle.linearize.specs.Lent.{Output}
 use Rattle.linearize.specs.Desk.{listedOf, withSampling, pointsIn, room, evaluationsOfListed}
 use Rattle.linearize.specs.declared.Listed.{Listed}
 use Rattle.linearize.specs.declared.Listed.the-variants as listed
 use Rattle.linearize.proofs.Answers.{tells, added, both}
-use Rattle.weighed.specs.Points.{Site, ownOf, merged, sitesOf}
-use Rattle.weighed.specs.Gathered.{pointsOf, mergedOf, gathered, timesOf, marksOf, Gathers}
-use Rattle.weighed.proofs.Coming.{without-max}
-use Rattle.weighed.proofs.Counting.{own-length, merged-length}
-use Rattle.weighed.proofs.Gathering.{gathered-ready}
+use Rattle.weighed.specs.Points.{sitesOf}
+use Rattle.weighed.specs.Gathered.{gathered, Gathers}
 use Rattle.within.specs.Shown.{Near, nearWithin}
 use Rattle.within.specs.Kept.{Kept, keptAll, positionsOf, keptRefusals}
-use Rattle.within.specs.Lists.{holdOf, keptOf, listWithin, refusalWithin, evaluationsWithin, writtenWithin, withinOutput, freshPoints, flattenWithinOutput, flattenWithinEvaluations}
+use Rattle.within.specs.Lists.{holdOf, keptOf, listWithin, refusalWithin, evaluationsWithin, withinOutput, freshPoints, flattenWithinOutput, flattenWithinEvaluations}
 use Rattle.within.specs.Promises.{ThinsWithin, FlattensWithin}
-use Rattle.within.specs.inner.Weighing.{nearBy, sitesFrom, ending, EndsWith, allStops, MakesWithin}
+use Rattle.within.specs.inner.Weighing.{nearBy, sitesFrom, ending, EndsWith, wholeEnding, MakesWithin}
 use Rattle.within.specs.declared.fair.Allowed.{Allowed}
-use Rattle.within.proofs.Arrays.{sites-held}
 use Rattle.within.proofs.Counting.{evaluations-most}
 use Rattle.within.proofs.Cutoffs.{same-near}
 use Rattle.within.proofs.Limits.{threshold-number, hold-number, hold-in-force}
-
--- ---- a checked ramp has at most 2,048 positions
-shaped-few : (n p c k : ℕ) → gimpShaped n p c k ≡ true → p ≤ 2048
-unfolding gimpShaped
-shaped-few n p c k h =
-    let a = both-l (leb 1 n && leb n 256 && eqb p (3 * n) && eqb c (8 * n)) (eqb k (2 * n)) h in
-    let b = both-l (leb 1 n && leb n 256 && eqb p (3 * n)) (eqb c (8 * n)) a in
-    let e = eqb-true p (3 * n) (both-r (leb 1 n && leb n 256) (eqb p (3 * n)) b) in
-    let l = leb-true n 256 (both-r (leb 1 n) (leb n 256) (both-l (leb 1 n && leb n 256) (eqb p (3 * n)) b)) in
-    omega arith
-
-passed-by : (b : Bool) (x : Checked) → cond b x (checked.Refused misshapen) ≡ checked.Fine → b ≡ true
-passed-by true x h = refl
-passed-by false x h = let z : _≡_ {A = ℕ} 0 1 = cc in absurd (omega arith)
-
-pub positions-few : (ramp : Ramp) → checkOf ramp ≡ checked.Fine → length (ramp .positions) ≤ 2048
-unfolding checkOf gimpCheck mostStops
-positions-few ramp h = go (isGimp (ramp .kind)) refl
-  where
-    ps : List Float
-    ps = ramp .positions
-
-    go : (b : Bool) → isGimp (ramp .kind) ≡ b → length ps ≤ 2048
-    go false e = valid ramp e h .sized .most
-    go true e =
-        let k = passed-by (gimpShaped (segments ps) (length ps) (length (ramp .channels)) (length (ramp .codes)) && allCarried (segments ps) 0 ps (ramp .codes)) _ (rw e at h) in
-        shaped-few (segments ps) (length ps) (length (ramp .channels)) (length (ramp .codes)) (both-l (gimpShaped (segments ps) (length ps) (length (ramp .channels)) (length (ramp .codes))) (allCarried (segments ps) 0 ps (ramp .codes)) k)
-
--- ---- the points
-module _ (ramp : Ramp) (rows : List Float) (counts : List ℕ) (ok : Ready rows counts) (few : length (ramp .positions) ≤ 2048) where
-  sites-are : gathered (ramp .positions) rows counts (minOf ramp) (maxOf ramp) ≡ sitesOf ramp (listOf rows counts (maxOf ramp))
-  unfolding sitesOf mergedOf listOf
-  sites-are =
-      let ts = pointsOf rows counts in
-      let os = ownOf (ramp .positions) in
-      let n : length (ts ++ maxOf ramp ∷ []) + length os ≡ suc (length ts + length os) = omega (arith, length-append ts (maxOf ramp ∷ [])) in
-      gathered-ready (ramp .positions) rows counts (minOf ramp) (maxOf ramp) ok few
-      ∙ sym (ap (λ (k : ℕ). merged (maxOf ramp) k (minOf ramp) (ts ++ maxOf ramp ∷ []) os) n ∙ without-max (maxOf ramp) (length ts + length os) (minOf ramp) ts os (omega arith))
-
-  sites-most : length (sitesOf ramp (listOf rows counts (maxOf ramp))) ≤ 10753
-  unfolding sitesOf
-  sites-most =
-      let ts = listOf rows counts (maxOf ramp) in
-      omega (arith, merged-length (maxOf ramp) (length ts + length (ownOf (ramp .positions))) (minOf ramp) ts (ownOf (ramp .positions)), own-length (ramp .positions), list-most rows counts (maxOf ramp) ok)
-
-  -- they stand in the arrays
-  module _ (lo hi : Float) (el : lo ≡ minOf ramp) (eh : hi ≡ maxOf ramp) (ts ts′ : List Float) (ms ms′ : List ℕ) (n : ℕ) (w : Gathers (gathered (ramp .positions) rows counts lo hi) ts ms ts′ ms′ n) where
-    abbrev sites : List Site
-    sites = sitesOf ramp (listOf rows counts (maxOf ramp))
-
-    all : gathered (ramp .positions) rows counts lo hi ≡ sites
-    all = ap₂ (gathered (ramp .positions) rows counts) el eh ∙ sites-are
-
-    pub count-is : n ≡ length sites
-    count-is = w .many ∙ ap length all
-
-    pub count-few : n ≤ 10752
-    unfolding mergedOf listOf
-    count-few =
-        let pts = pointsOf rows counts in
-        omega (
-          arith,
-          w .many ∙ ap length (ap₂ (gathered (ramp .positions) rows counts) el eh ∙ gathered-ready (ramp .positions) rows counts (minOf ramp) (maxOf ramp) ok few),
-          merged-length (maxOf ramp) (length pts + length (ownOf (ramp .positions))) (minOf ramp) pts (ownOf (ramp .positions)),
-          own-length (ramp .positions),
-          few,
-          list-most rows counts (maxOf ramp) ok,
-          length-append pts (maxOf ramp ∷ []),
-        )
-
-    pub sites-there : length ts ≡ 10753 → length ms ≡ 10753 → sitesFrom ts′ ms′ 0 n ≡ sites
-    sites-there l m =
-        ap₂ (λ (a : List Float) (b : List ℕ). sitesFrom a b 0 n) (w .times ∙ ap (λ (ss : List Site). sets ts 0 (timesOf ss)) all) (w .marks ∙ ap (λ (ss : List Site). sets ms 0 (marksOf ss)) all)
-        ∙ ap (sitesFrom (sets ts 0 (timesOf sites)) (sets ms 0 (marksOf sites)) 0) count-is
-        ∙ sites-held ts ms sites (omega (arith, sites-most, l)) (omega (arith, sites-most, m))
+use Rattle.within.proofs.Sites.{count-is, sites-there}
 
 -- ---- the stops
 module _ (g : Gradient) (rm : ℕ) (ps cs : List Float) (ks : List Kept) (s : Progress) (ps′ cs′ : List Float) (w : EndsWith (ending g rm 0 ps cs ks) s ps′ cs′)
@@ -179,7 +94,7 @@ module _ (ramp : Ramp) (asked hold : Float) (rows : List Float) (counts : List �
       → (lo hi : Float) → lo ≡ minOf ramp → hi ≡ maxOf ramp → (ts ts′ : List Float) (ms ms′ : List ℕ) (n : ℕ) → length ts ≡ 10753 → length ms ≡ 10753
       → Gathers (gathered (ramp .positions) rows counts lo hi) ts ms ts′ ms′ n
       → (out : Change Output) (rm : ℕ) → rm ≡ min (room (out .entry)) 4609
-      → (s : Progress) (ps′ cs′ : List Float) → EndsWith (allStops ramp offs rm n lo hi ts′ ms′ (out .entry .positions) (out .entry .channels)) s ps′ cs′
+      → (s : Progress) (ps′ cs′ : List Float) → EndsWith (wholeEnding ramp offs rm n lo hi ts′ ms′ (out .entry .positions) (out .entry .channels)) s ps′ cs′
       → length ps′ ≡ length (out .entry .positions) → length cs′ ≡ length (out .entry .channels)
       → (r : Listed) → r ≡ listedOf (s .refusal) (s .stops) (n + 2) → out .exit .positions ≡ writtenOf (s .refusal) ps′ → out .exit .channels ≡ writtenOf (s .refusal) cs′
       → MakesWithin ramp asked hold points out r

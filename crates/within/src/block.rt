@@ -1,18 +1,20 @@
 // A block of colours: those of the points from one on, as many as it has room for.
 use crate::fair::colour_of;
+use crate::fewer::at_most;
 use sampling::Point;
+use sampling::cells::drawn_at;
 use sampling::cells::evaluate;
+use sampling::cells::evaluate_along;
 use sampling::cells::placed;
 use stops::Kind;
 use stops::Place;
 use stops::Window;
 use stops::segments;
-use stops::segments::follow;
 ghost use mathlib.Core.Path.{_≡_};
-ghost use Prim.Native.Nat.{_+_, _-_, _≤_, _<_, min};
+ghost use Prim.Native.Nat.{_+_, _≤_, _<_};
 ghost use lib.ListN.{length};
 ghost use Rattle.gradient.specs.Ramp.{checkOf, colourOf};
-ghost use Rattle.sampling.specs.inner.Steps.{Prepared, PointAt};
+ghost use Rattle.sampling.specs.inner.Steps.{Carrying, PointAt};
 ghost use Rattle.stops.specs.Lent.{rampIn, lentRamp, old, new};
 ghost use Rattle.stops.specs.declared.Checked.the-variants.{Fine};
 ghost use Rattle.within.specs.inner.Weighing.{isUpTo, NearPair, HoldsAt, ColoursInHand, InHandWith, AfterAt, Fills, Covers};
@@ -51,7 +53,7 @@ fn pair_near(positions: &[f32], t: f32, k: usize) -> usize
     0
 }
 
-// The point at t, tried in the pair k and in the one after it.
+// The point at t, tried in the pair k, which goes along, and in the one after it.
 fn point_in(
     kind: Kind,
     positions: &[f32],
@@ -59,32 +61,27 @@ fn point_in(
     codes: &[u8],
     t: f32,
     k: usize,
-    base: usize,
-    table: &[[[f32; 4]; 4]],
+    drawn: &mut [[f32; 4]; 7],
 ) -> Point
-    requires { ⌜ Prepared (rampIn kind positions channels codes) base (now table) ⌝ }
+    requires { ⌜ checkOf (rampIn kind positions channels codes) ≡ Fine ⌝ }
+    requires { ⌜ Carrying (rampIn kind positions channels codes) k (now drawn) ⌝ }
     ensures { λ r. ⌜ PointAt (colourOf (lentRamp kind positions channels codes)) t r ⌝ }
+    ensures { λ r. ⌜ Carrying (lentRamp kind positions channels codes) (r .pair) (new drawn) ⌝ }
 {
     if gradient::is_gimp(kind) {
-        return evaluate(kind, positions, channels, codes, t, k, base, table);
+        return evaluate_along(kind, positions, channels, codes, t, k, drawn);
     }
     let j = pair_near(positions, t, k);
     if j == 0 {
-        return evaluate(kind, positions, channels, codes, t, k, base, table);
+        return evaluate_along(kind, positions, channels, codes, t, k, drawn);
     }
-    placed(kind, positions, channels, base, table, t, Place::Between(j))
+    if segments::is_catmull_rom(kind) {
+        return drawn_at(positions, channels, t, Place::Between(j), k, drawn);
+    }
+    placed(kind, positions, channels, t, Place::Between(j))
 }
 
-fn at_most(n: usize, m: usize) -> usize
-    ensures { λ r. ⌜ r ≡ min n m ⌝ }
-{
-    if n <= m {
-        return n;
-    }
-    m
-}
-
-// The colours of the points from `base` on, up to `to`, with room in hand for segments.
+// The colours of `count` points from `base` on.
 fn fill_each(
     kind: Kind,
     positions: &[f32],
@@ -94,15 +91,13 @@ fn fill_each(
     base: usize,
     count: usize,
     block: &mut [[f32; 4]; 1024],
-    table: &mut [[[f32; 4]; 4]],
 )
     requires { ⌜ (checkOf (rampIn kind positions channels codes) ≡ Fine) × ((base + count ≤ 10753) × (count ≤ 1024)) ⌝ }
     requires { ⌜ length (now block) ≡ 1024 ⌝ }
     ensures { λ _. ⌜ ColoursInHand (colourOf (lentRamp kind positions channels codes)) (old ts) (record { base = base; count = count }) (new block) ⌝ }
 {
-    let n = positions.len();
-    let mut w = Window { base: 0, count: 0 };
-    let mut guess = 1;
+    let mut drawn = [[0.0f32; 4]; 7];
+    let mut guess = 0;
     let mut i = 0;
     while i < count {
         let x = point_in(
@@ -112,25 +107,13 @@ fn fill_each(
             codes,
             ts[base + i],
             guess,
-            w.base,
-            &table[..w.count],
+            &mut drawn,
         );
-        w = follow(channels, n, w, guess, x.pair, table);
         guess = x.pair;
         let c = x.colour;
         block[i] = [c.r, c.g, c.b, c.a];
         i += 1;
     }
-}
-
-// The room for segments that a ramp of a kind needs: only Catmull-Rom ramps have any.
-fn room_for(kind: Kind) -> usize
-    ensures { λ r. ⌜ r ≤ 16 ⌝ }
-{
-    if segments::is_catmull_rom(kind) {
-        return segments::AHEAD;
-    }
-    0
 }
 
 // The colours of the points from `base` on, up to `to`, as many as there is room for.
@@ -148,20 +131,8 @@ fn fill(
     requires { ⌜ length (now block) ≡ 1024 ⌝ }
     ensures { λ r. ⌜ Fills (lentRamp kind positions channels codes) (old ts) base to (new block) r ⌝ }
 {
-    let mut table = [[[0.0f32; 4]; 4]; segments::AHEAD];
-    let room = room_for(kind);
     let count = at_most(to - base, BLOCK);
-    fill_each(
-        kind,
-        positions,
-        channels,
-        codes,
-        ts,
-        base,
-        count,
-        block,
-        &mut table[..room],
-    );
+    fill_each(kind, positions, channels, codes, ts, base, count, block);
     Window { base, count }
 }
 
@@ -228,15 +199,5 @@ pub(crate) fn point_after(
             pair: 0,
         };
     }
-    let none: [[[f32; 4]; 4]; 1] = [[[0.0; 4]; 4]; 1];
-    evaluate(
-        kind,
-        positions,
-        channels,
-        codes,
-        ts[j],
-        guess,
-        0,
-        &none[..0],
-    )
+    evaluate(kind, positions, channels, codes, ts[j], guess)
 }

@@ -1,5 +1,6 @@
 // Lists that are within a hold of their ramp at its own positions, and within the threshold at a record's points.
 use crate::fair::Allowed;
+use crate::fewer::at_most;
 use linearize::Listed;
 use linearize::after;
 use records::check_thin;
@@ -13,7 +14,6 @@ use thinning::room_of;
 use weighed::MOST;
 use weighed::gather;
 ghost use mathlib.Core.Path.{_≡_};
-ghost use Prim.Native.Nat.{min};
 ghost use Rattle.gradient.specs.Ramp.{checkOf};
 ghost use Rattle.places.specs.Places.{Ready};
 ghost use Rattle.sampling.specs.Lent.{lentHeld};
@@ -27,7 +27,10 @@ ghost use Rattle.within.specs.Promises.{ThinsWithin, FlattensWithin};
 mod asking;
 mod block;
 mod fair;
+mod fewer;
+mod lent;
 mod listing;
+mod steps;
 
 // The stops that a list may have: a judge takes no more.
 const MOST_LISTED: usize = 4609;
@@ -49,15 +52,6 @@ pub fn hold_of(asked: f32, threshold: f32) -> f32
     asked
 }
 
-fn at_most(n: usize, m: usize) -> usize
-    ensures { λ r. ⌜ r ≡ min n m ⌝ }
-{
-    if n <= m {
-        return n;
-    }
-    m
-}
-
 // The list of a record's points. The two arrays are 54 KB, the block of colours 16 KB.
 fn list_within(
     kind: Kind,
@@ -68,11 +62,11 @@ fn list_within(
     hold: f32,
     rows: &[f32],
     counts: &[u8],
-    out_positions: &mut [f32],
-    out_channels: &mut [f32],
+    places: &mut [f32],
+    colours: &mut [f32],
 ) -> Listed
     requires { ⌜ Ready (now rows) (now counts) × (checkOf (rampIn kind positions channels codes) ≡ Fine) ⌝ }
-    ensures { λ r. ⌜ MakesOf (lentRamp kind positions channels codes) threshold hold (old rows) (old counts) (lentOutput «out_positions» «out_channels») r ⌝ }
+    ensures { λ r. ⌜ MakesOf (lentRamp kind positions channels codes) threshold hold (old rows) (old counts) (lentOutput places colours) r ⌝ }
 {
     let offs = Allowed {
         threshold: cutoff_of(threshold),
@@ -83,10 +77,7 @@ fn list_within(
     let mut ts = [0.0f32; MOST];
     let mut whats = [0u8; MOST];
     let count = gather(positions, rows, counts, min, max, &mut ts, &mut whats);
-    let room = at_most(
-        room_of(out_positions.len(), out_channels.len()),
-        MOST_LISTED,
-    );
+    let room = at_most(room_of(places.len(), colours.len()), MOST_LISTED);
     let s = listing::thin_all(
         kind,
         positions,
@@ -99,10 +90,10 @@ fn list_within(
         count,
         min,
         max,
-        out_positions,
-        out_channels,
+        places,
+        colours,
     );
-    listing::finish(s, count + 2, out_positions, out_channels)
+    listing::finish(s, count + 2, places, colours)
 }
 
 // Thins a record to a list within a hold. Refusals 1 to 5 and 20 leave the outputs as they were; 7, 8 and 21 set them to zero.
@@ -116,10 +107,10 @@ pub fn thin_within(
     rows: &[f32],
     counts: &[u8],
     marks: &[u32],
-    out_positions: &mut [f32],
-    out_channels: &mut [f32],
+    places: &mut [f32],
+    colours: &mut [f32],
 ) -> Listed
-    ensures { λ r. ⌜ ThinsWithin (lentRamp kind positions channels codes) threshold hold (lentHeld rows counts marks .entry) (lentOutput «out_positions» «out_channels») r ⌝ }
+    ensures { λ r. ⌜ ThinsWithin (lentRamp kind positions channels codes) threshold hold (lentHeld rows counts marks .entry) (lentOutput places colours) r ⌝ }
 {
     match check_thin(
         kind,
@@ -141,8 +132,8 @@ pub fn thin_within(
             hold,
             rows,
             counts,
-            out_positions,
-            out_channels,
+            places,
+            colours,
         ),
     }
 }
@@ -159,10 +150,10 @@ pub fn flatten_within(
     rows: &mut [f32],
     counts: &mut [u8],
     marks: &mut [u32],
-    out_positions: &mut [f32],
-    out_channels: &mut [f32],
+    places: &mut [f32],
+    colours: &mut [f32],
 ) -> Listed
-    ensures { λ r. ⌜ FlattensWithin (lentRamp kind positions channels codes) threshold hold (lentHeld rows counts marks) (lentOutput «out_positions» «out_channels») r ⌝ }
+    ensures { λ r. ⌜ FlattensWithin (lentRamp kind positions channels codes) threshold hold (lentHeld rows counts marks) (lentOutput places colours) r ⌝ }
 {
     match sample(
         kind,
@@ -185,8 +176,8 @@ pub fn flatten_within(
                 hold,
                 rows,
                 counts,
-                out_positions,
-                out_channels,
+                places,
+                colours,
             );
             after(n, made)
         }

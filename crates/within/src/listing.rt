@@ -1,7 +1,7 @@
 // The stops of a list within a hold: each reached from the one before, and written out.
-use crate::asking::step_from;
 use crate::block::point_after;
 use crate::fair::Allowed;
+use crate::steps::step_from;
 use linearize::Listed;
 use refusals::NOT_SHOWN;
 use sampling::Point;
@@ -37,12 +37,12 @@ fn thin_sites(
     block: &mut [[f32; 4]; 1024],
     count: usize,
     end: Point,
-    out_positions: &mut [f32],
-    out_channels: &mut [f32],
+    places: &mut [f32],
+    colours: &mut [f32],
 ) -> Progress
     requires { ⌜ (checkOf (rampIn kind positions channels codes) ≡ Fine) × ((count ≤ 10752) × ((start .refusal ≡ 0) × (length (now block) ≡ 1024))) ⌝ }
     requires { ⌜ Coloured (colourOf (rampIn kind positions channels codes)) (start .last) × Coloured (colourOf (rampIn kind positions channels codes)) end ⌝ }
-    ensures { λ r. ⌜ StopsAfter (lentRamp kind positions channels codes) offs room start count end (old ts) (old marks) (lentOutput «out_positions» «out_channels») r ⌝ }
+    ensures { λ r. ⌜ StopsAfter (lentRamp kind positions channels codes) offs room start count end (old ts) (old marks) (lentOutput places colours) r ⌝ }
 {
     let mut s = start;
     let mut i = 0;
@@ -86,7 +86,7 @@ fn thin_sites(
             tried: 0,
             refusal: 0,
         };
-        s = emit(room, next, b, out_positions, out_channels);
+        s = emit(room, next, b, places, colours);
         let refusal = s.refusal;
         if refusal != 0 {
             return s;
@@ -117,22 +117,21 @@ pub(crate) fn thin_all(
     count: usize,
     min: f32,
     max: f32,
-    out_positions: &mut [f32],
-    out_channels: &mut [f32],
+    places: &mut [f32],
+    colours: &mut [f32],
 ) -> Progress
     requires { ⌜ (checkOf (rampIn kind positions channels codes) ≡ Fine) × (count ≤ 10752) ⌝ }
-    ensures { λ r. ⌜ AllStops (lentRamp kind positions channels codes) offs room count min max (old ts) (old marks) (lentOutput «out_positions» «out_channels») r ⌝ }
+    ensures { λ r. ⌜ AllStops (lentRamp kind positions channels codes) offs room count min max (old ts) (old marks) (lentOutput places colours) r ⌝ }
 {
-    let none: [[[f32; 4]; 4]; 1] = [[[0.0; 4]; 4]; 1];
-    let end = evaluate(kind, positions, channels, codes, max, 1, 0, &none[..0]);
-    let first = evaluate(kind, positions, channels, codes, min, 1, 0, &none[..0]);
+    let end = evaluate(kind, positions, channels, codes, max, 1);
+    let first = evaluate(kind, positions, channels, codes, min, 1);
     let start = Progress {
         last: first,
         stops: 0,
         tried: 0,
         refusal: 0,
     };
-    let s = emit(room, start, first, out_positions, out_channels);
+    let s = emit(room, start, first, places, colours);
     let refusal = s.refusal;
     if refusal != 0 {
         return s;
@@ -151,8 +150,8 @@ pub(crate) fn thin_all(
         &mut block,
         count,
         end,
-        out_positions,
-        out_channels,
+        places,
+        colours,
     )
 }
 
@@ -160,17 +159,17 @@ pub(crate) fn thin_all(
 pub(crate) fn finish(
     s: Progress,
     evaluations: usize,
-    out_positions: &mut [f32],
-    out_channels: &mut [f32],
+    places: &mut [f32],
+    colours: &mut [f32],
 ) -> Listed
     ensures { λ r. ⌜ r ≡ listedOf (s .refusal) (s .stops) evaluations ⌝ }
-    ensures { λ _. ⌜ new «out_positions» ≡ writtenOf (s .refusal) (old «out_positions») ⌝ }
-    ensures { λ _. ⌜ new «out_channels» ≡ writtenOf (s .refusal) (old «out_channels») ⌝ }
+    ensures { λ _. ⌜ new places ≡ writtenOf (s .refusal) (old places) ⌝ }
+    ensures { λ _. ⌜ new colours ≡ writtenOf (s .refusal) (old colours) ⌝ }
 {
     let refusal = s.refusal;
     if refusal != 0 {
-        zero_from(out_positions, 0);
-        zero_from(out_channels, 0);
+        zero_from(places, 0);
+        zero_from(colours, 0);
         return Listed::Refused(refusal);
     }
     Listed::Done {

@@ -35,9 +35,9 @@ use Rattle.judge.specs.declared.Verdict.{Verdict}
 use Rattle.judge.specs.declared.Verdict.the-variants.{Yes}
 use Rattle.judge.proofs.Answering.{judge-done}
 use Rattle.judge.proofs.Theorems.{stands-yes, one-answer}
-use Rattle.editing.specs.Edited.{edited}
-use Rattle.editing.specs.Rules.{editCheck}
-use Rattle.editing.specs.declared.Edit.{Edit}
+use Rattle.refresh.specs.editing.Edited.{edited}
+use Rattle.refresh.specs.editing.Rules.{editCheck}
+use Rattle.refresh.specs.declared.editing.Edit.{Edit}
 use Rattle.refresh.specs.RefreshDesk.{numberOfRefreshed, Refreshes}
 use Rattle.refresh.specs.AfterEdit.{Shaped}
 use Rattle.refresh.specs.declared.Refreshed.{Refreshed}
@@ -53,7 +53,7 @@ use Rattle.word.proofs.Keeping.{keeps-word}
 use Rattle.word.proofs.Written.{Made, thinned, flattened}
 
 -- a ramp that a sampling takes, the judge takes
-taken-too : (ramp : Ramp) (was : Held) → heldCheck ramp was ≡ checked.Fine → rampCheck ramp ≡ checked.Fine
+pub taken-too : (ramp : Ramp) (was : Held) → heldCheck ramp was ≡ checked.Fine → rampCheck ramp ≡ checked.Fine
 taken-too ramp was h = let l = record-lengths ramp _ _ _ h in rw (l .long, l .many, l .three) at h
 
 -- the judge says yes to a list that stands, by whatever number its threshold is asked for

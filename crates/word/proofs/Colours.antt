@@ -1,11 +1,11 @@
 -- A list's colour at a point that was weighed is the mix that was weighed. Assumes nothing.
-use mathlib.Core.Path.{_≡_, refl, sym, ap, _∙_, subst}
-use mathlib.Core.List.{List, [], _∷_}
-use Prim.Native.Nat.{ℕ, zero, suc, _+_, _-_, _*_, _≤_, _<_}
+use mathlib.Core.Path.{_≡_, sym, ap, _∙_, subst}
+use mathlib.Core.List.{List}
+use Prim.Native.Nat.{ℕ, suc, _-_, _≤_, _<_}
 use native.Mathlib.Omega.{arith}
 use lib.Dec.{T}
-use lib.ListN.{length, getD}
-use lib.Ieee.{Float, nan, le, lt}
+use lib.ListN.{length}
+use lib.Ieee.{Float, le, lt}
 use lib.Ieee.Bits.{is-true}
 use Rattle.float.specs.F32.{_⊖_, _⊘_}
 use Rattle.float.proofs.Order.{as-T, lt→le, le-refl, no-nan-l, no-nan-r}
@@ -13,9 +13,8 @@ use Rattle.blend.specs.Blend.{linear}
 use Rattle.blend.specs.Pair.{linearPair}
 use Rattle.blend.specs.Channels.{coloursOf}
 use Rattle.blend.specs.declared.Rgba.{Rgba}
-use Rattle.blend.proofs.Channels.{same-rgba}
 use Rattle.difference.specs.Difference.{distanceOf}
-use Rattle.stops.specs.Stops.{posAt, colourAt}
+use Rattle.stops.specs.Stops.{posAt}
 use Rattle.stops.specs.Place.{placeOf}
 use Rattle.stops.specs.Pair.{pairOf, between, colourIn}
 use Rattle.stops.specs.declared.Kind.the-variants.{Linear}
@@ -24,24 +23,10 @@ use Rattle.stops.proofs.Choice.{place-first, place-last, place-between}
 use Rattle.gradient.specs.Ramp.{colourOf}
 use Rattle.sampling.specs.Midpoints.{Gradient}
 use Rattle.judge.specs.Lists.{offerOf, offeredRamp}
+use Rattle.ordinary.proofs.Unrefused.{colour-written}
 use Rattle.weighed.specs.Points.{Site}
 use Rattle.within.specs.Shown.{offAt, nearWithin, fairly}
 use Rattle.word.proofs.Weighed.{Weighed, not-le}
-
--- the four channels of stop i, one by one: as in ordinary/proofs/Unrefused, whence it should move to blend
-four-on : (l : List Float) (x y z w : Float) (i j : ℕ) → j ≡ suc (suc (suc (suc i))) → getD (x ∷ y ∷ z ∷ w ∷ l) j nan ≡ getD l i nan
-four-on l x y z w i j e = rw e
-
-pub colour-written : (g : Gradient) (ts : List Float) (i : ℕ) → i < length ts → colourAt (coloursOf g ts) i ≡ g (posAt ts i)
-unfolding coloursOf
-colour-written g [] i h = absurd (omega arith)
-colour-written g (t ∷ ts) zero h = refl
-colour-written g (t ∷ ts) (suc i) h =
-    let c = g t in
-    let l = coloursOf g ts in
-    same-rgba (four-on l (c .r) (c .g) (c .b) (c .a) (4 * i) (4 * suc i) (omega arith)) (four-on l (c .r) (c .g) (c .b) (c .a) (4 * i + 1) (4 * suc i + 1) (omega arith))
-    (four-on l (c .r) (c .g) (c .b) (c .a) (4 * i + 2) (4 * suc i + 2) (omega arith)) (four-on l (c .r) (c .g) (c .b) (c .a) (4 * i + 3) (4 * suc i + 3) (omega arith))
-    ∙ colour-written g ts i (omega arith)
 
 module _ (g : Gradient) (ps : List Float) where
   abbrev pub listColour : Float → Rgba

@@ -18,7 +18,7 @@ use Rattle.sampling.specs.Constants.{cells, depth}
 use Rattle.sampling.specs.Midpoints.{Gradient, Far, midOf, keeps, halves}
 use Rattle.sampling.specs.Cells.{edgeOf, pointsOf, rowsOf, countsOf}
 use Rattle.places.specs.Places.{rowPoints, listOf}
-use Rattle.reach.specs.KeptCells.{isDomain}
+use Rattle.refresh.specs.reach.KeptCells.{isDomain}
 use Rattle.ordinary.proofs.Climbing.{Climbs, item-low, item-high}
 use Rattle.ordinary.proofs.Rising.{edge-first, row-points, points-climb}
 use Rattle.ordinary.proofs.LastCell.{last-cell}

@@ -23,3 +23,5 @@ pub mod EndSums
 pub mod RightEnd
 pub mod EndChannel
 pub mod EndDistance
+pub mod Depths
+pub mod Asked

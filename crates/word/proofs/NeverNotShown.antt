@@ -29,8 +29,8 @@ use Rattle.linearize.specs.Lent.{Output}
 use Rattle.linearize.specs.Desk.{numberOfListed, pointsIn, room}
 use Rattle.linearize.specs.declared.Listed.{Listed}
 use Rattle.judge.specs.Lists.{mostListed}
-use Rattle.reach.specs.KeptCells.{isDomain}
-use Rattle.reach.proofs.Domains.{checked-domain}
+use Rattle.refresh.specs.reach.KeptCells.{isDomain}
+use Rattle.refresh.proofs.reach.Domains.{checked-domain}
 use Rattle.ordinary.specs.Ordinary.{Singles}
 use Rattle.ordinary.proofs.Rising.{ends}
 use Rattle.weighed.specs.Points.{Site, ownOf, sitesOf}

@@ -21,7 +21,7 @@ use Rattle.sampling.specs.Constants.{thresholdOf}
 use Rattle.sampling.specs.Midpoints.{Gradient}
 use Rattle.thinning.specs.Kept.{stopRefusal, firstRefusal}
 use Rattle.judge.specs.Lists.{mostListed}
-use Rattle.reach.specs.KeptCells.{isDomain}
+use Rattle.refresh.specs.reach.KeptCells.{isDomain}
 use Rattle.ordinary.specs.Ordinary.{Singles}
 use Rattle.ordinary.proofs.Rising.{ends, low-finite, high-finite}
 use Rattle.weighed.specs.Points.{Site, ownOf, sitesOf}

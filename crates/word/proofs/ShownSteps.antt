@@ -21,7 +21,7 @@ use Rattle.gradient.specs.Ramp.{minOf, maxOf, colourOf}
 use Rattle.difference.specs.Difference.{distanceOf}
 use Rattle.sampling.specs.Constants.{leastThreshold, thresholdOf}
 use Rattle.sampling.specs.Midpoints.{Gradient}
-use Rattle.reach.specs.KeptCells.{isDomain}
+use Rattle.refresh.specs.reach.KeptCells.{isDomain}
 use Rattle.ordinary.proofs.Rising.{low-finite, high-finite, span-finite}
 use Rattle.weighed.specs.Points.{Site, site, lentMark, sampledMark}
 use Rattle.within.specs.Shown.{offAt, nearWithin, fairly, shows, pointAfter, shownTo}

@@ -25,10 +25,11 @@ use Rattle.linearize.specs.Desk.{pointsIn}
 use Rattle.judge.specs.Lists.{Offer}
 use Rattle.judge.specs.Verdicts.{rampCheck, pointCount, freshPoint}
 use Rattle.judge.specs.Conditions.{Stands}
-use Rattle.reach.specs.KeptCells.{isDomain}
-use Rattle.reach.proofs.Domains.{checked-domain}
+use Rattle.refresh.specs.reach.KeptCells.{isDomain}
+use Rattle.refresh.proofs.reach.Domains.{checked-domain}
 use Rattle.ordinary.specs.Ordinary.{Singles}
 use Rattle.ordinary.proofs.Rising.{ends}
+use Rattle.ordinary.proofs.Unrefused.{colour-written}
 use Rattle.weighed.specs.Points.{Site, sampledMark, ownOf, sitesOf}
 use Rattle.within.specs.Shown.{offAt}
 use Rattle.within.specs.Kept.{positionsOf}
@@ -36,7 +37,6 @@ use Rattle.within.specs.Lists.{holdOf, keptOf, listWithin, refusalWithin}
 use Rattle.word.specs.Word.{NearBy}
 use Rattle.word.proofs.Weighed.{siteIn, above-all, lt-trans}
 use Rattle.weighed.proofs.Merging.{Each, FoundAt, rises, sampled-found}
-use Rattle.word.proofs.Colours.{colour-written}
 use Rattle.within.proofs.Limits.{hold-most}
 use Rattle.word.proofs.NearPoints.{near-min, near-max, near-point}
 use Rattle.word.proofs.Singles.{Single, each-merged, own-single}

@@ -36,7 +36,7 @@ use Rattle.records.proofs.Passing.{sample-fine}
 use Rattle.linearize.specs.Lent.{Output}
 use Rattle.linearize.specs.Desk.{numberOfListed, pointsIn, room}
 use Rattle.linearize.specs.declared.Listed.{Listed}
-use Rattle.reach.proofs.Domains.{checked-domain}
+use Rattle.refresh.proofs.reach.Domains.{checked-domain}
 use Rattle.ordinary.specs.Ordinary.{Singles, Ordinary}
 use Rattle.ordinary.proofs.Colours.{Past, everywhere}
 use Rattle.ordinary.proofs.Classes.{span, ordinary-moderate}

@@ -1,9 +1,11 @@
 -- What a list within a hold promises: at the ramp's own positions and beside them it is within the hold, of any record at all; and what the calls promise beside their answers.
 use mathlib.Core.Path.{_≡_}
 use mathlib.Core.Bool.{true, cond, _&&_}
-use Prim.Native.Nat.{ℕ, suc, _*_, _≤_, _<_}
+use mathlib.Core.List.{List}
+use mathlib.Core.Logic.{_⊎_}
+use Prim.Native.Nat.{ℕ, suc, _*_, _%_, _≤_, _<_}
 use lib.Dec.{T}
-use lib.ListN.{length, take}
+use lib.ListN.{length, getD, take}
 use lib.Ieee.{Float, binary32, ofBits, fits, neg, le, lt, eq}
 use Rattle.refusals.specs.Refusals.{listFalling}
 use Rattle.float.specs.F32.{f0}
@@ -21,6 +23,8 @@ use Rattle.linearize.specs.Desk.{numberOfListed, evaluationsOfListed, withSampl
 use Rattle.linearize.specs.declared.Listed.{Listed}
 use Rattle.linearize.specs.declared.Listed.the-variants as listed
 use Rattle.judge.specs.Lists.{Offer, offerOf, offeredRamp}
+use Rattle.apart.specs.declared.told.Apart.{Apart}
+use Rattle.apart.specs.declared.told.Apart.the-variants as apart
 use Rattle.refresh.specs.AfterEdit.{SameList}
 use Rattle.float.specs.Number.{aboveOf, belowOf}
 use Rattle.within.specs.Promises.{ThinsWithin}
@@ -45,6 +49,31 @@ pub record KeepsWord (ramp : Ramp) (offer : Offer) (hold : Float) : Type 0 where
   pub at-lent : (k : ℕ) → k < length (ramp .positions) → HeldAt ramp offer hold (posAt (ramp .positions) k)
   pub just-below : (k : ℕ) → k < length (ramp .positions) → HeldAt ramp offer hold (belowOf (posAt (ramp .positions) k))
   pub just-above : (k : ℕ) → k < length (ramp .positions) → HeldAt ramp offer hold (aboveOf (posAt (ramp .positions) k))
+
+-- a depth that is asked at one of the ramp's own positions, or at the f32 just below or just above one
+pub record OwnDepth (ramp : Ramp) (d : Float) : Type 0 where
+  pub k : ℕ
+  pub t : Float
+  pub there : k < length (ramp .positions)
+  pub beside : (t ≡ posAt (ramp .positions) k) ⊎ ((t ≡ belowOf (posAt (ramp .positions) k)) ⊎ (t ≡ aboveOf (posAt (ramp .positions) k)))
+  pub asked : d ≡ askedAt ramp t
+
+abbrev pub OwnDepths : Ramp → List Float → Type 0
+OwnDepths ramp ds = (i : ℕ) → i < length ds → OwnDepth ramp (posAt ds i)
+
+-- of what `apart` told of depths nothing is moved: none is counted, and no byte has 1
+pub record Unmoved (ds : List Float) (bytes : List ℕ) (moved : ℕ) : Type 0 where
+  pub none : moved ≡ 0
+  pub each : (i : ℕ) → i < length ds → getD bytes i 0 % 2 ≡ 0
+
+-- `apart` is not refused, and nothing is moved
+pub record ToldUnmoved (ds : List Float) (bytes : List ℕ) (r : Apart) : Type 0 where
+  pub moved : ℕ
+  pub close : ℕ
+  pub merged : ℕ
+  pub first : ℕ
+  pub told : r ≡ apart.Told moved close merged first
+  pub unmoved : Unmoved ds bytes moved
 
 -- positions that never fall: of stops the check asks it, of segments it is asked here; those of a file that is read never do (proofs/Falling)
 abbrev pub NeverFalling : Ramp → Type 0

@@ -17,29 +17,8 @@ Inv-loop kind positions channels codes threshold step depths places colours faul
 abbrev μ-loop : tie.MeasureT-loop
 μ-loop kind positions channels codes threshold step depths places colours faults₀ first before₀ tally₀ i₀ faults before tally i = length depths - i
 
-item-requires : tie.Need-item-requires Inv-loop μ-loop
-item-requires c κs = search needs
-
-see-requires : tie.Need-see-requires Inv-loop μ-loop
-see-requires c κs = search needs
-
 loop-holds : tie.Need-loop-holds Inv-loop μ-loop
 loop-holds c = started _ _ _ _ _ _ (c .before .item .ensures) (c .see .ensures)
-
-mul-see : tie.Need-mul-see Inv-loop μ-loop
-mul-see c = search needs
-
-shared-slice-read-see : tie.Need-shared-slice-read-see Inv-loop μ-loop
-shared-slice-read-see c = search needs
-
-see-requires-2 : tie.Need-see-requires-2 Inv-loop μ-loop
-see-requires-2 c κs = search needs
-
-fault-of-requires : tie.Need-fault-of-requires Inv-loop μ-loop
-fault-of-requires c κs = search needs
-
-byte-of-requires : tie.Need-byte-of-requires Inv-loop μ-loop
-byte-of-requires c κs = search needs
 
 slice-write-faults : tie.Need-slice-write-faults Inv-loop μ-loop
 slice-write-faults c =
@@ -82,14 +61,14 @@ tell-spec =
     (tie.spec
     Inv-loop
     μ-loop
-    item-requires
-    see-requires
+    (λ c κs. search needs)
+    (λ c κs. search needs)
     loop-holds
-    mul-see
-    shared-slice-read-see
-    see-requires-2
-    fault-of-requires
-    byte-of-requires
+    (λ c. search needs)
+    (λ c. search needs)
+    (λ c κs. search needs)
+    (λ c κs. search needs)
+    (λ c κs. search needs)
     slice-write-faults
     counted-requires
     add-i

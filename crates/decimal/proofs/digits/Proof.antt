@@ -18,9 +18,6 @@ abbrev μ-loop : tie.MeasureT-loop
 loop-holds : tie.Need-loop-holds Inv-loop μ-loop
 loop-holds c = held-start _ _ _ (c .pre .0) (c .pre .1 .1)
 
-shared-slice-read-b : tie.Need-shared-slice-read-b Inv-loop μ-loop
-shared-slice-read-b c = omega arith
-
 returns : tie.Need-returns Inv-loop μ-loop
 returns c = held-stop _ _ _ _ _ _ (c .before .before .before .loop .inv) (too-low _ (c .if1 .taken))
 
@@ -34,20 +31,11 @@ room c = ten-le (c .before .before .before .before .loop .i) mostDigits (omega a
 mul-value : tie.Need-mul-value Inv-loop μ-loop
 mul-value c = omega (arith, room c)
 
-cast-value : tie.Need-cast-value Inv-loop μ-loop
-cast-value c = omega arith
-
 add-value : tie.Need-add-value Inv-loop μ-loop
 add-value c = omega (arith, room c)
 
 mul-five : tie.Need-mul-five Inv-loop μ-loop
 mul-five c = omega (arith, c .before .before .before .before .loop .inv .fives, five-le (c .before .before .before .before .loop .i - c .before .before .before .before .before .args .from) mostDigits (omega arith))
-
-add-i : tie.Need-add-i Inv-loop μ-loop
-add-i c = omega arith
-
-loop-less : tie.Need-loop-less Inv-loop μ-loop
-loop-less c = omega arith
 
 loop-again : tie.Need-loop-again Inv-loop μ-loop
 loop-again c = held-next _ _ _ _ _ _ (c .before .before .before .before .loop .inv) (c .before .before .before .loop-test .taken) (c .before .if1 .left) (c .if2 .left)
@@ -62,14 +50,14 @@ digits-spec =
     Inv-loop
     μ-loop
     loop-holds
-    shared-slice-read-b
+    (λ c. omega arith)
     returns
     returns-2
     mul-value
-    cast-value
+    (λ c. omega arith)
     add-value
     mul-five
-    add-i
-    loop-less
+    (λ c. omega arith)
+    (λ c. omega arith)
     loop-again
     returns-3)

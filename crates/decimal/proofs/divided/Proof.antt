@@ -14,26 +14,8 @@ Inv-loop num den m₀ rest₀ down₀ m rest down = (num * 2 ^ down ≡ m * den 
 abbrev μ-loop : tie.MeasureT-loop
 μ-loop num den m₀ rest₀ down₀ m rest down = 65 - down
 
-div-m : tie.Need-div-m Inv-loop μ-loop
-div-m c = omega arith
-
-rem-rest : tie.Need-rem-rest Inv-loop μ-loop
-rem-rest c = omega arith
-
 loop-holds : tie.Need-loop-holds Inv-loop μ-loop
 loop-holds c = (mul-one _ ∙ sym (div-add-mod' _ _), (mod-lt _ (omega arith), (div-lt-iff-lt-mul {k = c .args .den} (omega arith) .1 (omega arith), omega arith)))
-
-mul-rest : tie.Need-mul-rest Inv-loop μ-loop
-mul-rest c = omega arith
-
-mul-m : tie.Need-mul-m Inv-loop μ-loop
-mul-m c = omega arith
-
-add-m : tie.Need-add-m Inv-loop μ-loop
-add-m c = omega arith
-
-add-down : tie.Need-add-down Inv-loop μ-loop
-add-down c = omega arith
 
 -- at a turn fewer than 65 digits were taken
 taken-few : (c : tie.In-loop Inv-loop μ-loop) → c .before .loop .down < 65
@@ -64,13 +46,13 @@ divided-spec =
     (tie.spec
     Inv-loop
     μ-loop
-    div-m
-    rem-rest
+    (λ c. omega arith)
+    (λ c. omega arith)
     loop-holds
-    mul-rest
-    mul-m
-    add-m
-    add-down
+    (λ c. omega arith)
+    (λ c. omega arith)
+    (λ c. omega arith)
+    (λ c. omega arith)
     loop-less
     loop-again
     returns)

@@ -51,21 +51,12 @@ add-down c = let h = up-to-top (c .before .before .before) in omega arith
 add-down-2 : tie.Need-add-down-2
 add-down-2 c = let h = up-to-top (c .before .before .before) in omega arith
 
-rounded-requires : tie.Need-rounded-requires
-rounded-requires c κs = search needs
-
 -- the rounded quotient has 24 digits, or is the one number of 25 that rounding up can make
 tops : (c : tie.After-rounded) → c .rounded .result ≤ 16777216
 tops c = le-trans (le-of-eq (c .rounded .ensures)) (le-trans (nearest-le (c .before .before .divided .result .m) (compare (c .before .before .divided .result .rest * 2) (c .before .before .before .scaled .result .den))) (c .before .before .divided .ensures .hi))
 
-add-result : tie.Need-add-result
-add-result c = search needs
-
 sub-result : tie.Need-sub-result
 sub-result c = let h = up-to-top (c .before .before .before .before) in omega arith
-
-mul-result : tie.Need-mul-result
-mul-result c = search needs
 
 add-result-2 : tie.Need-add-result-2
 add-result-2 c = omega (arith, tops c)
@@ -104,10 +95,10 @@ magnitude-spec =
     cast-down
     add-down
     add-down-2
-    rounded-requires
-    add-result
+    (λ c κs. search needs)
+    (λ c. search needs)
     sub-result
-    mul-result
+    (λ c. search needs)
     add-result-2
     cast-result
     returns-2)

@@ -12,9 +12,6 @@ use borrow.Author.Needs.{needs}
 use Rattle.decimal.proofs.nearest.Statement.{statement}
 use Rattle.decimal.proofs.nearest.Tie as tie
 
-shl-short : tie.Need-shl-short
-shl-short c = search needs
-
 short-requires : tie.Need-short-requires
 short-requires c κs =
     let k = c .before .before .args .places in
@@ -27,12 +24,6 @@ returns : tie.Need-returns
 returns c =
     let a = c .before .before .before .args in
     c .short .ensures ∙ ap (round binary32 (a .neg) (a .d)) (ten-shifted (a .places) _ (c .before .before .before .pre .1) (c .before .if2 .taken))
-
-magnitude-requires : tie.Need-magnitude-requires
-magnitude-requires c κs = search needs
-
-add-result : tie.Need-add-result
-add-result c = search needs
 
 -- bits that are those of a rounded value
 value : (s t : Bool) (d p b : ℕ) → t ≡ s → b ≡ toBits binary32 (round binary32 s d p) → ofBits binary32 b ≡ round binary32 t d p
@@ -54,11 +45,11 @@ pub nearest-spec : {M : Type 1} → statement M
 nearest-spec =
     tie.close
     (tie.spec
-    shl-short
+    (λ c. search needs)
     short-requires
     returns
-    magnitude-requires
-    add-result
+    (λ c κs. search needs)
+    (λ c. search needs)
     float-from-bits-result
     float-from-bits-result-2
     returns-2

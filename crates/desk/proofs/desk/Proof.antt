@@ -4,21 +4,9 @@ use Rattle.desk.proofs.Making.{desk-short, desk-printed}
 use Rattle.desk.proofs.desk.Statement.{statement}
 use Rattle.desk.proofs.desk.Tie as tie
 
-answer-requires : tie.Need-answer-requires
-answer-requires c κs = search needs
-
-zero-bytes-requires : tie.Need-zero-bytes-requires
-zero-bytes-requires c κs = search needs
-
-same-length : tie.Need-same-length
-same-length c = search needs
-
 returns : tie.Need-returns
 returns c = let w = c .before .before in let t = w .before .before in let n = t .before .before .before in let z = n .before .before .before .before in
     desk-short (z .args .input .now) (n .answer .ensures) (t .if1 .taken) (w .zero-bytes .ensures)
-
-same-length-2 : tie.Need-same-length-2
-same-length-2 c = search needs
 
 returns-2 : tie.Need-returns-2
 returns-2 c = let n = c .before .before .before in let z = n .before .before .before .before in
@@ -28,9 +16,9 @@ pub desk-spec : {M : Type 1} → statement M
 desk-spec =
     tie.close
     (tie.spec
-    answer-requires
-    zero-bytes-requires
-    same-length
+    (λ c κs. search needs)
+    (λ c κs. search needs)
+    (λ c. search needs)
     returns
-    same-length-2
+    (λ c. search needs)
     returns-2)

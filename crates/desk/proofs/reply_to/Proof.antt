@@ -8,21 +8,9 @@ use Rattle.desk.proofs.Asking.{read-long, read-wide, says-unread, reads
 use Rattle.desk.proofs.reply_to.Statement.{statement}
 use Rattle.desk.proofs.reply_to.Tie as tie
 
-read-requires : tie.Need-read-requires
-read-requires c κs = search needs
-
-enum-known-line : tie.Need-enum-known-line
-enum-known-line c = search needs
-
-enum-known-kind : tie.Need-enum-known-kind
-enum-known-kind c = search needs
-
 returns : tie.Need-returns
 returns c = let i = c .before .before in let w = i .before .before in
     too-many (reads-ready (w .read .ensures) (i .kind .given .1)) (c .if1 .taken)
-
-mul-m : tie.Need-mul-m
-mul-m c = search needs
 
 array-share-prefix-positions : tie.Need-array-share-prefix-positions
 array-share-prefix-positions c = let w = c .before .before .before .before in
@@ -40,18 +28,9 @@ slice-aggregate-list-of-2 : tie.Need-slice-aggregate-list-of-2
 slice-aggregate-list-of-2 c = let e = c .before .before in let w = e .before .before .before .before in
     sym (length-take-le _ (w .read .last .1 .1 .0) (omega (arith, e .if1 .left, read-wide (w .read .ensures))))
 
-list-of-requires : tie.Need-list-of-requires
-list-of-requires c κs = search needs
-
 returns-2 : tie.Need-returns-2
 returns-2 c = let i = c .before in let w = i .before .before in
     says-unread (w .read .ensures) (i .line .given .1)
-
-same-length : tie.Need-same-length
-same-length c = search needs
-
-same-length-2 : tie.Need-same-length-2
-same-length-2 c = search needs
 
 returns-3 : tie.Need-returns-3
 returns-3 c = let r = c .before .before .before .before in let e = r .before .before .before .before .before in let i = e .before .before in let w = i .before .before in
@@ -61,17 +40,17 @@ pub reply-to-spec : {M : Type 1} → statement M
 reply-to-spec =
     tie.close
     (tie.spec
-    read-requires
-    enum-known-line
-    enum-known-kind
+    (λ c κs. search needs)
+    (λ c. search needs)
+    (λ c. search needs)
     returns
-    mul-m
+    (λ c. search needs)
     array-share-prefix-positions
     slice-aggregate-list-of
     array-share-prefix-channels
     slice-aggregate-list-of-2
-    list-of-requires
+    (λ c κs. search needs)
     returns-2
-    same-length
-    same-length-2
+    (λ c. search needs)
+    (λ c. search needs)
     returns-3)

@@ -4,11 +4,8 @@ use Rattle.float.proofs.Neighbours.{below-is}
 use Rattle.float.proofs.below.Statement.{statement}
 use Rattle.float.proofs.below.Tie as tie
 
-above-requires : tie.Need-above-requires
-above-requires c κs = search needs
-
 returns : tie.Need-returns
 returns c = below-is _ _ (c .above .ensures)
 
 pub below-spec : {M : Type 1} → statement M
-below-spec = tie.close (tie.spec above-requires returns)
+below-spec = tie.close (tie.spec (λ c κs. search needs) returns)

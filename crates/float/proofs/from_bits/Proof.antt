@@ -16,8 +16,5 @@ returns c = zero-by-zero ∙ sym (nan-pattern (c .before .args .b) (c .if1 .take
 float-from-bits-result : tie.Need-float-from-bits-result
 float-from-bits-result c = number-pattern (c .before .args .b) (c .if1 .left)
 
-returns-2 : tie.Need-returns-2
-returns-2 c = search needs
-
 pub from-bits-spec : {M : Type 1} → statement M
-from-bits-spec = tie.close (tie.spec returns float-from-bits-result returns-2)
+from-bits-spec = tie.close (tie.spec returns float-from-bits-result (λ c. search needs))

@@ -10,12 +10,6 @@ use borrow.Author.Needs.{needs}
 use Rattle.float.proofs.from_whole.Statement.{statement}
 use Rattle.float.proofs.from_whole.Tie as tie
 
-cast-result : tie.Need-cast-result
-cast-result c = search needs
-
-add-result : tie.Need-add-result
-add-result c = search needs
-
 float-from-bits-result : tie.Need-float-from-bits-result
 float-from-bits-result c = number-pattern _ (omega arith)
 
@@ -32,14 +26,8 @@ cast-leading c = let h = up-to-top c in omega arith
 shl-leading : tie.Need-shl-leading
 shl-leading c = up-to-top c .few
 
-leading-requires : tie.Need-leading-requires
-leading-requires c κs = search needs
-
 sub-result : tie.Need-sub-result
 sub-result c = let h = up-to-top (c .before) in omega arith
-
-mul-result : tie.Need-mul-result
-mul-result c = search needs
 
 -- 24 digits, or the one number of 25 that rounding up can make
 tops : (c : tie.After-leading) → c .leading .result ≤ 16777216
@@ -60,15 +48,15 @@ pub from-whole-spec : {M : Type 1} → statement M
 from-whole-spec =
     tie.close
     (tie.spec
-    cast-result
-    add-result
+    (λ c. search needs)
+    (λ c. search needs)
     float-from-bits-result
     returns
     cast-leading
     shl-leading
-    leading-requires
+    (λ c κs. search needs)
     sub-result
-    mul-result
+    (λ c. search needs)
     add-result-2
     float-from-bits-result-2
     returns-2)

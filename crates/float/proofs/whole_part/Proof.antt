@@ -10,25 +10,10 @@ returns c = part-low (c .before .args .a) (c .if1 .taken)
 returns-2 : tie.Need-returns-2
 returns-2 c = part-high (c .before .before .args .a) (c .before .before .pre) (c .if2 .taken)
 
-add-digits : tie.Need-add-digits
-add-digits c = search needs
-
-cast-digits : tie.Need-cast-digits
-cast-digits c = search needs
-
-mul-digits : tie.Need-mul-digits
-mul-digits c = search needs
-
-cast-result : tie.Need-cast-result
-cast-result c = search needs
-
-shr-result : tie.Need-shr-result
-shr-result c = search needs
-
 returns-3 : tie.Need-returns-3
 returns-3 c = part-mid (c .before .before .args .a) (c .before .if1 .left) (c .if2 .left)
 
 pub whole-part-spec : {M : Type 1} → statement M
 whole-part-spec =
     tie.close
-    (tie.spec returns returns-2 add-digits cast-digits mul-digits cast-result shr-result returns-3)
+    (tie.spec returns returns-2 (λ c. search needs) (λ c. search needs) (λ c. search needs) (λ c. search needs) (λ c. search needs) returns-3)

@@ -23,30 +23,12 @@ abbrev μ-loop : tie.MeasureT-loop
 loop-holds : tie.Need-loop-holds Inv-loop μ-loop
 loop-holds c = let a = c .before .before .args in (omega arith, from-start (a .n) 0 (a .positions .now) (a .channels .now))
 
-stop-requires : tie.Need-stop-requires Inv-loop μ-loop
-stop-requires c κs = search needs
-
-add-stop : tie.Need-add-stop Inv-loop μ-loop
-add-stop c = search needs
-
-stop-requires-2 : tie.Need-stop-requires-2 Inv-loop μ-loop
-stop-requires-2 c κs = search needs
-
-is-writable-pair-requires : tie.Need-is-writable-pair-requires Inv-loop μ-loop
-is-writable-pair-requires c κs = search needs
-
 -- the segment that was asked about
 asked : {a b : Stop} {t : Bool} (ps cs : List Float) (i : ℕ) → a ≡ stopAt ps cs i → b ≡ stopAt ps cs (i + 1) → t ≡ writableSegment (segmentBetween a b) → t ≡ writableSegment (segmentBetween (stopAt ps cs i) (stopAt ps cs (i + 1)))
 asked {a} {b} ps cs i e f h = h ∙ ap (λ (x : Stop). writableSegment (segmentBetween x b)) e ∙ ap (λ (x : Stop). writableSegment (segmentBetween (stopAt ps cs i) x)) f
 
 returns : tie.Need-returns Inv-loop μ-loop
 returns c = let l = c .before .before .before .before .before in let a = l .before .before .before .args in from-fails (a .n) (l .loop .i) (a .positions .now) (a .channels .now) (search needs) (l .loop .inv .1) (failed (c .if1 .taken) (asked (a .positions .now) (a .channels .now) (l .loop .i) (c .before .before .before .stop .ensures) (c .before .before .stop2 .ensures) (c .before .is-writable-pair .ensures)))
-
-add-i : tie.Need-add-i Inv-loop μ-loop
-add-i c = search needs
-
-loop-less : tie.Need-loop-less Inv-loop μ-loop
-loop-less c = search needs
 
 loop-again : tie.Need-loop-again Inv-loop μ-loop
 loop-again c = let l = c .before .before .before .before .before in let a = l .before .before .before .args in (omega arith, from-next (a .n) (l .loop .i) (a .positions .now) (a .channels .now) (search needs) (l .loop .inv .1) (passed (c .if1 .left) (asked (a .positions .now) (a .channels .now) (l .loop .i) (c .before .before .before .stop .ensures) (c .before .before .stop2 .ensures) (c .before .is-writable-pair .ensures))))
@@ -61,12 +43,12 @@ are-writable-spec =
     Inv-loop
     μ-loop
     loop-holds
-    stop-requires
-    add-stop
-    stop-requires-2
-    is-writable-pair-requires
+    (λ c κs. search needs)
+    (λ c. search needs)
+    (λ c κs. search needs)
+    (λ c κs. search needs)
     returns
-    add-i
-    loop-less
+    (λ c. search needs)
+    (λ c. search needs)
     loop-again
     returns-2)

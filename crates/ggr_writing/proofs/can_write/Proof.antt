@@ -12,12 +12,6 @@ use borrow.Author.Needs.{needs}
 use Rattle.ggr_writing.proofs.can_write.Statement.{statement}
 use Rattle.ggr_writing.proofs.can_write.Tie as tie
 
-less-requires : tie.Need-less-requires
-less-requires c κs = search needs
-
-item-requires : tie.Need-item-requires
-item-requires c κs = search needs
-
 -- what the test of the last position says
 last : (ps : List Float) {n : ℕ} {x : Float} {t : Bool} → n ≡ length ps - 1 → x ≡ getD ps n nan → ne x f1 ≡ t → ne (getD ps (length ps - 1) nan) f1 ≡ t
 last ps e f h = ap (λ (x : Float). ne x f1) (ap (λ (n : ℕ). getD ps n nan) (sym e) ∙ sym f) ∙ h
@@ -25,14 +19,8 @@ last ps e f h = ap (λ (x : Float). ne x f1) (ap (λ (n : ℕ). getD ps n nan) (
 returns : tie.Need-returns
 returns c = let s = c .before .before .before .before .before in other-start (s .args .positions .now) (s .args .channels .now) (ap (λ (x : Float). ne x f0) (sym (c .before .item .ensures)) ∙ c .if1 .taken)
 
-item-requires-2 : tie.Need-item-requires-2
-item-requires-2 c κs = search needs
-
 returns-2 : tie.Need-returns-2
 returns-2 c = let e = c .before .before in let s = e .before .before .before .before .before in let ps = s .args .positions .now in other-end ps (s .args .channels .now) (ap (λ (x : Float). ne x f0) (sym (e .before .item .ensures)) ∙ e .if1 .left) (last ps (e .before .before .less .ensures) (c .before .item2 .ensures) (c .if2 .taken))
-
-are-writable-requires : tie.Need-are-writable-requires
-are-writable-requires c κs = search needs
 
 returns-3 : tie.Need-returns-3
 returns-3 c = let f = c .before in let e = f .before .before in let s = e .before .before .before .before .before in let ps = s .args .positions .now in right-ends ps (s .args .channels .now) (ap (λ (x : Float). ne x f0) (sym (e .before .item .ensures)) ∙ e .if1 .left) (last ps (e .before .before .less .ensures) (f .before .item2 .ensures) (f .if2 .left)) (c .are-writable .ensures ∙ ap (λ (n : ℕ). writableFrom n 0 ps (s .args .channels .now)) (e .before .before .less .ensures))
@@ -41,10 +29,10 @@ pub can-write-spec : {M : Type 1} → statement M
 can-write-spec =
     tie.close
     (tie.spec
-    less-requires
-    item-requires
+    (λ c κs. search needs)
+    (λ c κs. search needs)
     returns
-    item-requires-2
+    (λ c κs. search needs)
     returns-2
-    are-writable-requires
+    (λ c κs. search needs)
     returns-3)

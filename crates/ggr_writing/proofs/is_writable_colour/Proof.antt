@@ -5,26 +5,14 @@ use borrow.Author.Needs.{needs}
 use Rattle.ggr_writing.proofs.is_writable_colour.Statement.{statement}
 use Rattle.ggr_writing.proofs.is_writable_colour.Tie as tie
 
-is-writable-requires : tie.Need-is-writable-requires
-is-writable-requires c κs = search needs
-
 returns : tie.Need-returns
 returns c = no-red _ (failed (c .if1 .taken) (c .before .is-writable .ensures))
-
-is-writable-requires-2 : tie.Need-is-writable-requires-2
-is-writable-requires-2 c κs = search needs
 
 returns-2 : tie.Need-returns-2
 returns-2 c = no-green _ (passed (c .before .before .if1 .left) (c .before .before .before .is-writable .ensures)) (failed (c .if2 .taken) (c .before .is-writable2 .ensures))
 
-is-writable-requires-3 : tie.Need-is-writable-requires-3
-is-writable-requires-3 c κs = search needs
-
 returns-3 : tie.Need-returns-3
 returns-3 c = no-blue _ (passed (c .before .before .before .before .if1 .left) (c .before .before .before .before .before .is-writable .ensures)) (passed (c .before .before .if2 .left) (c .before .before .before .is-writable2 .ensures)) (failed (c .if3 .taken) (c .before .is-writable3 .ensures))
-
-is-writable-requires-4 : tie.Need-is-writable-requires-4
-is-writable-requires-4 c κs = search needs
 
 returns-4 : tie.Need-returns-4
 returns-4 c = a-colour _ (passed (c .before .before .before .before .before .if1 .left) (c .before .before .before .before .before .before .is-writable .ensures)) (passed (c .before .before .before .if2 .left) (c .before .before .before .before .is-writable2 .ensures)) (passed (c .before .if3 .left) (c .before .before .is-writable3 .ensures)) (c .is-writable4 .ensures)
@@ -33,11 +21,11 @@ pub is-writable-colour-spec : {M : Type 1} → statement M
 is-writable-colour-spec =
     tie.close
     (tie.spec
-    is-writable-requires
+    (λ c κs. search needs)
     returns
-    is-writable-requires-2
+    (λ c κs. search needs)
     returns-2
-    is-writable-requires-3
+    (λ c κs. search needs)
     returns-3
-    is-writable-requires-4
+    (λ c κs. search needs)
     returns-4)

@@ -5,26 +5,11 @@ use borrow.Author.Needs.{needs}
 use Rattle.ggr_writing.proofs.write.Statement.{statement}
 use Rattle.ggr_writing.proofs.write.Tie as tie
 
-is-shaped-requires : tie.Need-is-shaped-requires
-is-shaped-requires c κs = search needs
-
 returns : tie.Need-returns
 returns c = let a = c .before .before .before .before .before .args in not-shaped (a .positions .now) (a .channels .now) (a .text .now) (failed (c .if1 .taken) (c .before .is-shaped .ensures))
 
-never-falls-requires : tie.Need-never-falls-requires
-never-falls-requires c κs = search needs
-
 returns-2 : tie.Need-returns-2
 returns-2 c = let a = c .before .before .before .before .before .before .before .args in not-rising (a .positions .now) (a .channels .now) (a .text .now) (passed (c .before .before .if1 .left) (c .before .before .before .is-shaped .ensures)) (failed (c .if2 .taken) (c .before .never-falls .ensures))
-
-can-write-requires : tie.Need-can-write-requires
-can-write-requires c κs = search needs
-
-zero-bytes-requires : tie.Need-zero-bytes-requires
-zero-bytes-requires c κs = search needs
-
-same-length : tie.Need-same-length
-same-length c = search needs
 
 returns-3 : tie.Need-returns-3
 returns-3 c =
@@ -42,12 +27,6 @@ put-file-requires c κs =
     let shaped = c .before .before .before .before .before in
     shaped-few _ _ (passed (shaped .if1 .left) (shaped .before .is-shaped .ensures))
 
-zero-bytes-requires-2 : tie.Need-zero-bytes-requires-2
-zero-bytes-requires-2 c κs = search needs
-
-same-length-2 : tie.Need-same-length-2
-same-length-2 c = search needs
-
 returns-4 : tie.Need-returns-4
 returns-4 c =
     let put = c .before .before .before .before .before .before .before in
@@ -61,9 +40,6 @@ returns-4 c =
     (put .put-file .ensures)
     (c .before .before .before .before .if4 .taken)
     (c .before .before .zero-bytes2 .ensures)
-
-same-length-3 : tie.Need-same-length-3
-same-length-3 c = search needs
 
 returns-5 : tie.Need-returns-5
 returns-5 c =
@@ -82,17 +58,17 @@ pub write-spec : {M : Type 1} → statement M
 write-spec =
     tie.close
     (tie.spec
-    is-shaped-requires
+    (λ c κs. search needs)
     returns
-    never-falls-requires
+    (λ c κs. search needs)
     returns-2
-    can-write-requires
-    zero-bytes-requires
-    same-length
+    (λ c κs. search needs)
+    (λ c κs. search needs)
+    (λ c. search needs)
     returns-3
     put-file-requires
-    zero-bytes-requires-2
-    same-length-2
+    (λ c κs. search needs)
+    (λ c. search needs)
     returns-4
-    same-length-3
+    (λ c. search needs)
     returns-5)

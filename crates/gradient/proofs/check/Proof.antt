@@ -6,18 +6,9 @@ use borrow.Author.Needs.{needs}
 use Rattle.gradient.proofs.check.Statement.{statement}
 use Rattle.gradient.proofs.check.Tie as tie
 
-is-gimp-requires : tie.Need-is-gimp-requires
-is-gimp-requires c κs = search needs
-
-check-requires : tie.Need-check-requires
-check-requires c κs = search needs
-
 returns : tie.Need-returns
 unfolding checkOf
 returns c = checks (c .check .ensures .answer ∙ simp (sym (c .before .before .is-gimp .ensures) ∙ c .before .if1 .taken))
-
-check-requires-2 : tie.Need-check-requires-2
-check-requires-2 c κs = search needs
 
 returns-2 : tie.Need-returns-2
 unfolding checkOf
@@ -25,4 +16,4 @@ returns-2 c = checks (c .check2 .ensures .answer ∙ simp (sym (c .before .befor
 
 pub check-spec : {M : Type 1} → statement M
 check-spec =
-    tie.close (tie.spec is-gimp-requires check-requires returns check-requires-2 returns-2)
+    tie.close (tie.spec (λ c κs. search needs) (λ c κs. search needs) returns (λ c κs. search needs) returns-2)

@@ -5,18 +5,9 @@ use borrow.Author.Needs.{needs}
 use Rattle.gradient.proofs.colour_at.Statement.{statement}
 use Rattle.gradient.proofs.colour_at.Tie as tie
 
-is-gimp-requires : tie.Need-is-gimp-requires
-is-gimp-requires c κs = search needs
-
-colour-at-requires : tie.Need-colour-at-requires
-colour-at-requires c κs = search needs
-
 returns : tie.Need-returns
 unfolding anyColour
 returns c = c .colour-at .ensures ∙ simp (sym (c .before .before .is-gimp .ensures) ∙ c .before .if1 .taken)
-
-colour-at-requires-2 : tie.Need-colour-at-requires-2
-colour-at-requires-2 c κs = search needs
 
 returns-2 : tie.Need-returns-2
 unfolding anyColour
@@ -24,4 +15,4 @@ returns-2 c = c .colour-at2 .ensures ∙ simp (sym (c .before .before .is-gimp .
 
 pub colour-at-spec : {M : Type 1} → statement M
 colour-at-spec =
-    tie.close (tie.spec is-gimp-requires colour-at-requires returns colour-at-requires-2 returns-2)
+    tie.close (tie.spec (λ c κs. search needs) (λ c κs. search needs) returns (λ c κs. search needs) returns-2)

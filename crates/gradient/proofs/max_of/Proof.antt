@@ -8,22 +8,13 @@ use borrow.Author.Needs.{needs}
 use Rattle.gradient.proofs.max_of.Statement.{statement}
 use Rattle.gradient.proofs.max_of.Tie as tie
 
-is-gimp-requires : tie.Need-is-gimp-requires
-is-gimp-requires c κs = search needs
-
 returns : tie.Need-returns
 unfolding maxIn
 returns c = simp (sym (c .before .is-gimp .ensures) ∙ c .if1 .taken)
-
-less-requires : tie.Need-less-requires
-less-requires c κs = search needs
-
-item-requires : tie.Need-item-requires
-item-requires c κs = search needs
 
 returns-2 : tie.Need-returns-2
 unfolding maxIn
 returns-2 c = c .item .ensures ∙ ap (λ (i : ℕ). posAt (now (c .before .before .before .before .before .args .positions)) i) (c .before .less .ensures) ∙ simp (sym (c .before .before .before .is-gimp .ensures) ∙ c .before .before .if1 .left)
 
 pub max-of-spec : {M : Type 1} → statement M
-max-of-spec = tie.close (tie.spec is-gimp-requires returns less-requires item-requires returns-2)
+max-of-spec = tie.close (tie.spec (λ c κs. search needs) returns (λ c κs. search needs) (λ c κs. search needs) returns-2)

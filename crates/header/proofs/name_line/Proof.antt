@@ -11,30 +11,12 @@ returns : tie.Need-returns
 returns c = let a = c .before .before .args in
     second-end (a .s .now) (a .at) (a .room) (c .if1 .taken)
 
-line-at-requires : tie.Need-line-at-requires
-line-at-requires c κs = search needs
-
-sub-starts-with : tie.Need-sub-starts-with
-sub-starts-with c = search needs
-
-part-starts-with-start : tie.Need-part-starts-with-start
-part-starts-with-start c = search needs
-
 part-starts-with-end : tie.Need-part-starts-with-end
 part-starts-with-end c = omega (arith, c .line-at .ensures .within (search needs))
-
-slice-aggregate-starts-with : tie.Need-slice-aggregate-starts-with
-slice-aggregate-starts-with c = search needs
-
-starts-with-requires : tie.Need-starts-with-requires
-starts-with-requires c κs = search needs
 
 returns-2 : tie.Need-returns-2
 returns-2 c = let l = c .before .before .before .before in let k = c .before in let a = l .before .before .before .args in
     second-bad (a .s .now) (a .at) (a .room) (search needs) (l .line-at .result .end) (l .line-at .result .next) (l .line-at .ensures) _ (k .starts-with .ensures) (not-true _ (c .if2 .taken))
-
-count-line-requires : tie.Need-count-line-requires
-count-line-requires c κs = search needs
 
 returns-3 : tie.Need-returns-3
 returns-3 c = let l = c .before .before .before .before .before in let k = c .before .before in let a = l .before .before .before .args in
@@ -45,12 +27,12 @@ name-line-spec =
     tie.close
     (tie.spec
     returns
-    line-at-requires
-    sub-starts-with
-    part-starts-with-start
+    (λ c κs. search needs)
+    (λ c. search needs)
+    (λ c. search needs)
     part-starts-with-end
-    slice-aggregate-starts-with
-    starts-with-requires
+    (λ c. search needs)
+    (λ c κs. search needs)
     returns-2
-    count-line-requires
+    (λ c κs. search needs)
     returns-3)

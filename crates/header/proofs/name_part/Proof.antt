@@ -10,26 +10,8 @@ use borrow.Author.Needs.{needs}
 use Rattle.header.proofs.name_part.Statement.{statement}
 use Rattle.header.proofs.name_part.Tie as tie
 
-marks-requires : tie.Need-marks-requires
-marks-requires c κs = search needs
-
-line-at-requires : tie.Need-line-at-requires
-line-at-requires c κs = search needs
-
-line-at-requires-2 : tie.Need-line-at-requires-2
-line-at-requires-2 c κs = search needs
-
-sub-line : tie.Need-sub-line
-sub-line c = search needs
-
-part-line-start : tie.Need-part-line-start
-part-line-start c = search needs
-
 part-line-end : tie.Need-part-line-end
 part-line-end c = omega (arith, c .line-at2 .ensures .within (c .before .line-at .ensures .beyond (c .before .before .marks .ensures .0)))
-
-slice-aggregate-result : tie.Need-slice-aggregate-result
-slice-aggregate-result c = search needs
 
 returns : tie.Need-returns
 returns c =
@@ -37,18 +19,6 @@ returns c =
     let first = second .before in
     let start = first .before in
     name-short (start .before .before .args .s .now) (start .marks .ensures .1) (first .line-at .ensures) (second .line-at2 .ensures) (c .before .if1 .taken)
-
-sub-trimmed : tie.Need-sub-trimmed
-sub-trimmed c = search needs
-
-part-trimmed-start : tie.Need-part-trimmed-start
-part-trimmed-start c = search needs
-
-part-trimmed-end : tie.Need-part-trimmed-end
-part-trimmed-end c = search needs
-
-trimmed-requires : tie.Need-trimmed-requires
-trimmed-requires c κs = search needs
 
 returns-2 : tie.Need-returns-2
 returns-2 c =
@@ -64,16 +34,16 @@ pub name-part-spec : {M : Type 1} → statement M
 name-part-spec =
     tie.close
     (tie.spec
-    marks-requires
-    line-at-requires
-    line-at-requires-2
-    sub-line
-    part-line-start
+    (λ c κs. search needs)
+    (λ c κs. search needs)
+    (λ c κs. search needs)
+    (λ c. search needs)
+    (λ c. search needs)
     part-line-end
-    slice-aggregate-result
+    (λ c. search needs)
     returns
-    sub-trimmed
-    part-trimmed-start
-    part-trimmed-end
-    trimmed-requires
+    (λ c. search needs)
+    (λ c. search needs)
+    (λ c. search needs)
+    (λ c κs. search needs)
     returns-2)

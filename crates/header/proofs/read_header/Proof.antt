@@ -11,33 +11,12 @@ returns : tie.Need-returns
 returns c = let a = c .before .before .args in
     first-end (a .s .now) (a .room) (c .if1 .taken)
 
-marks-requires : tie.Need-marks-requires
-marks-requires c κs = search needs
-
-line-at-requires : tie.Need-line-at-requires
-line-at-requires c κs = search needs
-
-sub-is-same : tie.Need-sub-is-same
-sub-is-same c = search needs
-
-part-is-same-start : tie.Need-part-is-same-start
-part-is-same-start c = search needs
-
 part-is-same-end : tie.Need-part-is-same-end
 part-is-same-end c = omega (arith, c .line-at .ensures .within (c .before .marks .ensures .0))
-
-slice-aggregate-is-same : tie.Need-slice-aggregate-is-same
-slice-aggregate-is-same c = search needs
-
-is-same-requires : tie.Need-is-same-requires
-is-same-requires c κs = search needs
 
 returns-2 : tie.Need-returns-2
 returns-2 c = let l = c .before .before .before .before in let k = c .before in let m = l .before in let a = m .before .before .before .args in
     first-bad (a .s .now) (a .room) (m .before .if1 .left) (m .marks .result) (m .marks .ensures .0) (m .marks .ensures .1) (l .line-at .result .end) (l .line-at .result .next) (l .line-at .ensures) _ (k .is-same .ensures) (not-true _ (c .if2 .taken))
-
-name-line-requires : tie.Need-name-line-requires
-name-line-requires c κs = search needs
 
 returns-3 : tie.Need-returns-3
 returns-3 c = let l = c .before .before .before .before .before in let k = c .before .before in let m = l .before in let a = m .before .before .before .args in
@@ -48,13 +27,13 @@ read-header-spec =
     tie.close
     (tie.spec
     returns
-    marks-requires
-    line-at-requires
-    sub-is-same
-    part-is-same-start
+    (λ c κs. search needs)
+    (λ c κs. search needs)
+    (λ c. search needs)
+    (λ c. search needs)
     part-is-same-end
-    slice-aggregate-is-same
-    is-same-requires
+    (λ c. search needs)
+    (λ c κs. search needs)
     returns-2
-    name-line-requires
+    (λ c κs. search needs)
     returns-3)

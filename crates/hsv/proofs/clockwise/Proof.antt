@@ -6,18 +6,6 @@ use borrow.Author.Needs.{needs}
 use Rattle.hsv.proofs.clockwise.Statement.{statement}
 use Rattle.hsv.proofs.clockwise.Tie as tie
 
-hsva-of-requires : tie.Need-hsva-of-requires
-hsva-of-requires c κs = search needs
-
-hsva-of-requires-2 : tie.Need-hsva-of-requires-2
-hsva-of-requires-2 c κs = search needs
-
-clockwise-hue-requires : tie.Need-clockwise-hue-requires
-clockwise-hue-requires c κs = search needs
-
-mixed-at-requires : tie.Need-mixed-at-requires
-mixed-at-requires c κs = search needs
-
 returns : tie.Need-returns
 unfolding clockwise
 returns c = mixed-by downHue (c .before .before .before .before .args .t) (c .before .before .before .hsva-of .ensures) (c .before .before .hsva-of2 .ensures) (c .before .clockwise-hue .ensures) (c .mixed-at .ensures)
@@ -25,4 +13,4 @@ returns c = mixed-by downHue (c .before .before .before .before .args .t) (c .be
 pub clockwise-spec : {M : Type 1} → statement M
 clockwise-spec =
     tie.close
-    (tie.spec hsva-of-requires hsva-of-requires-2 clockwise-hue-requires mixed-at-requires returns)
+    (tie.spec (λ c κs. search needs) (λ c κs. search needs) (λ c κs. search needs) (λ c κs. search needs) returns)

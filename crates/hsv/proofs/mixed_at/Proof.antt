@@ -4,12 +4,9 @@ use borrow.Author.Needs.{needs}
 use Rattle.hsv.proofs.mixed_at.Statement.{statement}
 use Rattle.hsv.proofs.mixed_at.Tie as tie
 
-rgba-of-requires : tie.Need-rgba-of-requires
-rgba-of-requires c κs = search needs
-
 returns : tie.Need-returns
 unfolding mixedAt
 returns c = c .rgba-of .ensures
 
 pub mixed-at-spec : {M : Type 1} → statement M
-mixed-at-spec = tie.close (tie.spec rgba-of-requires returns)
+mixed-at-spec = tie.close (tie.spec (λ c κs. search needs) returns)

@@ -6,15 +6,9 @@ use borrow.Author.Needs.{needs}
 use Rattle.hsv.proofs.there_and_back.Statement.{statement}
 use Rattle.hsv.proofs.there_and_back.Tie as tie
 
-hsva-of-requires : tie.Need-hsva-of-requires
-hsva-of-requires c κs = search needs
-
-rgba-of-requires : tie.Need-rgba-of-requires
-rgba-of-requires c κs = search needs
-
 returns : tie.Need-returns
 unfolding thereAndBack
 returns c = c .rgba-of .ensures ∙ ap rgbaOf (c .before .hsva-of .ensures)
 
 pub there-and-back-spec : {M : Type 1} → statement M
-there-and-back-spec = tie.close (tie.spec hsva-of-requires rgba-of-requires returns)
+there-and-back-spec = tie.close (tie.spec (λ c κs. search needs) (λ c κs. search needs) returns)

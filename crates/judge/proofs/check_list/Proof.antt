@@ -7,14 +7,8 @@ use Rattle.judge.proofs.Shaping.{wrong-length, bad-stop, wrong-first, w
 use Rattle.judge.proofs.check_list.Statement.{statement}
 use Rattle.judge.proofs.check_list.Tie as tie
 
-is-sized-requires : tie.Need-is-sized-requires
-is-sized-requires c κs = search needs
-
 returns : tie.Need-returns
 returns c = wrong-length _ _ _ _ (failed (c .if1 .taken) (c .before .is-sized .ensures))
-
-first-bad-requires : tie.Need-first-bad-requires
-first-bad-requires c κs = search needs
 
 returns-2 : tie.Need-returns-2
 returns-2 c =
@@ -37,9 +31,6 @@ sub-if4 c =
     let good = c .before .before in
     let sized = good .before .before in
     omega (arith, size _ _ (passed (sized .if1 .left) (sized .before .is-sized .ensures)) .least)
-
-mul-if4 : tie.Need-mul-if4
-mul-if4 c = search needs
 
 shared-slice-read-if4 : tie.Need-shared-slice-read-if4
 shared-slice-read-if4 c =
@@ -65,14 +56,14 @@ pub check-list-spec : {M : Type 1} → statement M
 check-list-spec =
     tie.close
     (tie.spec
-    is-sized-requires
+    (λ c κs. search needs)
     returns
-    first-bad-requires
+    (λ c κs. search needs)
     returns-2
     shared-slice-read-if3
     returns-3
     sub-if4
-    mul-if4
+    (λ c. search needs)
     shared-slice-read-if4
     returns-4
     returns-5)

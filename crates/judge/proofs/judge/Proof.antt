@@ -5,18 +5,6 @@ use Rattle.judge.proofs.Answering.{judge-refused, judge-done}
 use Rattle.judge.proofs.judge.Statement.{statement}
 use Rattle.judge.proofs.judge.Tie as tie
 
-mul-check-sample : tie.Need-mul-check-sample
-mul-check-sample c = search needs
-
-check-sample-requires : tie.Need-check-sample-requires
-check-sample-requires c κs = search needs
-
-enum-known-n : tie.Need-enum-known-n
-enum-known-n c = search needs
-
-enum-told : tie.Need-enum-told
-enum-told c = search needs
-
 judge-list-requires : tie.Need-judge-list-requires
 judge-list-requires c κs = sym (c .before .before .check-sample .ensures .answer) ∙ c .enum-told .given .1
 
@@ -32,10 +20,10 @@ pub judge-spec : {M : Type 1} → statement M
 judge-spec =
     tie.close
     (tie.spec
-    mul-check-sample
-    check-sample-requires
-    enum-known-n
-    enum-told
+    (λ c. search needs)
+    (λ c κs. search needs)
+    (λ c. search needs)
+    (λ c. search needs)
     judge-list-requires
     returns
     returns-2)

@@ -6,30 +6,6 @@ use Rattle.judge.proofs.Answering.{colours-judged}
 use Rattle.judge.proofs.judge_colours.Statement.{statement}
 use Rattle.judge.proofs.judge_colours.Tie as tie
 
-slice-aggregate-sample : tie.Need-slice-aggregate-sample
-slice-aggregate-sample c = search needs
-
-slice-aggregate-sample-2 : tie.Need-slice-aggregate-sample-2
-slice-aggregate-sample-2 c = search needs
-
-slice-aggregate-sample-3 : tie.Need-slice-aggregate-sample-3
-slice-aggregate-sample-3 c = search needs
-
-sample-requires : tie.Need-sample-requires
-sample-requires c κs = search needs
-
-new-requires : tie.Need-new-requires
-new-requires c κs = search needs
-
-max-of-requires : tie.Need-max-of-requires
-max-of-requires c κs = search needs
-
-slice-aggregate-judge-points : tie.Need-slice-aggregate-judge-points
-slice-aggregate-judge-points c = search needs
-
-slice-aggregate-judge-points-2 : tie.Need-slice-aggregate-judge-points-2
-slice-aggregate-judge-points-2 c = search needs
-
 judge-points-requires : tie.Need-judge-points-requires
 judge-points-requires c κs =
     let at-sample = c .before .before .before .before .before .before .before in
@@ -49,13 +25,13 @@ pub judge-colours-spec : {M : Type 1} → statement M
 judge-colours-spec =
     tie.close
     (tie.spec
-    slice-aggregate-sample
-    slice-aggregate-sample-2
-    slice-aggregate-sample-3
-    sample-requires
-    new-requires
-    max-of-requires
-    slice-aggregate-judge-points
-    slice-aggregate-judge-points-2
+    (λ c. search needs)
+    (λ c. search needs)
+    (λ c. search needs)
+    (λ c κs. search needs)
+    (λ c κs. search needs)
+    (λ c κs. search needs)
+    (λ c. search needs)
+    (λ c. search needs)
     judge-points-requires
     returns)

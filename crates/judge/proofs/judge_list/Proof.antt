@@ -5,18 +5,6 @@ use Rattle.judge.proofs.Answering.{list-coloured, list-misshapen}
 use Rattle.judge.proofs.judge_list.Statement.{statement}
 use Rattle.judge.proofs.judge_list.Tie as tie
 
-min-of-requires : tie.Need-min-of-requires
-min-of-requires c κs = search needs
-
-max-of-requires : tie.Need-max-of-requires
-max-of-requires c κs = search needs
-
-check-list-requires : tie.Need-check-list-requires
-check-list-requires c κs = search needs
-
-enum-told : tie.Need-enum-told
-enum-told c = search needs
-
 judge-colours-requires : tie.Need-judge-colours-requires
 judge-colours-requires c κs =
     let shape = c .before .before in
@@ -40,10 +28,10 @@ pub judge-list-spec : {M : Type 1} → statement M
 judge-list-spec =
     tie.close
     (tie.spec
-    min-of-requires
-    max-of-requires
-    check-list-requires
-    enum-told
+    (λ c κs. search needs)
+    (λ c κs. search needs)
+    (λ c κs. search needs)
+    (λ c. search needs)
     judge-colours-requires
     returns
     returns-2)

@@ -16,22 +16,13 @@ within t bytes len h = omega (arith, h .long, ap length (h .is) ∙ length-appen
 size : (t bytes : List ℕ) (len : ℕ) → TextIs t bytes len → length (take len bytes) ≡ len
 size t bytes len h = ap length (bytes-are t bytes len h) ∙ sym (h .long)
 
-write-requires : tie.Need-write-requires
-write-requires c κs = search needs
-
 array-share-prefix-bytes : tie.Need-array-share-prefix-bytes
 array-share-prefix-bytes c = within _ _ _ (c .before .write .ensures)
 
 slice-aggregate-put : tie.Need-slice-aggregate-put
 slice-aggregate-put c = sym (size _ _ _ (c .before .before .write .ensures))
 
-put-requires : tie.Need-put-requires
-put-requires c κs = search needs
-
-returns : tie.Need-returns
-returns c = search needs
-
 pub put-numeral-spec : {M : Type 1} → statement M
 put-numeral-spec =
     tie.close
-    (tie.spec write-requires array-share-prefix-bytes slice-aggregate-put put-requires returns)
+    (tie.spec (λ c κs. search needs) array-share-prefix-bytes slice-aggregate-put (λ c κs. search needs) (λ c. search needs))

@@ -4,15 +4,6 @@ use borrow.Author.Needs.{needs}
 use Rattle.linearize.proofs.after.Statement.{statement}
 use Rattle.linearize.proofs.after.Tie as tie
 
-enum-known-made : tie.Need-enum-known-made
-enum-known-made c = search needs
-
-enum-known-made-2 : tie.Need-enum-known-made-2
-enum-known-made-2 c = search needs
-
-sum-requires : tie.Need-sum-requires
-sum-requires c κs = search needs
-
 returns : tie.Need-returns
 returns c = after-refused _ _ _ (c .before .made .given .1)
 
@@ -21,4 +12,4 @@ returns-2 c = after-done _ _ _ _ _ (c .before .before .made2 .given .1) (c .sum 
 
 pub after-spec : {M : Type 1} → statement M
 after-spec =
-    tie.close (tie.spec enum-known-made enum-known-made-2 sum-requires returns returns-2)
+    tie.close (tie.spec (λ c. search needs) (λ c. search needs) (λ c κs. search needs) returns returns-2)

@@ -10,35 +10,8 @@ use borrow.Author.Needs.{needs}
 use Rattle.linearize.proofs.relist.Statement.{statement}
 use Rattle.linearize.proofs.relist.Tie as tie
 
-kept-good-requires : tie.Need-kept-good-requires
-kept-good-requires c κs = search needs
-
-check-sample-requires : tie.Need-check-sample-requires
-check-sample-requires c κs = search needs
-
-refused-by-requires : tie.Need-refused-by-requires
-refused-by-requires c κs = search needs
-
-same-length : tie.Need-same-length
-same-length c = search needs
-
 returns : tie.Need-returns
 returns c = relist-bad _ _ _ _ _ _ _ (sym (c .before .before .before .kept-good .ensures) ∙ not-true _ (c .before .before .if1 .taken)) (c .before .check-sample .ensures .answer) (c .refused-by .ensures)
-
-resample-requires : tie.Need-resample-requires
-resample-requires c κs = search needs
-
-enum-known-n : tie.Need-enum-known-n
-enum-known-n c = search needs
-
-enum-known-n-2 : tie.Need-enum-known-n-2
-enum-known-n-2 c = search needs
-
-cutoff-of-requires : tie.Need-cutoff-of-requires
-cutoff-of-requires c κs = search needs
-
-max-of-requires : tie.Need-max-of-requires
-max-of-requires c κs = search needs
 
 thin-record-requires : tie.Need-thin-record-requires
 thin-record-requires c κs =
@@ -49,38 +22,11 @@ thin-record-requires c κs =
     let good = sym (tested .before .kept-good .ensures) ∙ not-false _ (tested .if1 .left) in
     (resampled-ready _ _ _ _ _ (w .fine) good (w .left), ramp-fine _ _ _ _ (w .fine))
 
-after-requires : tie.Need-after-requires
-after-requires c κs = search needs
-
-same-length-2 : tie.Need-same-length-2
-same-length-2 c = search needs
-
-same-length-3 : tie.Need-same-length-3
-same-length-3 c = search needs
-
-same-length-4 : tie.Need-same-length-4
-same-length-4 c = search needs
-
 returns-2 : tie.Need-returns-2
 returns-2 c =
     let at-refused = c .before in
     let sampled = at-refused .before .before .before .before .before .before .before .before in
     relist-refused _ _ _ _ _ _ _ (at-refused .n .given .1) (sampled .resample .ensures)
-
-same-length-5 : tie.Need-same-length-5
-same-length-5 c = search needs
-
-same-length-6 : tie.Need-same-length-6
-same-length-6 c = search needs
-
-same-length-7 : tie.Need-same-length-7
-same-length-7 c = search needs
-
-same-length-8 : tie.Need-same-length-8
-same-length-8 c = search needs
-
-same-length-9 : tie.Need-same-length-9
-same-length-9 c = search needs
 
 returns-3 : tie.Need-returns-3
 returns-3 c =
@@ -100,25 +46,25 @@ pub relist-spec : {M : Type 1} → statement M
 relist-spec =
     tie.close
     (tie.spec
-    kept-good-requires
-    check-sample-requires
-    refused-by-requires
-    same-length
+    (λ c κs. search needs)
+    (λ c κs. search needs)
+    (λ c κs. search needs)
+    (λ c. search needs)
     returns
-    resample-requires
-    enum-known-n
-    enum-known-n-2
-    cutoff-of-requires
-    max-of-requires
+    (λ c κs. search needs)
+    (λ c. search needs)
+    (λ c. search needs)
+    (λ c κs. search needs)
+    (λ c κs. search needs)
     thin-record-requires
-    after-requires
-    same-length-2
-    same-length-3
-    same-length-4
+    (λ c κs. search needs)
+    (λ c. search needs)
+    (λ c. search needs)
+    (λ c. search needs)
     returns-2
-    same-length-5
-    same-length-6
-    same-length-7
-    same-length-8
-    same-length-9
+    (λ c. search needs)
+    (λ c. search needs)
+    (λ c. search needs)
+    (λ c. search needs)
+    (λ c. search needs)
     returns-3)

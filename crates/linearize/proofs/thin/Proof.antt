@@ -9,20 +9,8 @@ use borrow.Author.Needs.{needs}
 use Rattle.linearize.proofs.thin.Statement.{statement}
 use Rattle.linearize.proofs.thin.Tie as tie
 
-check-thin-requires : tie.Need-check-thin-requires
-check-thin-requires c κs = search needs
-
-enum-known-n : tie.Need-enum-known-n
-enum-known-n c = search needs
-
 enum-told : tie.Need-enum-told
 enum-told c = search needs
-
-cutoff-of-requires : tie.Need-cutoff-of-requires
-cutoff-of-requires c κs = search needs
-
-max-of-requires : tie.Need-max-of-requires
-max-of-requires c κs = search needs
 
 thin-record-requires : tie.Need-thin-record-requires
 thin-record-requires c κs =
@@ -32,12 +20,6 @@ thin-record-requires c κs =
 
 returns : tie.Need-returns
 returns c = thin-refused _ _ _ _ _ (sym (c .before .before .before .check-thin .ensures .answer) ∙ c .before .n .given .1)
-
-same-length : tie.Need-same-length
-same-length c = search needs
-
-same-length-2 : tie.Need-same-length-2
-same-length-2 c = search needs
 
 returns-2 : tie.Need-returns-2
 returns-2 c =
@@ -49,13 +31,13 @@ pub thin-spec : {M : Type 1} → statement M
 thin-spec =
     tie.close
     (tie.spec
-    check-thin-requires
-    enum-known-n
+    (λ c κs. search needs)
+    (λ c. search needs)
     enum-told
-    cutoff-of-requires
-    max-of-requires
+    (λ c κs. search needs)
+    (λ c κs. search needs)
     thin-record-requires
     returns
-    same-length
-    same-length-2
+    (λ c. search needs)
+    (λ c. search needs)
     returns-2)

@@ -71,7 +71,3 @@ ThinsRest ramp cutoff n ts s out r = Thinned (outcome (colourOf ramp) (exceeds c
 abbrev pub ThinsAll : Ramp → Float → ℕ → List Float → Change Output → Progress → Type 0
 ThinsAll ramp cutoff n ts out r =
     Thinned (comesToAll (colourOf ramp) (exceeds cutoff) n ts (out .entry .positions) (out .entry .channels)) n (runOn r (out .exit))
-
--- ---- the segments that go with the points: how many there is room for
-abbrev pub windowRoom : ℕ
-windowRoom = 16

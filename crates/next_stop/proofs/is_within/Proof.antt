@@ -7,17 +7,8 @@ use Rattle.next_stop.proofs.is_within.Tie as tie
 enum-told : tie.Need-enum-told
 enum-told c = search needs
 
-enum-told-2 : tie.Need-enum-told-2
-enum-told-2 c = search needs
-
-enum-known-place : tie.Need-enum-known-place
-enum-known-place c = search needs
-
 returns : tie.Need-returns
 returns c = let at-case = c .before .before in past-the-rows _ _ _ _ (at-case .place .given .1) (c .if1 .taken)
-
-count-at-requires : tie.Need-count-at-requires
-count-at-requires c κs = search needs
 
 returns-2 : tie.Need-returns-2
 returns-2 c = start-within _ _ (c .enum-told .given .1)
@@ -36,10 +27,10 @@ is-within-spec =
     tie.close
     (tie.spec
     enum-told
-    enum-told-2
-    enum-known-place
+    (λ c. search needs)
+    (λ c. search needs)
     returns
-    count-at-requires
+    (λ c κs. search needs)
     returns-2
     returns-3
     returns-4)

@@ -9,26 +9,8 @@ use borrow.Author.Needs.{needs}
 use Rattle.next_stop.proofs.next_stop.Statement.{statement}
 use Rattle.next_stop.proofs.next_stop.Tie as tie
 
-check-thin-requires : tie.Need-check-thin-requires
-check-thin-requires c κs = search needs
-
-is-within-requires : tie.Need-is-within-requires
-is-within-requires c κs = search needs
-
-placed-check-requires : tie.Need-placed-check-requires
-placed-check-requires c κs = search needs
-
-enum-known-n : tie.Need-enum-known-n
-enum-known-n c = search needs
-
 enum-told : tie.Need-enum-told
 enum-told c = search needs
-
-cutoff-of-requires : tie.Need-cutoff-of-requires
-cutoff-of-requires c κs = search needs
-
-max-of-requires : tie.Need-max-of-requires
-max-of-requires c κs = search needs
 
 step-from-requires : tie.Need-step-from-requires
 step-from-requires c κs =
@@ -62,13 +44,13 @@ pub next-stop-spec : {M : Type 1} → statement M
 next-stop-spec =
     tie.close
     (tie.spec
-    check-thin-requires
-    is-within-requires
-    placed-check-requires
-    enum-known-n
+    (λ c κs. search needs)
+    (λ c κs. search needs)
+    (λ c κs. search needs)
+    (λ c. search needs)
     enum-told
-    cutoff-of-requires
-    max-of-requires
+    (λ c κs. search needs)
+    (λ c κs. search needs)
     step-from-requires
     returns
     returns-2)

@@ -10,9 +10,6 @@ returns c = place-there (c .before .args .within) (c .before .args .checked) (c 
 enum-told : tie.Need-enum-told
 enum-told c = search needs
 
-enum-known-checked : tie.Need-enum-known-checked
-enum-known-checked c = search needs
-
 returns-2 : tie.Need-returns-2
 returns-2 c =
     let at-case = c .before .before in
@@ -30,4 +27,4 @@ returns-4 c =
 
 pub placed-check-spec : {M : Type 1} → statement M
 placed-check-spec =
-    tie.close (tie.spec returns enum-told enum-known-checked returns-2 returns-3 returns-4)
+    tie.close (tie.spec returns enum-told (λ c. search needs) returns-2 returns-3 returns-4)

@@ -8,21 +8,6 @@ use Rattle.next_stop.proofs.step_from.Tie as tie
 enum-told : tie.Need-enum-told
 enum-told c = search needs
 
-enum-told-2 : tie.Need-enum-told-2
-enum-told-2 c = search needs
-
-point-at-requires : tie.Need-point-at-requires
-point-at-requires c κs = search needs
-
-lone-point-requires : tie.Need-lone-point-requires
-lone-point-requires c κs = search needs
-
-hand-out-requires : tie.Need-hand-out-requires
-hand-out-requires c κs = search needs
-
-enum-known-place : tie.Need-enum-known-place
-enum-known-place c = search needs
-
 find-requires : tie.Need-find-requires
 find-requires c κs =
     let at-case = c .before in
@@ -54,11 +39,11 @@ step-from-spec =
     tie.close
     (tie.spec
     enum-told
-    enum-told-2
-    point-at-requires
-    lone-point-requires
-    hand-out-requires
-    enum-known-place
+    (λ c. search needs)
+    (λ c κs. search needs)
+    (λ c κs. search needs)
+    (λ c κs. search needs)
+    (λ c. search needs)
     find-requires
     hand-out-requires-2
     returns

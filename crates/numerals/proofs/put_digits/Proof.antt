@@ -14,15 +14,6 @@ abbrev μ-loop : tie.MeasureT-loop
 loop-holds : tie.Need-loop-holds Inv-loop μ-loop
 loop-holds c = put-start _ _ _ _
 
-sub-i : tie.Need-sub-i Inv-loop μ-loop
-sub-i c = omega arith
-
-add-out : tie.Need-add-out Inv-loop μ-loop
-add-out c = omega arith
-
-cast-out : tie.Need-cast-out Inv-loop μ-loop
-cast-out c = omega arith
-
 add-out-2 : tie.Need-add-out-2 Inv-loop μ-loop
 add-out-2 c = omega (arith, c .before .loop .inv .left)
 
@@ -31,9 +22,6 @@ slice-write-out c =
     let a = c .before .before .args in
     let l = c .before .loop in
     omega (arith, put-length (a .out .now) (a .at) (a .w) (a .x) (l .out) (l .i) (l .y) (c .before .before .pre) (l .inv))
-
-loop-less : tie.Need-loop-less Inv-loop μ-loop
-loop-less c = omega arith
 
 loop-again : tie.Need-loop-again Inv-loop μ-loop
 loop-again c =
@@ -60,12 +48,12 @@ put-digits-spec =
     Inv-loop
     μ-loop
     loop-holds
-    sub-i
-    add-out
-    cast-out
+    (λ c. omega arith)
+    (λ c. omega arith)
+    (λ c. omega arith)
     add-out-2
     slice-write-out
-    loop-less
+    (λ c. omega arith)
     loop-again
     same-length
     returns)

@@ -9,34 +9,13 @@ use borrow.Author.Needs.{needs}
 use Rattle.numerals.proofs.put_plain.Statement.{statement}
 use Rattle.numerals.proofs.put_plain.Tie as tie
 
-width-requires : tie.Need-width-requires
-width-requires c κs = search needs
-
 div-put-digits : tie.Need-div-put-digits
 div-put-digits c = omega (arith, ten-pos (c .before .before .before .args .k))
-
-put-digits-requires : tie.Need-put-digits-requires
-put-digits-requires c κs = search needs
-
-add-dot : tie.Need-add-dot
-add-dot c = search needs
-
-slice-write-out : tie.Need-slice-write-out
-slice-write-out c = search needs
-
-add-put-digits : tie.Need-add-put-digits
-add-put-digits c = search needs
 
 put-digits-requires-2 : tie.Need-put-digits-requires-2
 put-digits-requires-2 c κs =
     let l = c .before .before .before .put-digits .kept .0 in
     simp length-set (omega arith)
-
-add-result : tie.Need-add-result
-add-result c = search needs
-
-add-result-2 : tie.Need-add-result-2
-add-result-2 c = search needs
 
 same-length : tie.Need-same-length
 same-length c = c .before .before .put-digits2 .kept .0 ∙ simp length-set (c .before .before .before .before .before .before .put-digits .kept .0)
@@ -55,14 +34,14 @@ pub put-plain-spec : {M : Type 1} → statement M
 put-plain-spec =
     tie.close
     (tie.spec
-    width-requires
+    (λ c κs. search needs)
     div-put-digits
-    put-digits-requires
-    add-dot
-    slice-write-out
-    add-put-digits
+    (λ c κs. search needs)
+    (λ c. search needs)
+    (λ c. search needs)
+    (λ c. search needs)
     put-digits-requires-2
-    add-result
-    add-result-2
+    (λ c. search needs)
+    (λ c. search needs)
     same-length
     returns)

@@ -5,9 +5,6 @@ use borrow.Author.Needs.{needs}
 use Rattle.numerals.proofs.settled.Statement.{statement}
 use Rattle.numerals.proofs.settled.Tie as tie
 
-nine-of-requires : tie.Need-nine-of-requires
-nine-of-requires c κs = search needs
-
 sub-t8 : tie.Need-sub-t8
 sub-t8 c = omega (arith, some-places _ _ _ _ _ (c .before .nine-of .ensures) (omega arith) (c .if1 .taken))
 
@@ -20,4 +17,4 @@ returns-2 : tie.Need-returns-2
 returns-2 c = settled-nine _ _ _ _ _ (c .before .nine-of .ensures) (c .if1 .left)
 
 pub settled-spec : {M : Type 1} → statement M
-settled-spec = tie.close (tie.spec nine-of-requires sub-t8 returns returns-2)
+settled-spec = tie.close (tie.spec (λ c κs. search needs) sub-t8 returns returns-2)

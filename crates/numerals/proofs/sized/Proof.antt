@@ -8,14 +8,8 @@ use Rattle.numerals.proofs.Above.{too-low, too-high, above-no-nan, Foun
 use Rattle.numerals.proofs.sized.Statement.{statement}
 use Rattle.numerals.proofs.sized.Tie as tie
 
-none-requires : tie.Need-none-requires
-none-requires c κs = search needs
-
 returns : tie.Need-returns
 returns c = let a = c .before .before .args in text-none _ _ _ (too-low (a .y) (a .neg) (c .before .before .pre) (c .before .if1 .taken)) (c .none .ensures .0) (c .none .ensures .1)
-
-none-requires-2 : tie.Need-none-requires-2
-none-requires-2 c κs = search needs
 
 returns-2 : tie.Need-returns-2
 returns-2 c = let a = c .before .before .before .args in text-none _ _ _ (too-high (a .y) (a .neg) (c .before .before .before .pre) (c .before .if2 .taken)) (c .none2 .ensures .0) (c .none2 .ensures .1)
@@ -23,21 +17,12 @@ returns-2 c = let a = c .before .before .before .args in text-none _ _ _ (too-hi
 float-to-bits-b : tie.Need-float-to-bits-b
 float-to-bits-b c = above-no-nan (c .before .before .args .y) (c .before .before .pre)
 
-add-m : tie.Need-add-m
-add-m c = search needs
-
-cast-nine-text : tie.Need-cast-nine-text
-cast-nine-text c = search needs
-
 -- what the bits say
 bits-say : (c : tie.Else2) → Found (c .before .before .args .y) (toBits binary32 (c .before .before .args .y))
 bits-say c = found (c .before .before .args .y) (c .before .before .pre) (passes _ (c .before .before .good .0 .1)) (c .before .if1 .left) (c .if2 .left)
 
 sub-nine-text : tie.Need-sub-nine-text
 sub-nine-text c = bits-say c .under
-
-cast-nine-text-2 : tie.Need-cast-nine-text-2
-cast-nine-text-2 c = search needs
 
 nine-text-requires : tie.Need-nine-text-requires
 nine-text-requires c κs = record { lo = omega arith; hi = omega arith; low = bits-say c .low; high = bits-say c .high; reach = bits-say c .reach }
@@ -49,14 +34,14 @@ pub sized-spec : {M : Type 1} → statement M
 sized-spec =
     tie.close
     (tie.spec
-    none-requires
+    (λ c κs. search needs)
     returns
-    none-requires-2
+    (λ c κs. search needs)
     returns-2
     float-to-bits-b
-    add-m
-    cast-nine-text
+    (λ c. search needs)
+    (λ c. search needs)
     sub-nine-text
-    cast-nine-text-2
+    (λ c. search needs)
     nine-text-requires
     returns-3)

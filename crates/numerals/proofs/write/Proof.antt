@@ -7,9 +7,6 @@ use Rattle.numerals.proofs.Signs.{nan-text, no-nan, below-zero, neg-neg
 use Rattle.numerals.proofs.write.Statement.{statement}
 use Rattle.numerals.proofs.write.Tie as tie
 
-none-requires : tie.Need-none-requires
-none-requires c κs = search needs
-
 returns : tie.Need-returns
 returns c = text-none _ _ _ (nan-text (c .before .before .args .x) (c .before .if1 .taken)) (c .none .ensures .0) (c .none .ensures .1)
 
@@ -22,23 +19,11 @@ returns-2 c = text-as _ _ _ _ (neg-neg (c .before .before .before .args .x)) (c 
 sized-requires-2 : tie.Need-sized-requires-2
 sized-requires-2 c κs = above-zero (c .before .before .before .args .x) (c .if3 .taken)
 
-returns-3 : tie.Need-returns-3
-returns-3 c = search needs
-
 float-to-bits-if4 : tie.Need-float-to-bits-if4
 float-to-bits-if4 c = no-nan (c .before .before .before .args .x) (c .before .before .if1 .left)
 
-array-write-bytes : tie.Need-array-write-bytes
-array-write-bytes c = search needs
-
 returns-4 : tie.Need-returns-4
 returns-4 c = text-as _ _ _ _ (plus-zero (c .before .before .before .before .args .x) (c .before .before .before .if1 .left) (c .before .before .if2 .left) (c .before .if3 .left) (c .before .before .before .before .good .0 .1) (c .if4 .taken)) (text-put _ _ _ (omega arith) refl refl)
-
-array-write-bytes-2 : tie.Need-array-write-bytes-2
-array-write-bytes-2 c = search needs
-
-array-write-bytes-3 : tie.Need-array-write-bytes-3
-array-write-bytes-3 c = search needs
 
 returns-5 : tie.Need-returns-5
 returns-5 c = text-as _ _ _ _ (minus-zero (c .before .before .before .before .args .x) (c .before .before .before .if1 .left) (c .before .before .if2 .left) (c .before .if3 .left) (c .before .before .before .before .good .0 .1) (c .if4 .left)) (text-put _ _ _ (omega arith) refl refl)
@@ -47,15 +32,15 @@ pub write-spec : {M : Type 1} → statement M
 write-spec =
     tie.close
     (tie.spec
-    none-requires
+    (λ c κs. search needs)
     returns
     sized-requires
     returns-2
     sized-requires-2
-    returns-3
+    (λ c. search needs)
     float-to-bits-if4
-    array-write-bytes
+    (λ c. search needs)
     returns-4
-    array-write-bytes-2
-    array-write-bytes-3
+    (λ c. search needs)
+    (λ c. search needs)
     returns-5)

@@ -6,18 +6,6 @@ use borrow.Author.Needs.{needs}
 use Rattle.paint.proofs.at.Statement.{statement}
 use Rattle.paint.proofs.at.Tie as tie
 
-check-requires : tie.Need-check-requires
-check-requires c κs = search needs
-
-enum-told : tie.Need-enum-told
-enum-told c = search needs
-
-colour-at-requires : tie.Need-colour-at-requires
-colour-at-requires c κs = search needs
-
-enum-known-n : tie.Need-enum-known-n
-enum-known-n c = search needs
-
 returns : tie.Need-returns
 returns c = let s = c .before .before .before .before .before .before .before in at-coloured (rampIn (s .args .kind) (s .args .positions) (s .args .channels) (s .args .codes)) (sym (c .before .before .before .check .ensures .answer) ∙ c .before .enum-told .given .1) (s .args .t) (c .colour-at .ensures)
 
@@ -26,4 +14,4 @@ returns-2 c = let s = c .before .before .before .before .before .before .before 
 
 pub at-spec : {M : Type 1} → statement M
 at-spec =
-    tie.close (tie.spec check-requires enum-told colour-at-requires enum-known-n returns returns-2)
+    tie.close (tie.spec (λ c κs. search needs) (λ c. search needs) (λ c κs. search needs) (λ c. search needs) returns returns-2)

@@ -2,19 +2,17 @@
 use mathlib.Core.Path.{sym, _∙_}
 use denote.Ref.{now}
 use Rattle.stops.specs.Lent.{rampIn}
-use Rattle.paint.proofs.Painting.{paintable, as-stops, as-kept, as-gimp}
+use Rattle.paint.proofs.Painting.{paintable, fits, as-stops, as-kept, as-gimp}
 use borrow.Author.Needs.{needs}
 use Rattle.paint.proofs.paint_all.Statement.{statement}
 use Rattle.paint.proofs.paint_all.Tie as tie
 
-is-gimp-requires : tie.Need-is-gimp-requires
-is-gimp-requires c κs = search needs
-
 paint-requires : tie.Need-paint-requires
-paint-requires c κs = search needs
-
-same-length : tie.Need-same-length
-same-length c = search needs
+paint-requires c κs =
+    let segments = c .before in
+    let asked = segments .before in
+    let s = asked .before .before .before .before .before .before in
+    fits (rampIn (s .args .kind) (s .args .positions) (s .args .channels) (s .args .codes)) (now (s .args .ts)) (now (s .args .out)) (sym (asked .is-gimp .ensures) ∙ segments .if1 .taken) (s .pre .0) (s .pre .1)
 
 returns : tie.Need-returns
 returns c =
@@ -22,10 +20,7 @@ returns c =
     let segments = painted .before .before in
     let asked = segments .before in
     let s = asked .before .before .before .before .before .before in
-    as-gimp (rampIn (s .args .kind) (s .args .positions) (s .args .channels) (s .args .codes)) (now (s .args .ts)) (now (s .args .out)) (sym (asked .is-gimp .ensures) ∙ segments .if1 .taken) (s .pre .0) (s .pre .1) (painted .paint .ensures)
-
-is-catmull-rom-requires : tie.Need-is-catmull-rom-requires
-is-catmull-rom-requires c κs = search needs
+    as-gimp (rampIn (s .args .kind) (s .args .positions) (s .args .channels) (s .args .codes)) (now (s .args .ts)) (now (s .args .out)) (sym (asked .is-gimp .ensures) ∙ segments .if1 .taken) (painted .paint .ensures)
 
 paint-cubics-requires : tie.Need-paint-cubics-requires
 paint-cubics-requires c κs =
@@ -33,9 +28,6 @@ paint-cubics-requires c κs =
     let asked = stops .before in
     let s = asked .before .before .before .before .before .before in
     paintable (rampIn (s .args .kind) (s .args .positions) (s .args .channels) (s .args .codes)) (now (s .args .ts)) (now (s .args .out)) (sym (asked .is-gimp .ensures) ∙ stops .if1 .left) (s .pre .0) (s .pre .1)
-
-same-length-2 : tie.Need-same-length-2
-same-length-2 c = search needs
 
 returns-2 : tie.Need-returns-2
 returns-2 c =
@@ -53,9 +45,6 @@ paint-stops-requires c κs =
     let s = asked .before .before .before .before .before .before in
     paintable (rampIn (s .args .kind) (s .args .positions) (s .args .channels) (s .args .codes)) (now (s .args .ts)) (now (s .args .out)) (sym (asked .is-gimp .ensures) ∙ stops .if1 .left) (s .pre .0) (s .pre .1)
 
-same-length-3 : tie.Need-same-length-3
-same-length-3 c = search needs
-
 returns-3 : tie.Need-returns-3
 returns-3 c =
     let painted = c .before .before in
@@ -68,14 +57,14 @@ pub paint-all-spec : {M : Type 1} → statement M
 paint-all-spec =
     tie.close
     (tie.spec
-    is-gimp-requires
+    (λ c κs. search needs)
     paint-requires
-    same-length
+    (λ c. search needs)
     returns
-    is-catmull-rom-requires
+    (λ c κs. search needs)
     paint-cubics-requires
-    same-length-2
+    (λ c. search needs)
     returns-2
     paint-stops-requires
-    same-length-3
+    (λ c. search needs)
     returns-3)

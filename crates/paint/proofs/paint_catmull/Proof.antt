@@ -8,7 +8,7 @@ use denote.Ref.{now}
 use lib.ListN.{length, take, drop}
 use lib.Seq.{sets, length-sets}
 use lib.Ieee.{Float}
-use Rattle.paint_segments.proofs.Filling.{colours-next, colours-done}
+use Rattle.paint.proofs.gimp.Filling.{colours-next, colours-done}
 use Rattle.stops.specs.Near.{segmentFor}
 use Rattle.stops.specs.declared.Kind.the-variants.{CatmullRom}
 use Rattle.blend.specs.Channels.{channelsOf, coloursOf}
@@ -23,36 +23,12 @@ Inv-loop positions channels ts out₀ table n k₀ s₀ i₀ out k s i = (i ≤ 
 abbrev μ-loop : tie.MeasureT-loop
 μ-loop positions channels ts out₀ table n k₀ s₀ i₀ out k s i = length ts - i
 
-segment-for-requires : tie.Need-segment-for-requires Inv-loop μ-loop
-segment-for-requires c κs = search needs
-
 loop-holds : tie.Need-loop-holds Inv-loop μ-loop
 unfolding coloursOf
 loop-holds c = (omega arith, refl, refl, c .segment-for .ensures)
 
-mul-t : tie.Need-mul-t Inv-loop μ-loop
-mul-t c = search needs
-
-shared-slice-read-t : tie.Need-shared-slice-read-t Inv-loop μ-loop
-shared-slice-read-t c = search needs
-
-find-place-requires : tie.Need-find-place-requires Inv-loop μ-loop
-find-place-requires c κs = search needs
-
-pair-or-requires : tie.Need-pair-or-requires Inv-loop μ-loop
-pair-or-requires c κs = search needs
-
 renewed-requires : tie.Need-renewed-requires Inv-loop μ-loop
 renewed-requires c κs = let l = c .before .before .before .before in (l .loop .inv .3, l .before .before .before .before .before .before .pre .1)
-
-segment-colour-requires : tie.Need-segment-colour-requires Inv-loop μ-loop
-segment-colour-requires c κs = search needs
-
-mul-put-colour : tie.Need-mul-put-colour Inv-loop μ-loop
-mul-put-colour c = search needs
-
-put-colour-requires : tie.Need-put-colour-requires Inv-loop μ-loop
-put-colour-requires c κs = search needs
 
 add-i : tie.Need-add-i Inv-loop μ-loop
 add-i c =
@@ -60,9 +36,6 @@ add-i c =
     let test = p .before .before .before .before .before .before .before in
     let s = test .before .before .before .before .before .before .before in
     omega (arith, test .loop-test .taken, s .good .1 .1 .0 .1)
-
-loop-less : tie.Need-loop-less Inv-loop μ-loop
-loop-less c = omega arith
 
 loop-again : tie.Need-loop-again Inv-loop μ-loop
 loop-again c =
@@ -91,18 +64,18 @@ paint-catmull-spec =
     (tie.spec
     Inv-loop
     μ-loop
-    segment-for-requires
+    (λ c κs. search needs)
     loop-holds
-    mul-t
-    shared-slice-read-t
-    find-place-requires
-    pair-or-requires
+    (λ c. search needs)
+    (λ c. search needs)
+    (λ c κs. search needs)
+    (λ c κs. search needs)
     renewed-requires
-    segment-colour-requires
-    mul-put-colour
-    put-colour-requires
+    (λ c κs. search needs)
+    (λ c. search needs)
+    (λ c κs. search needs)
     add-i
-    loop-less
+    (λ c. omega arith)
     loop-again
     same-length
     returns)

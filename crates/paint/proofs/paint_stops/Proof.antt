@@ -8,7 +8,7 @@ use denote.Ref.{now}
 use lib.ListN.{length, take, drop}
 use lib.Seq.{sets, length-sets}
 use lib.Ieee.{Float}
-use Rattle.paint_segments.proofs.Filling.{colours-next, colours-done}
+use Rattle.paint.proofs.gimp.Filling.{colours-next, colours-done}
 use Rattle.blend.specs.Channels.{channelsOf, coloursOf}
 use Rattle.paint.specs.inner.Steps.{stopColour}
 use Rattle.paint.proofs.paint_stops.Statement.{statement}
@@ -27,32 +27,11 @@ loop-holds : tie.Need-loop-holds Inv-loop μ-loop
 unfolding coloursOf
 loop-holds c = (omega arith, refl, refl)
 
-mul-t : tie.Need-mul-t Inv-loop μ-loop
-mul-t c = search needs
-
-shared-slice-read-t : tie.Need-shared-slice-read-t Inv-loop μ-loop
-shared-slice-read-t c = search needs
-
 find-place-requires : tie.Need-find-place-requires Inv-loop μ-loop
 find-place-requires c κs = let l = c .before .before in (l .before .before .before .before .before .before .pre .rising, l .before .span-of .ensures)
 
-pair-or-requires : tie.Need-pair-or-requires Inv-loop μ-loop
-pair-or-requires c κs = search needs
-
 colour-in-requires : tie.Need-colour-in-requires Inv-loop μ-loop
 colour-in-requires c κs = let p = c .before .before .before .before .before .before .before .before .before .before .pre in record { two = p .two; rising = p .rising; four = p .four; found = c .before .find-place .ensures }
-
-mul-put-colour : tie.Need-mul-put-colour Inv-loop μ-loop
-mul-put-colour c = search needs
-
-put-colour-requires : tie.Need-put-colour-requires Inv-loop μ-loop
-put-colour-requires c κs = search needs
-
-add-i : tie.Need-add-i Inv-loop μ-loop
-add-i c = search needs
-
-loop-less : tie.Need-loop-less Inv-loop μ-loop
-loop-less c = omega arith
 
 loop-again : tie.Need-loop-again Inv-loop μ-loop
 loop-again c =
@@ -81,15 +60,15 @@ paint-stops-spec =
     μ-loop
     span-of-requires
     loop-holds
-    mul-t
-    shared-slice-read-t
+    (λ c. search needs)
+    (λ c. search needs)
     find-place-requires
-    pair-or-requires
+    (λ c κs. search needs)
     colour-in-requires
-    mul-put-colour
-    put-colour-requires
-    add-i
-    loop-less
+    (λ c. search needs)
+    (λ c κs. search needs)
+    (λ c. search needs)
+    (λ c. omega arith)
     loop-again
     same-length
     returns)

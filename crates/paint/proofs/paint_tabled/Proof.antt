@@ -6,12 +6,6 @@ use borrow.Author.Needs.{needs}
 use Rattle.paint.proofs.paint_tabled.Statement.{statement}
 use Rattle.paint.proofs.paint_tabled.Tie as tie
 
-fill-requires : tie.Need-fill-requires
-fill-requires c κs = search needs
-
-slice-reshare-prefix-table : tie.Need-slice-reshare-prefix-table
-slice-reshare-prefix-table c = search needs
-
 slice-aggregate-table : tie.Need-slice-aggregate-table
 slice-aggregate-table c =
     let filled = c .before .before in
@@ -23,23 +17,14 @@ paint-catmull-requires c κs =
     let at-start = filled .before .before .before .before .before .before in
     (at-start .pre, filled-segments _ _ _ _ _ _ (filled .fill .ensures))
 
-same-length : tie.Need-same-length
-same-length c = search needs
-
-same-length-2 : tie.Need-same-length-2
-same-length-2 c = search needs
-
-returns : tie.Need-returns
-returns c = search needs
-
 pub paint-tabled-spec : {M : Type 1} → statement M
 paint-tabled-spec =
     tie.close
     (tie.spec
-    fill-requires
-    slice-reshare-prefix-table
+    (λ c κs. search needs)
+    (λ c. search needs)
     slice-aggregate-table
     paint-catmull-requires
-    same-length
-    same-length-2
-    returns)
+    (λ c. search needs)
+    (λ c. search needs)
+    (λ c. search needs))

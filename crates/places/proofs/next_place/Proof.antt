@@ -5,12 +5,6 @@ use borrow.Author.Needs.{needs}
 use Rattle.places.proofs.next_place.Statement.{statement}
 use Rattle.places.proofs.next_place.Tie as tie
 
-count-at-requires : tie.Need-count-at-requires
-count-at-requires c κs = search needs
-
-goes-on-requires : tie.Need-goes-on-requires
-goes-on-requires c κs = search needs
-
 add-t7 : tie.Need-add-t7
 add-t7 c =
     let at-count = c .before .before in
@@ -22,9 +16,6 @@ returns c =
     let at-count = c .before .before in
     let a = at-count .before .before .args in
     same-row (a .counts .now) (a .place) (row-on _ _ _ (at-count .count-at .ensures) (c .before .goes-on .ensures) (c .if1 .taken))
-
-add-t9 : tie.Need-add-t9
-add-t9 c = search needs
 
 returns-2 : tie.Need-returns-2
 returns-2 c =
@@ -43,4 +34,4 @@ returns-3 c =
 pub next-place-spec : {M : Type 1} → statement M
 next-place-spec =
     tie.close
-    (tie.spec count-at-requires goes-on-requires add-t7 returns add-t9 returns-2 returns-3)
+    (tie.spec (λ c κs. search needs) (λ c κs. search needs) add-t7 returns (λ c. search needs) returns-2 returns-3)

@@ -6,15 +6,6 @@ use borrow.Author.Needs.{needs}
 use Rattle.places.proofs.point_at.Statement.{statement}
 use Rattle.places.proofs.point_at.Tie as tie
 
-mul-item : tie.Need-mul-item
-mul-item c = search needs
-
-add-item : tie.Need-add-item
-add-item c = search needs
-
-item-requires : tie.Need-item-requires
-item-requires c κs = search needs
-
 returns : tie.Need-returns
 returns c =
     let at-row = c .before .before in
@@ -32,4 +23,4 @@ returns-3 : tie.Need-returns-3
 returns-3 c = let a = c .before .before .args in point-end (a .rows .now) (a .max) (a .place) (c .if1 .left)
 
 pub point-at-spec : {M : Type 1} → statement M
-point-at-spec = tie.close (tie.spec mul-item add-item item-requires returns returns-2 returns-3)
+point-at-spec = tie.close (tie.spec (λ c. search needs) (λ c. search needs) (λ c κs. search needs) returns returns-2 returns-3)

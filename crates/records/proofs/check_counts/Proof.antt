@@ -17,9 +17,6 @@ abbrev μ-loop : tie.MeasureT-loop
 loop-holds : tie.Need-loop-holds Inv-loop μ-loop
 loop-holds c = (omega arith, refl)
 
-shared-slice-read-n : tie.Need-shared-slice-read-n Inv-loop μ-loop
-shared-slice-read-n c = omega arith
-
 cast-n : tie.Need-cast-n Inv-loop μ-loop
 cast-n c = omega (arith, c .shared-slice-known .given (c .before .before .loop .i))
 
@@ -28,12 +25,6 @@ returns c = counts-fail _ (sym (c .before .before .before .loop .inv .1) ∙ too
 
 returns-2 : tie.Need-returns-2 Inv-loop μ-loop
 returns-2 c = counts-fail _ (sym (c .before .before .before .before .loop .inv .1) ∙ too-large (c .before .before .before .before .before .args .counts .now) (c .before .before .before .before .loop .i) (c .before .before .before .loop-test .taken) (c .before .if1 .left) (c .if2 .taken))
-
-add-i : tie.Need-add-i Inv-loop μ-loop
-add-i c = omega arith
-
-loop-less : tie.Need-loop-less Inv-loop μ-loop
-loop-less c = omega arith
 
 loop-again : tie.Need-loop-again Inv-loop μ-loop
 loop-again c = (omega arith, fitting (c .before .before .before .before .before .args .counts .now) (c .before .before .before .before .loop .i) (c .before .before .before .loop-test .taken) (c .before .if1 .left) (c .if2 .left) ∙ c .before .before .before .before .loop .inv .1)
@@ -48,11 +39,11 @@ check-counts-spec =
     Inv-loop
     μ-loop
     loop-holds
-    shared-slice-read-n
+    (λ c. omega arith)
     cast-n
     returns
     returns-2
-    add-i
-    loop-less
+    (λ c. omega arith)
+    (λ c. omega arith)
     loop-again
     returns-3)

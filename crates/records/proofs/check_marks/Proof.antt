@@ -6,30 +6,12 @@ use borrow.Author.Needs.{needs}
 use Rattle.records.proofs.check_marks.Statement.{statement}
 use Rattle.records.proofs.check_marks.Tie as tie
 
-new-requires : tie.Need-new-requires
-new-requires c κs = search needs
-
-shared-slice-read-if1 : tie.Need-shared-slice-read-if1
-shared-slice-read-if1 c = search needs
-
-to-bits-requires : tie.Need-to-bits-requires
-to-bits-requires c κs = search needs
-
 returns : tie.Need-returns
 returns c =
     let bits = c .before in
     let sampler = bits .before .before in
     let a = sampler .before .before .before in
     first-differs (a .args .marks .now) _ _ _ _ (a .pre) (bits .to-bits .ensures ∙ ap (toBits binary32) (sampler .new .ensures)) (c .if1 .taken)
-
-shared-slice-read-if2 : tie.Need-shared-slice-read-if2
-shared-slice-read-if2 c = search needs
-
-min-of-requires : tie.Need-min-of-requires
-min-of-requires c κs = search needs
-
-to-bits-requires-2 : tie.Need-to-bits-requires-2
-to-bits-requires-2 c κs = search needs
 
 returns-2 : tie.Need-returns-2
 returns-2 c =
@@ -39,15 +21,6 @@ returns-2 c =
     let sampler = bits .before .before in
     let a = sampler .before .before .before in
     second-differs (a .args .marks .now) _ _ _ _ _ (a .pre) (bits .to-bits .ensures ∙ ap (toBits binary32) (sampler .new .ensures)) (least .to-bits2 .ensures ∙ ap (toBits binary32) (least .before .min-of .ensures)) (first .if1 .left) (c .if2 .taken)
-
-shared-slice-read-if3 : tie.Need-shared-slice-read-if3
-shared-slice-read-if3 c = search needs
-
-max-of-requires : tie.Need-max-of-requires
-max-of-requires c κs = search needs
-
-to-bits-requires-3 : tie.Need-to-bits-requires-3
-to-bits-requires-3 c κs = search needs
 
 returns-3 : tie.Need-returns-3
 returns-3 c =
@@ -75,16 +48,16 @@ pub check-marks-spec : {M : Type 1} → statement M
 check-marks-spec =
     tie.close
     (tie.spec
-    new-requires
-    shared-slice-read-if1
-    to-bits-requires
+    (λ c κs. search needs)
+    (λ c. search needs)
+    (λ c κs. search needs)
     returns
-    shared-slice-read-if2
-    min-of-requires
-    to-bits-requires-2
+    (λ c. search needs)
+    (λ c κs. search needs)
+    (λ c κs. search needs)
     returns-2
-    shared-slice-read-if3
-    max-of-requires
-    to-bits-requires-3
+    (λ c. search needs)
+    (λ c κs. search needs)
+    (λ c κs. search needs)
     returns-3
     returns-4)

@@ -7,25 +7,13 @@ use borrow.Author.Needs.{needs}
 use Rattle.records.proofs.check_thin.Statement.{statement}
 use Rattle.records.proofs.check_thin.Tie as tie
 
-check-sample-requires : tie.Need-check-sample-requires
-check-sample-requires c κs = search needs
-
-enum-known-n : tie.Need-enum-known-n
-enum-known-n c = search needs
-
 enum-told : tie.Need-enum-told
 enum-told c = search needs
-
-check-counts-requires : tie.Need-check-counts-requires
-check-counts-requires c κs = search needs
 
 check-marks-requires : tie.Need-check-marks-requires
 check-marks-requires c κs =
     let told = c .before in
     record-lengths _ _ _ _ (sym (told .before .before .check-sample .ensures .answer) ∙ told .enum-told .given .1) .three
-
-in-order-requires : tie.Need-in-order-requires
-in-order-requires c κs = search needs
 
 returns : tie.Need-returns
 returns c = checks (sample-refuses _ _ _ _ (sym (c .before .before .before .check-sample .ensures .answer) ∙ c .before .n .given .1))
@@ -40,11 +28,11 @@ pub check-thin-spec : {M : Type 1} → statement M
 check-thin-spec =
     tie.close
     (tie.spec
-    check-sample-requires
-    enum-known-n
+    (λ c κs. search needs)
+    (λ c. search needs)
     enum-told
-    check-counts-requires
+    (λ c κs. search needs)
     check-marks-requires
-    in-order-requires
+    (λ c κs. search needs)
     returns
     returns-2)

@@ -3,9 +3,6 @@ use borrow.Author.Needs.{needs}
 use Rattle.records.proofs.in_order.Statement.{statement}
 use Rattle.records.proofs.in_order.Tie as tie
 
-enum-known-first : tie.Need-enum-known-first
-enum-known-first c = search needs
-
 enum-told : tie.Need-enum-told
 enum-told c = search needs
 
@@ -16,4 +13,4 @@ returns-2 : tie.Need-returns-2
 returns-2 c = rw (c .enum-told .given .1)
 
 pub in-order-spec : {M : Type 1} → statement M
-in-order-spec = tie.close (tie.spec enum-known-first enum-told returns returns-2)
+in-order-spec = tie.close (tie.spec (λ c. search needs) enum-told returns returns-2)

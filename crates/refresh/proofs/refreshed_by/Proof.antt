@@ -5,12 +5,6 @@ use borrow.Author.Needs.{needs}
 use Rattle.refresh.proofs.refreshed_by.Statement.{statement}
 use Rattle.refresh.proofs.refreshed_by.Tie as tie
 
-enum-known-made : tie.Need-enum-known-made
-enum-known-made c = search needs
-
-enum-known-made-2 : tie.Need-enum-known-made-2
-enum-known-made-2 c = search needs
-
 returns : tie.Need-returns
 returns c = ap refreshedBy (sym (c .before .made .given .1))
 
@@ -18,4 +12,4 @@ returns-2 : tie.Need-returns-2
 returns-2 c = ap refreshedBy (sym (c .before .made2 .given .1))
 
 pub refreshed-by-spec : {M : Type 1} → statement M
-refreshed-by-spec = tie.close (tie.spec enum-known-made enum-known-made-2 returns returns-2)
+refreshed-by-spec = tie.close (tie.spec (λ c. search needs) (λ c. search needs) returns returns-2)

@@ -18,12 +18,6 @@ abbrev μ-loop : tie.MeasureT-loop
 loop-holds : tie.Need-loop-holds Inv-loop μ-loop
 loop-holds c = let a = c .before .args in begun (a .by) (a .s .now) (a .at)
 
-field-at-requires : tie.Need-field-at-requires Inv-loop μ-loop
-field-at-requires c κs = search needs
-
-no-row-requires : tie.Need-no-row-requires Inv-loop μ-loop
-no-row-requires c κs = search needs
-
 returns : tie.Need-returns Inv-loop μ-loop
 returns c = let t = c .before .before in let w = t .before .before in
     row-none (w .before .loop .inv) (w .field-at .ensures) (not-true _ (t .if1 .taken)) (c .before .if2 .taken) (c .no-row .ensures)
@@ -31,9 +25,6 @@ returns c = let t = c .before .before in let w = t .before .before in
 returns-2 : tie.Need-returns-2 Inv-loop μ-loop
 returns-2 c = let t = c .before in let w = t .before .before in
     row-done (w .before .loop .inv) (w .field-at .ensures) (not-true _ (t .if1 .taken)) (c .if2 .left)
-
-no-row-requires-2 : tie.Need-no-row-requires-2 Inv-loop μ-loop
-no-row-requires-2 c κs = search needs
 
 returns-3 : tie.Need-returns-3 Inv-loop μ-loop
 returns-3 c = let t = c .before .before in let w = t .before .before in
@@ -51,30 +42,9 @@ part-read-end : tie.Need-part-read-end Inv-loop μ-loop
 part-read-end c = let e = c .before in
     omega (arith, e .before .before .field-at .ensures .within (not-false _ (e .if1 .left)))
 
-read-requires : tie.Need-read-requires Inv-loop μ-loop
-read-requires c κs = search needs
-
-enum-known-x : tie.Need-enum-known-x Inv-loop μ-loop
-enum-known-x c = search needs
-
-enum-told : tie.Need-enum-told Inv-loop μ-loop
-enum-told c = search needs
-
-no-row-requires-3 : tie.Need-no-row-requires-3 Inv-loop μ-loop
-no-row-requires-3 c κs = search needs
-
 returns-4 : tie.Need-returns-4 Inv-loop μ-loop
 returns-4 c = let d = c .before .before .before in let e = d .before .before .before in let w = e .before .before in
     no-number (w .before .loop .inv) (w .field-at .ensures) (not-false _ (e .if1 .left)) (sym (d .read .ensures) ∙ c .before .enum-told .given .1) (c .no-row3 .ensures)
-
-mul-d : tie.Need-mul-d Inv-loop μ-loop
-mul-d c = search needs
-
-array-write-d : tie.Need-array-write-d Inv-loop μ-loop
-array-write-d c = search needs
-
-add-n : tie.Need-add-n Inv-loop μ-loop
-add-n c = search needs
 
 loop-less : tie.Need-loop-less Inv-loop μ-loop
 loop-less c = let e = c .before .before .before .before .before .before in let f = e .before .before .field-at .ensures in
@@ -91,22 +61,22 @@ row-at-spec =
     Inv-loop
     μ-loop
     loop-holds
-    field-at-requires
-    no-row-requires
+    (λ c κs. search needs)
+    (λ c κs. search needs)
     returns
     returns-2
-    no-row-requires-2
+    (λ c κs. search needs)
     returns-3
     sub-read
     part-read-start
     part-read-end
-    read-requires
-    enum-known-x
-    enum-told
-    no-row-requires-3
+    (λ c κs. search needs)
+    (λ c. search needs)
+    (λ c. search needs)
+    (λ c κs. search needs)
     returns-4
-    mul-d
-    array-write-d
-    add-n
+    (λ c. search needs)
+    (λ c. search needs)
+    (λ c. search needs)
     loop-less
     loop-again)

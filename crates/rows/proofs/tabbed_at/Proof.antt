@@ -8,9 +8,6 @@ use Rattle.rows.proofs.tabbed_at.Tie as tie
 returns : tie.Need-returns
 returns c = let a = c .before .before .args in tabbed-none (a .s .now) (a .from) (c .if1 .taken)
 
-span-end-requires : tie.Need-span-end-requires
-span-end-requires c κs = search needs
-
 add-t4 : tie.Need-add-t4
 add-t4 c = let a = c .before .before .before .args in
     let h = field-within (a .s .now) (a .from) _ (c .before .if1 .left) (c .span-end .ensures) in
@@ -21,4 +18,4 @@ returns-2 c = let a = c .before .before .before .args in
     tabbed-found (a .s .now) (a .from) _ (c .before .if1 .left) (c .span-end .ensures)
 
 pub tabbed-at-spec : {M : Type 1} → statement M
-tabbed-at-spec = tie.close (tie.spec returns span-end-requires add-t4 returns-2)
+tabbed-at-spec = tie.close (tie.spec returns (λ c κs. search needs) add-t4 returns-2)

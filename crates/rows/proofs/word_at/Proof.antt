@@ -5,18 +5,9 @@ use Rattle.rows.proofs.Words.{word-found, word-line, word-end}
 use Rattle.rows.proofs.word_at.Statement.{statement}
 use Rattle.rows.proofs.word_at.Tie as tie
 
-span-end-requires : tie.Need-span-end-requires
-span-end-requires c κs = search needs
-
-span-end-requires-2 : tie.Need-span-end-requires-2
-span-end-requires-2 c κs = search needs
-
 returns : tie.Need-returns
 returns c = let w = c .before in let a = w .before .before .before .args in
     word-found (a .s .now) (a .from) _ _ (w .before .span-end .ensures) (w .span-end2 .ensures) (c .if1 .taken)
-
-add-t8 : tie.Need-add-t8
-add-t8 c = search needs
 
 returns-2 : tie.Need-returns-2
 returns-2 c = let w = c .before .before in let a = w .before .before .before .args in
@@ -28,4 +19,4 @@ returns-3 c = let w = c .before .before in let a = w .before .before .before .ar
 
 pub word-at-spec : {M : Type 1} → statement M
 word-at-spec =
-    tie.close (tie.spec span-end-requires span-end-requires-2 returns add-t8 returns-2 returns-3)
+    tie.close (tie.spec (λ c κs. search needs) (λ c κs. search needs) returns (λ c. search needs) returns-2 returns-3)

@@ -6,23 +6,8 @@ use borrow.Author.Needs.{needs}
 use Rattle.sampling.proofs.check_sample.Statement.{statement}
 use Rattle.sampling.proofs.check_sample.Tie as tie
 
-check-requires : tie.Need-check-requires
-check-requires c κs = search needs
-
-enum-known-n : tie.Need-enum-known-n
-enum-known-n c = search needs
-
 enum-told : tie.Need-enum-told
 enum-told c = search needs
-
-min-of-requires : tie.Need-min-of-requires
-min-of-requires c κs = search needs
-
-max-of-requires : tie.Need-max-of-requires
-max-of-requires c κs = search needs
-
-check-shape-requires : tie.Need-check-shape-requires
-check-shape-requires c κs = search needs
 
 returns : tie.Need-returns
 returns c = checks (first-refuses _ _ _ _ _ (sym (c .before .before .before .check .ensures .answer) ∙ c .before .n .given .1))
@@ -34,11 +19,11 @@ pub check-sample-spec : {M : Type 1} → statement M
 check-sample-spec =
     tie.close
     (tie.spec
-    check-requires
-    enum-known-n
+    (λ c κs. search needs)
+    (λ c. search needs)
     enum-told
-    min-of-requires
-    max-of-requires
-    check-shape-requires
+    (λ c κs. search needs)
+    (λ c κs. search needs)
+    (λ c κs. search needs)
     returns
     returns-2)

@@ -5,20 +5,11 @@ use borrow.Author.Needs.{needs}
 use Rattle.sampling.proofs.check_shape.Statement.{statement}
 use Rattle.sampling.proofs.check_shape.Tie as tie
 
-beyond-requires : tie.Need-beyond-requires
-beyond-requires c κs = search needs
-
 returns : tie.Need-returns
 returns c = low-beyond _ _ _ _ _ (sym (c .before .beyond .ensures) ∙ c .if1 .taken)
 
-beyond-requires-2 : tie.Need-beyond-requires-2
-beyond-requires-2 c κs = search needs
-
 returns-2 : tie.Need-returns-2
 returns-2 c = high-beyond _ _ _ _ _ (sym (c .before .before .before .beyond .ensures) ∙ c .before .before .if1 .left) (sym (c .before .beyond2 .ensures) ∙ c .if2 .taken)
-
-mul-if3 : tie.Need-mul-if3
-mul-if3 c = search needs
 
 returns-3 : tie.Need-returns-3
 returns-3 c = rows-wrong _ _ _ _ _ (sym (c .before .before .before .before .beyond .ensures) ∙ c .before .before .before .if1 .left) (sym (c .before .before .beyond2 .ensures) ∙ c .before .if2 .left) (c .if3 .taken)
@@ -42,11 +33,11 @@ pub check-shape-spec : {M : Type 1} → statement M
 check-shape-spec =
     tie.close
     (tie.spec
-    beyond-requires
+    (λ c κs. search needs)
     returns
-    beyond-requires-2
+    (λ c κs. search needs)
     returns-2
-    mul-if3
+    (λ c. search needs)
     returns-3
     returns-4
     returns-5

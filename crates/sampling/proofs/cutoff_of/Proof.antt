@@ -6,14 +6,8 @@ use borrow.Author.Needs.{needs}
 use Rattle.sampling.proofs.cutoff_of.Statement.{statement}
 use Rattle.sampling.proofs.cutoff_of.Tie as tie
 
-new-requires : tie.Need-new-requires
-new-requires c κs = search needs
-
-cutoff-requires : tie.Need-cutoff-requires
-cutoff-requires c κs = search needs
-
 returns : tie.Need-returns
 returns c = subst (λ (t : Float). IsCutoff t (c .cutoff .result)) (c .before .new .ensures) (c .cutoff .ensures)
 
 pub cutoff-of-spec : {M : Type 1} → statement M
-cutoff-of-spec = tie.close (tie.spec new-requires cutoff-requires returns)
+cutoff-of-spec = tie.close (tie.spec (λ c κs. search needs) (λ c κs. search needs) returns)

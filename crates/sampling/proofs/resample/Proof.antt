@@ -9,23 +9,8 @@ use borrow.Author.Needs.{needs}
 use Rattle.sampling.proofs.resample.Statement.{statement}
 use Rattle.sampling.proofs.resample.Tie as tie
 
-check-sample-requires : tie.Need-check-sample-requires
-check-sample-requires c κs = search needs
-
-enum-known-n : tie.Need-enum-known-n
-enum-known-n c = search needs
-
 enum-told : tie.Need-enum-told
 enum-told c = search needs
-
-cutoff-of-requires : tie.Need-cutoff-of-requires
-cutoff-of-requires c κs = search needs
-
-min-of-requires : tie.Need-min-of-requires
-min-of-requires c κs = search needs
-
-max-of-requires : tie.Need-max-of-requires
-max-of-requires c κs = search needs
 
 resample-cells-requires : tie.Need-resample-cells-requires
 resample-cells-requires c κs =
@@ -48,15 +33,6 @@ mul-evaluations c =
 returns : tie.Need-returns
 returns c = resample-refused _ _ _ _ _ (sym (c .before .before .before .check-sample .ensures .answer) ∙ c .before .n .given .1)
 
-same-length : tie.Need-same-length
-same-length c = search needs
-
-same-length-2 : tie.Need-same-length-2
-same-length-2 c = search needs
-
-same-length-3 : tie.Need-same-length-3
-same-length-3 c = search needs
-
 returns-2 : tie.Need-returns-2
 returns-2 c =
     let marked = c .before .before in
@@ -71,17 +47,17 @@ pub resample-spec : {M : Type 1} → statement M
 resample-spec =
     tie.close
     (tie.spec
-    check-sample-requires
-    enum-known-n
+    (λ c κs. search needs)
+    (λ c. search needs)
     enum-told
-    cutoff-of-requires
-    min-of-requires
-    max-of-requires
+    (λ c κs. search needs)
+    (λ c κs. search needs)
+    (λ c κs. search needs)
     resample-cells-requires
     put-requires
     mul-evaluations
     returns
-    same-length
-    same-length-2
-    same-length-3
+    (λ c. search needs)
+    (λ c. search needs)
+    (λ c. search needs)
     returns-2)

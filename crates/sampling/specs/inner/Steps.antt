@@ -7,8 +7,7 @@ use lib.ListN.{length, set}
 use lib.Seq.{sets}
 use lib.Ieee.{Float}
 use Rattle.stops.specs.Lent.{Ramp, Change, Slice, Lent, rampIn, lentRamp}
-use Rattle.stops.specs.Near.{segmentFor}
-use Rattle.stops.specs.Segments.{isCatmullRom, Table, Segments}
+use Rattle.stops.specs.Segments.{isCatmullRom}
 use Rattle.stops.specs.declared.Checked.the-variants.{Fine}
 use Rattle.gradient.specs.Ramp.{checkOf, colourOf}
 use Rattle.difference.specs.Difference.{exceeds}
@@ -16,6 +15,7 @@ use Rattle.sampling.specs.Constants.{cells, depth, rowLength}
 use Rattle.sampling.specs.Midpoints.{Gradient, Far, halves, tries}
 use Rattle.slices.specs.Joined.{summed}
 use Rattle.sampling.specs.Cells.{edgeOf, pointsOf, rowOf, cellRow, cellCount, cellTries}
+use Rattle.sampling.specs.Segments.{Drawn, drawnFor}
 use Rattle.sampling.specs.Anew.{anewTries, anewRows, anewCounts}
 use Rattle.sampling.specs.Lent.{Body}
 use Rattle.sampling.specs.declared.Point.{Point}
@@ -37,11 +37,6 @@ abbrev pub taskEnd : Task → ℕ → Float
 taskEnd task = edgeOf (task .min) (task .max)
 
 -- ---- points
--- a ramp that passes the check, and a table with segments of its own from the pair `base` on, or with none
-pub record Prepared (ramp : Ramp) (base : ℕ) (table : Table) : Type 0 where
-  pub fine : checkOf ramp ≡ Fine
-  pub segments : Segments (ramp .channels) (length (ramp .positions)) base table
-
 -- a point carries its own colour
 abbrev pub Coloured : Gradient → Point → Type 0
 Coloured g p = p .colour ≡ g (p .t)
@@ -50,20 +45,25 @@ Coloured g p = p .colour ≡ g (p .t)
 abbrev pub PointAt : Gradient → Float → Point → Type 0
 PointAt g t p = (p .t ≡ t) × Coloured g p
 
+-- of a ramp, s is pair k, drawn, where there is such a pair
+abbrev pub DrawnAt : Ramp → ℕ → Drawn → Type 0
+DrawnAt ramp k s = 1 ≤ k → s ≡ drawnFor (ramp .channels) (length (ramp .positions)) k
+
+-- the same where the ramp is Catmull-Rom
+abbrev pub Carrying : Ramp → ℕ → Drawn → Type 0
+Carrying ramp k s = isCatmullRom (ramp .kind) ≡ true → DrawnAt ramp k s
+
 -- the ends of a stretch of a checked ramp carry their colours
-pub record Between (ramp : Ramp) (base : ℕ) (table : Table) (p q : Point) : Type 0 where
-  pub ready : Prepared ramp base table
+pub record Between (ramp : Ramp) (p q : Point) : Type 0 where
+  pub fine : checkOf ramp ≡ Fine
   pub left : Coloured (colourOf ramp) p
   pub right : Coloured (colourOf ramp) q
 
--- the ends of a stretch of a checked Catmull-Rom ramp carry their colours and the segments of their pairs
-pub record DrawnBetween (ramp : Ramp) (p q : Point) (pSegment qSegment : List (List Float)) : Type 0 where
-  pub fine : checkOf ramp ≡ Fine
-  pub curved : isCatmullRom (ramp .kind) ≡ true
-  pub left : Coloured (colourOf ramp) p
-  pub right : Coloured (colourOf ramp) q
-  pub left-segment : pSegment ≡ segmentFor (ramp .channels) (length (ramp .positions)) (p .pair)
-  pub right-segment : qSegment ≡ segmentFor (ramp .channels) (length (ramp .positions)) (q .pair)
+-- beside them their pairs are drawn
+pub record DrawnBetween (ramp : Ramp) (p q : Point) (s u : Drawn) : Type 0 where
+  pub between : Between ramp p q
+  pub left-drawn : Carrying ramp (p .pair) s
+  pub right-drawn : Carrying ramp (q .pair) u
 
 -- the midpoints kept are stored from `at` on
 pub record HalvesTo (g : Gradient) (far : Far) (left : ℕ) (t0 t1 : Float) (at : ℕ) (row row′ : List Float) (r : Halved) : Type 0 where
@@ -82,8 +82,9 @@ pub record Carries (g : Gradient) (lo hi : Float) (i : ℕ) (c : Carried) : Type
   pub few : c .tries ≤ 127 * i
 
 -- a checked ramp, and what is carried to its cell i
-pub record Reaches (ramp : Ramp) (base : ℕ) (table : Table) (lo hi : Float) (i : ℕ) (c : Carried) : Type 0 where
-  pub ready : Prepared ramp base table
+pub record Reaches (ramp : Ramp) (s : Drawn) (lo hi : Float) (i : ℕ) (c : Carried) : Type 0 where
+  pub fine : checkOf ramp ≡ Fine
+  pub drawn : Carrying ramp (c .point .pair) s
   pub carries : Carries (colourOf ramp) lo hi i c
 
 -- cell i keeps what it holds, or is sampled anew; r is carried on

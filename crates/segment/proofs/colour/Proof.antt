@@ -14,9 +14,6 @@ returns-2 : tie.Need-returns-2
 unfolding endColour
 returns-2 c = rw (ne-eqb _ _ (c .before .if1 .left), eq-eqb _ _ (c .if2 .taken))
 
-clear-requires : tie.Need-clear-requires
-clear-requires c κs = search needs
-
 returns-3 : tie.Need-returns-3
 unfolding endColour
 returns-3 c = rw (ne-eqb _ _ (c .before .before .before .if1 .left), ne-eqb _ _ (c .before .before .if2 .left), eq-eqb _ _ (c .before .if3 .taken)) (c .clear .ensures)
@@ -25,9 +22,6 @@ returns-4 : tie.Need-returns-4
 unfolding endColour
 returns-4 c = rw (ne-eqb _ _ (c .before .before .before .if1 .left), ne-eqb _ _ (c .before .before .if2 .left), ne-eqb _ _ (c .before .if3 .left), eq-eqb _ _ (c .if4 .taken))
 
-clear-requires-2 : tie.Need-clear-requires-2
-clear-requires-2 c κs = search needs
-
 returns-5 : tie.Need-returns-5
 unfolding endColour
 returns-5 c = rw (ne-eqb _ _ (c .before .before .before .before .if1 .left), ne-eqb _ _ (c .before .before .before .if2 .left), ne-eqb _ _ (c .before .before .if3 .left), ne-eqb _ _ (c .before .if4 .left)) (c .clear2 .ensures)
@@ -35,4 +29,4 @@ returns-5 c = rw (ne-eqb _ _ (c .before .before .before .before .if1 .left), ne-
 pub colour-spec : {M : Type 1} → statement M
 colour-spec =
     tie.close
-    (tie.spec returns returns-2 clear-requires returns-3 returns-4 clear-requires-2 returns-5)
+    (tie.spec returns returns-2 (λ c κs. search needs) returns-3 returns-4 (λ c κs. search needs) returns-5)

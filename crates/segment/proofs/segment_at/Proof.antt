@@ -6,18 +6,9 @@ use Rattle.segment.proofs.Rows.{segment-none, segment-some}
 use Rattle.segment.proofs.segment_at.Statement.{statement}
 use Rattle.segment.proofs.segment_at.Tie as tie
 
-row-at-requires : tie.Need-row-at-requires
-row-at-requires c κs = search needs
-
-makes-segment-requires : tie.Need-makes-segment-requires
-makes-segment-requires c κs = search needs
-
 returns : tie.Need-returns
 returns c = let m = c .before in let r = m .before in let a = r .before .before .args in
     segment-none (a .fg) (a .bg) (r .row-at .ensures) (m .makes-segment .ensures) (not-true _ (c .if1 .taken))
-
-built-requires : tie.Need-built-requires
-built-requires c κs = search needs
 
 returns-2 : tie.Need-returns-2
 returns-2 c = let e = c .before .before in let m = e .before in let r = m .before in let a = r .before .before .args in
@@ -25,4 +16,4 @@ returns-2 c = let e = c .before .before in let m = e .before in let r = m .befor
 
 pub segment-at-spec : {M : Type 1} → statement M
 segment-at-spec =
-    tie.close (tie.spec row-at-requires makes-segment-requires returns built-requires returns-2)
+    tie.close (tie.spec (λ c κs. search needs) (λ c κs. search needs) returns (λ c κs. search needs) returns-2)

@@ -68,9 +68,6 @@ w3 c = w2 (c .before .before .before)
 there : (c : tie.Else3) → let s = s1 (e1 (w3 c)) in Room (length (colours s)) (bands (colours s)) (length (now (s .args .positions))) (length (now (s .args .channels)))
 there c = let s = s1 (e1 (w3 c)) in room (length (colours s)) (bands (colours s)) (length (now (s .args .positions))) (length (now (s .args .channels))) (passed (c .if3 .left) (c .before .is-roomy .ensures))
 
-domain-fits-requires : tie.Need-domain-fits-requires
-domain-fits-requires c κs = search needs
-
 returns : tie.Need-returns
 returns c =
     let s = c .before .before .before .before .before in
@@ -80,12 +77,6 @@ returns c =
     (failed (c .if1 .taken) (c .before .domain-fits .ensures)) in
     builds answer (after-refused 17 (wanted s) (now (a .positions))) (after-refused 17 (wide s) (now (a .channels)))
 
-mul-m : tie.Need-mul-m
-mul-m c = search needs
-
-slice-aggregate-write-positions : tie.Need-slice-aggregate-write-positions
-slice-aggregate-write-positions c = search needs
-
 write-positions-requires : tie.Need-write-positions-requires
 write-positions-requires c κs = let h = most (c .before) in (h, omega arith)
 
@@ -94,9 +85,6 @@ array-share-prefix-built c = long-enough (c .before)
 
 slice-aggregate-is-steady : tie.Need-slice-aggregate-is-steady
 slice-aggregate-is-steady c = part-length (c .before .before)
-
-is-steady-requires : tie.Need-is-steady-requires
-is-steady-requires c κs = search needs
 
 returns-2 : tie.Need-returns-2
 returns-2 c =
@@ -122,9 +110,6 @@ returns-3 c =
     (passed (e .if2 .left) (judged (e .before)))
     (on (e1 (w2 (e .before)))) in
     builds answer (after-refused 1 (wanted s) (now (a .positions))) (after-refused 1 (wide s) (now (a .channels)))
-
-all-finite-requires : tie.Need-all-finite-requires
-all-finite-requires c κs = search needs
 
 returns-4 : tie.Need-returns-4
 returns-4 c =
@@ -152,12 +137,6 @@ copy-requires c κs = let r = c .before .before .before .before in let e = part-
 write-channels-requires : tie.Need-write-channels-requires
 write-channels-requires c κs = let r = c .before .before .before .before .before .before .before .before in (most (e1 (w3 r)), there r .whole, there r .channels)
 
-same-length : tie.Need-same-length
-same-length c = search needs
-
-same-length-2 : tie.Need-same-length-2
-same-length-2 c = search needs
-
 returns-5 : tie.Need-returns-5
 returns-5 c =
     let w = c .before .before in
@@ -181,23 +160,23 @@ pub build-spec : {M : Type 1} → statement M
 build-spec =
     tie.close
     (tie.spec
-    domain-fits-requires
+    (λ c κs. search needs)
     returns
-    mul-m
-    slice-aggregate-write-positions
+    (λ c. search needs)
+    (λ c. search needs)
     write-positions-requires
     array-share-prefix-built
     slice-aggregate-is-steady
-    is-steady-requires
+    (λ c κs. search needs)
     returns-2
     is-roomy-requires
     returns-3
-    all-finite-requires
+    (λ c κs. search needs)
     returns-4
     array-share-prefix-built-2
     slice-aggregate-copy
     copy-requires
     write-channels-requires
-    same-length
-    same-length-2
+    (λ c. search needs)
+    (λ c. search needs)
     returns-5)

@@ -4,14 +4,8 @@ use borrow.Author.Needs.{needs}
 use Rattle.sharp_ramp.proofs.inset_of.Statement.{statement}
 use Rattle.sharp_ramp.proofs.inset_of.Tie as tie
 
-soften-requires : tie.Need-soften-requires
-soften-requires c κs = search needs
-
-from-whole-requires : tie.Need-from-whole-requires
-from-whole-requires c κs = search needs
-
 returns : tie.Need-returns
 returns c = let a = c .before .before .args in inset-is (a .min) (a .max) (a .s) (a .n) (c .before .soften .ensures) (c .from-whole .ensures)
 
 pub inset-of-spec : {M : Type 1} → statement M
-inset-of-spec = tie.close (tie.spec soften-requires from-whole-requires returns)
+inset-of-spec = tie.close (tie.spec (λ c κs. search needs) (λ c κs. search needs) returns)

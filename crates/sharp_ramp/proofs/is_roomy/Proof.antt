@@ -5,22 +5,13 @@ use borrow.Author.Needs.{needs}
 use Rattle.sharp_ramp.proofs.is_roomy.Statement.{statement}
 use Rattle.sharp_ramp.proofs.is_roomy.Tie as tie
 
-mul-if1 : tie.Need-mul-if1
-mul-if1 c = search needs
-
 returns : tie.Need-returns
 unfolding roomy
 returns c = simp (ne-eqb _ _ (c .if1 .taken))
 
-mul-if2 : tie.Need-mul-if2
-mul-if2 c = search needs
-
 returns-2 : tie.Need-returns-2
 unfolding roomy
 returns-2 c = simp (eq-eqb _ _ (c .before .if1 .left), lt-leb _ _ (c .if2 .taken))
-
-mul-if3 : tie.Need-mul-if3
-mul-if3 c = search needs
 
 returns-3 : tie.Need-returns-3
 unfolding roomy
@@ -31,4 +22,4 @@ unfolding roomy
 returns-4 c = simp (eq-eqb _ _ (c .before .before .if1 .left), le-leb _ _ (c .before .if2 .left), le-leb _ _ (c .if3 .left))
 
 pub is-roomy-spec : {M : Type 1} → statement M
-is-roomy-spec = tie.close (tie.spec mul-if1 returns mul-if2 returns-2 mul-if3 returns-3 returns-4)
+is-roomy-spec = tie.close (tie.spec (λ c. search needs) returns (λ c. search needs) returns-2 (λ c. search needs) returns-3 returns-4)

@@ -4,12 +4,6 @@ use borrow.Author.Needs.{needs}
 use Rattle.sharp_ramp.proofs.soften.Statement.{statement}
 use Rattle.sharp_ramp.proofs.soften.Tie as tie
 
-is-finite-requires : tie.Need-is-finite-requires
-is-finite-requires c κs = search needs
-
-clamp-requires : tie.Need-clamp-requires
-clamp-requires c κs = search needs
-
 returns : tie.Need-returns
 returns c = soft-finite (c .before .before .before .args .s) (c .before .before .is-finite .ensures) (c .before .if1 .taken) (c .clamp .ensures)
 
@@ -17,4 +11,4 @@ returns-2 : tie.Need-returns-2
 returns-2 c = soft-other (c .before .before .args .s) (c .before .is-finite .ensures) (c .if1 .left)
 
 pub soften-spec : {M : Type 1} → statement M
-soften-spec = tie.close (tie.spec is-finite-requires clamp-requires returns returns-2)
+soften-spec = tie.close (tie.spec (λ c κs. search needs) (λ c κs. search needs) returns returns-2)

@@ -29,35 +29,14 @@ f c = bandChannel (now (c .args .colours))
 same : (c : tie.At-loop Inv-loop μ-loop) → length (c .loop .channels) ≡ length (old (c .before))
 same c = ap length (c .loop .inv .1) ∙ fill-length (f (c .before)) (old (c .before)) (c .loop .j) (let h = c .loop .inv .0 in let g = c .before .pre .2 in omega arith)
 
-mul-m : tie.Need-mul-m Inv-loop μ-loop
-mul-m c = omega arith
-
 loop-holds : tie.Need-loop-holds Inv-loop μ-loop
 loop-holds c = (omega arith, fill-start (f c) (old c))
-
-mul-at : tie.Need-mul-at Inv-loop μ-loop
-mul-at c = omega arith
-
-add-at : tie.Need-add-at Inv-loop μ-loop
-add-at c = omega arith
-
-mul-channels : tie.Need-mul-channels Inv-loop μ-loop
-mul-channels c = omega arith
 
 shared-slice-read-channels : tie.Need-shared-slice-read-channels Inv-loop μ-loop
 shared-slice-read-channels c = let h = c .before .loop-test .taken in let g = c .before .before .before .pre .1 in omega arith
 
-mul-channels-2 : tie.Need-mul-channels-2 Inv-loop μ-loop
-mul-channels-2 c = omega arith
-
 slice-write-channels : tie.Need-slice-write-channels Inv-loop μ-loop
 slice-write-channels c = let e = same (c .before .before) in let h = c .before .loop-test .taken in let g = c .before .before .before .pre .2 in omega arith
-
-add-j : tie.Need-add-j Inv-loop μ-loop
-add-j c = omega arith
-
-loop-less : tie.Need-loop-less Inv-loop μ-loop
-loop-less c = omega arith
 
 loop-again : tie.Need-loop-again Inv-loop μ-loop
 loop-again c =
@@ -82,16 +61,16 @@ write-channels-spec =
     (tie.spec
     Inv-loop
     μ-loop
-    mul-m
+    (λ c. omega arith)
     loop-holds
-    mul-at
-    add-at
-    mul-channels
+    (λ c. omega arith)
+    (λ c. omega arith)
+    (λ c. omega arith)
     shared-slice-read-channels
-    mul-channels-2
+    (λ c. omega arith)
     slice-write-channels
-    add-j
-    loop-less
+    (λ c. omega arith)
+    (λ c. omega arith)
     loop-again
     same-length
     returns)

@@ -30,29 +30,14 @@ f c = let a = c .before .before .args in bandAt (a .min) (a .max) (c .inset-of .
 same : (c : tie.At-loop Inv-loop μ-loop) → length (c .loop .positions) ≡ length (old (c .before))
 same c = ap length (c .loop .inv .1) ∙ fill-length (f (c .before)) (old (c .before)) (c .loop .j) (let h = c .loop .inv .0 in let g = c .before .before .before .pre .1 in omega arith)
 
-inset-of-requires : tie.Need-inset-of-requires Inv-loop μ-loop
-inset-of-requires c κs = search needs
-
-mul-m : tie.Need-mul-m Inv-loop μ-loop
-mul-m c = omega arith
-
 loop-holds : tie.Need-loop-holds Inv-loop μ-loop
 loop-holds c = let a = c .before .before .args in (omega arith, fill-start (f c) (now (a .positions)))
-
-band-requires : tie.Need-band-requires Inv-loop μ-loop
-band-requires c κs = omega arith
 
 mul-positions : tie.Need-mul-positions Inv-loop μ-loop
 mul-positions c = let e = same (c .before .before) in let h = c .before .loop-test .taken in omega arith
 
 slice-write-positions : tie.Need-slice-write-positions Inv-loop μ-loop
 slice-write-positions c = let e = same (c .before .before) in let h = c .before .loop-test .taken in omega arith
-
-add-j : tie.Need-add-j Inv-loop μ-loop
-add-j c = omega arith
-
-loop-less : tie.Need-loop-less Inv-loop μ-loop
-loop-less c = omega arith
 
 loop-again : tie.Need-loop-again Inv-loop μ-loop
 loop-again c =
@@ -77,14 +62,14 @@ write-positions-spec =
     (tie.spec
     Inv-loop
     μ-loop
-    inset-of-requires
-    mul-m
+    (λ c κs. search needs)
+    (λ c. omega arith)
     loop-holds
-    band-requires
+    (λ c κs. omega arith)
     mul-positions
     slice-write-positions
-    add-j
-    loop-less
+    (λ c. omega arith)
+    (λ c. omega arith)
     loop-again
     same-length
     returns)

@@ -8,11 +8,8 @@ use Rattle.sine.proofs.from_end.Tie as tie
 returns : tie.Need-returns
 returns c = rw (le-leb _ _ (c .if1 .taken))
 
-sub-result : tie.Need-sub-result
-sub-result c = search needs
-
 returns-2 : tie.Need-returns-2
 returns-2 c = rw (lt-leb _ _ (c .if1 .left))
 
 pub from-end-spec : {M : Type 1} → statement M
-from-end-spec = tie.close (tie.spec returns sub-result returns-2)
+from-end-spec = tie.close (tie.spec returns (λ c. search needs) returns-2)

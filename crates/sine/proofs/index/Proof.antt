@@ -8,9 +8,6 @@ use borrow.Author.Needs.{needs}
 use Rattle.sine.proofs.index.Statement.{statement}
 use Rattle.sine.proofs.index.Tie as tie
 
-whole-requires : tie.Need-whole-requires
-whole-requires c κs = search needs
-
 returns : tie.Need-returns
 returns c =
     let w = c .before in
@@ -30,4 +27,4 @@ returns-3 c =
     index-most (w .before .args .x) (toZ-ofZ (record { sfits = w .whole .ok }) ∙ w .whole .ensures) (c .if2 .left)
 
 pub index-spec : {M : Type 1} → statement M
-index-spec = tie.close (tie.spec whole-requires returns cast-result returns-2 returns-3)
+index-spec = tie.close (tie.spec (λ c κs. search needs) returns cast-result returns-2 returns-3)

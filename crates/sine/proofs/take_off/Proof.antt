@@ -11,8 +11,5 @@ mul-result c = let m = product-most (c .args .p) (c .args .z) (omega arith) (c .
 sub-result : tie.Need-sub-result
 sub-result c = let m = part-most (c .args .p) (c .args .z) (c .pre .2) in omega arith
 
-returns : tie.Need-returns
-returns c = search needs
-
 pub take-off-spec : {M : Type 1} → statement M
-take-off-spec = tie.close (tie.spec mul-result sub-result returns)
+take-off-spec = tie.close (tie.spec mul-result sub-result (λ c. search needs))

@@ -15,18 +15,6 @@ Inv-loop out₀ i₀ out i = (i ≤ length out₀) × (length out ≡ length out
 abbrev μ-loop : tie.MeasureT-loop
 μ-loop out₀ i₀ out i = length out₀ - i
 
-loop-holds : tie.Need-loop-holds Inv-loop μ-loop
-loop-holds c = search needs
-
-slice-write-out : tie.Need-slice-write-out Inv-loop μ-loop
-slice-write-out c = search needs
-
-add-i : tie.Need-add-i Inv-loop μ-loop
-add-i c = search needs
-
-loop-less : tie.Need-loop-less Inv-loop μ-loop
-loop-less c = search needs
-
 loop-again : tie.Need-loop-again Inv-loop μ-loop
 loop-again c = let l = c .before in
     (omega arith, simp length-set (l .loop .inv .1), fill-more 0 (l .loop .i) (l .before .args .out .now) (l .loop .out) (omega arith) (l .loop .inv .2))
@@ -44,10 +32,10 @@ zero-bytes-spec =
     (tie.spec
     Inv-loop
     μ-loop
-    loop-holds
-    slice-write-out
-    add-i
-    loop-less
+    (λ c. search needs)
+    (λ c. search needs)
+    (λ c. search needs)
+    (λ c. search needs)
     loop-again
     same-length
     returns)

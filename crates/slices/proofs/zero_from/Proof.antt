@@ -27,15 +27,6 @@ loop-holds c = (omega arith, omega arith, refl, rw sub-self)
 mul-out : tie.Need-mul-out Inv-loop μ-loop
 mul-out c = scaled-fits (c .before .loop .i) (length (c .before .before .args .out .now)) 4 (omega arith) (c .before .before .good .0 .1)
 
-slice-write-out : tie.Need-slice-write-out Inv-loop μ-loop
-slice-write-out c = omega arith
-
-add-i : tie.Need-add-i Inv-loop μ-loop
-add-i c = omega arith
-
-loop-less : tie.Need-loop-less Inv-loop μ-loop
-loop-less c = omega arith
-
 loop-again : tie.Need-loop-again Inv-loop μ-loop
 loop-again c = (
   omega arith,
@@ -61,9 +52,9 @@ zero-from-spec =
     μ-loop
     loop-holds
     mul-out
-    slice-write-out
-    add-i
-    loop-less
+    (λ c. omega arith)
+    (λ c. omega arith)
+    (λ c. omega arith)
     loop-again
     same-length
     returns)

@@ -16,24 +16,9 @@ abbrev μ-loop : tie.MeasureT-loop
 loop-holds : tie.Need-loop-holds Inv-loop μ-loop
 loop-holds c = let a = c .before .before .args in putting-none _ (a .buf .now) 0 (a .s .now)
 
-shared-slice-read-put-plain : tie.Need-shared-slice-read-put-plain Inv-loop μ-loop
-shared-slice-read-put-plain c = search needs
-
-put-plain-requires : tie.Need-put-plain-requires Inv-loop μ-loop
-put-plain-requires c κs = search needs
-
-add-i : tie.Need-add-i Inv-loop μ-loop
-add-i c = search needs
-
-loop-less : tie.Need-loop-less Inv-loop μ-loop
-loop-less c = search needs
-
 loop-again : tie.Need-loop-again Inv-loop μ-loop
 loop-again c = let p = c .before .before in let l = p .before .before .before .before in let s = l .before .before .before .args .s .now in
     putting-more (l .loop .inv) (meantBy (getD s (l .loop .i) 0)) (meant-one s (l .loop .i) (search needs)) (p .put-plain .ensures .0) (p .put-plain .ensures .1)
-
-same-length : tie.Need-same-length Inv-loop μ-loop
-same-length c = search needs
 
 returns : tie.Need-returns Inv-loop μ-loop
 returns c = putting-all (c .before .loop .inv) meant-none (search needs)
@@ -45,10 +30,10 @@ decode-spec =
     Inv-loop
     μ-loop
     loop-holds
-    shared-slice-read-put-plain
-    put-plain-requires
-    add-i
-    loop-less
+    (λ c. search needs)
+    (λ c κs. search needs)
+    (λ c. search needs)
+    (λ c. search needs)
     loop-again
-    same-length
+    (λ c. search needs)
     returns)

@@ -10,9 +10,6 @@ use Rattle.sqrt.proofs.root_of.Tie as tie
 done : (c : tie.After-nearest-root) → Found (c .before .args .n) (c .before .args .k) (c .nearest-root .result)
 done c = let s = c .before in found (s .args .n) (s .args .k) (c .nearest-root .result) (s .pre) (c .nearest-root .ensures)
 
-nearest-root-requires : tie.Need-nearest-root-requires
-nearest-root-requires c κs = search needs
-
 cast-q : tie.Need-cast-q
 cast-q c = let h = done c .high in omega arith
 
@@ -29,4 +26,4 @@ returns : tie.Need-returns
 returns c = done c .is
 
 pub root-of-spec : {M : Type 1} → statement M
-root-of-spec = tie.close (tie.spec nearest-root-requires cast-q mul-result add-result float-from-bits-result returns)
+root-of-spec = tie.close (tie.spec (λ c κs. search needs) cast-q mul-result add-result float-from-bits-result returns)

@@ -5,30 +5,6 @@ use Rattle.text.specs.Places.{inClass}
 use Rattle.text.proofs.belongs.Statement.{statement}
 use Rattle.text.proofs.belongs.Tie as tie
 
-enum-told : tie.Need-enum-told
-enum-told c = search needs
-
-enum-told-2 : tie.Need-enum-told-2
-enum-told-2 c = search needs
-
-is-white-requires : tie.Need-is-white-requires
-is-white-requires c κs = search needs
-
-enum-told-3 : tie.Need-enum-told-3
-enum-told-3 c = search needs
-
-is-white-requires-2 : tie.Need-is-white-requires-2
-is-white-requires-2 c κs = search needs
-
-enum-told-4 : tie.Need-enum-told-4
-enum-told-4 c = search needs
-
-is-white-requires-3 : tie.Need-is-white-requires-3
-is-white-requires-3 c κs = search needs
-
-enum-told-5 : tie.Need-enum-told-5
-enum-told-5 c = search needs
-
 returns : tie.Need-returns
 unfolding inClass
 returns c = rw (c .enum-told .given .1)
@@ -57,14 +33,14 @@ pub belongs-spec : {M : Type 1} → statement M
 belongs-spec =
     tie.close
     (tie.spec
-    enum-told
-    enum-told-2
-    is-white-requires
-    enum-told-3
-    is-white-requires-2
-    enum-told-4
-    is-white-requires-3
-    enum-told-5
+    (λ c. search needs)
+    (λ c. search needs)
+    (λ c κs. search needs)
+    (λ c. search needs)
+    (λ c κs. search needs)
+    (λ c. search needs)
+    (λ c κs. search needs)
+    (λ c. search needs)
     returns
     returns-2
     returns-3

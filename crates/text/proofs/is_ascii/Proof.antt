@@ -18,18 +18,6 @@ Inv-loop s top₀ i₀ top i = every ascii s ≡ (leb top 127 && every ascii (dr
 abbrev μ-loop : tie.MeasureT-loop
 μ-loop s top₀ i₀ top i = length s - i
 
-loop-holds : tie.Need-loop-holds Inv-loop μ-loop
-loop-holds c = refl
-
-shared-slice-read-b : tie.Need-shared-slice-read-b Inv-loop μ-loop
-shared-slice-read-b c = search needs
-
-add-i : tie.Need-add-i Inv-loop μ-loop
-add-i c = search needs
-
-loop-less : tie.Need-loop-less Inv-loop μ-loop
-loop-less c = search needs
-
 loop-again : tie.Need-loop-again Inv-loop μ-loop
 loop-again c = let l = c .before .before .before in let s = l .before .args .s .now in
     ⊎-elim (λ w. rw (w .1) (ascii-above s (l .loop .i) (l .loop .top) (omega arith) (l .loop .inv) (omega arith))) (λ w. rw (w .1) (ascii-below s (l .loop .i) (l .loop .top) (omega arith) (l .loop .inv) (omega arith))) (c .if1 .came)
@@ -40,4 +28,4 @@ returns c = let l = c .before in ascii-all (l .before .args .s .now) (l .loop .i
 pub is-ascii-spec : {M : Type 1} → statement M
 is-ascii-spec =
     tie.close
-    (tie.spec Inv-loop μ-loop loop-holds shared-slice-read-b add-i loop-less loop-again returns)
+    (tie.spec Inv-loop μ-loop (λ c. refl) (λ c. search needs) (λ c. search needs) (λ c. search needs) loop-again returns)

@@ -9,11 +9,8 @@ use Rattle.text.proofs.is_same.Tie as tie
 returns : tie.Need-returns
 returns c = same-not _ _ (c .if1 .taken)
 
-starts-with-requires : tie.Need-starts-with-requires
-starts-with-requires c κs = search needs
-
 returns-2 : tie.Need-returns-2
 returns-2 c = c .starts-with .ensures ∙ same-length _ _ (c .before .if1 .left)
 
 pub is-same-spec : {M : Type 1} → statement M
-is-same-spec = tie.close (tie.spec returns starts-with-requires returns-2)
+is-same-spec = tie.close (tie.spec returns (λ c κs. search needs) returns-2)

@@ -17,26 +17,11 @@ Inv-loop s from k i₀ i = i + span (inClass k) (drop i s) ≡ from + span (inCl
 abbrev μ-loop : tie.MeasureT-loop
 μ-loop s from k i₀ i = length s - i
 
-loop-holds : tie.Need-loop-holds Inv-loop μ-loop
-loop-holds c = search needs
-
-shared-slice-read-b : tie.Need-shared-slice-read-b Inv-loop μ-loop
-shared-slice-read-b c = search needs
-
-belongs-requires : tie.Need-belongs-requires Inv-loop μ-loop
-belongs-requires c κs = search needs
-
 returns : tie.Need-returns Inv-loop μ-loop
 returns c = let l = c .before .before .before .before in
     let a = l .before .before .args in
     let t : inClass (a .k) (getD (a .s .now) (l .loop .i) 0) ≡ false = failed (c .if1 .taken) (c .before .belongs .ensures) in
     omega (arith, span-no (inClass (a .k)) (a .s .now) (l .loop .i) (search needs) t)
-
-add-i : tie.Need-add-i Inv-loop μ-loop
-add-i c = search needs
-
-loop-less : tie.Need-loop-less Inv-loop μ-loop
-loop-less c = search needs
 
 loop-again : tie.Need-loop-again Inv-loop μ-loop
 loop-again c = let l = c .before .before .before .before in
@@ -55,11 +40,11 @@ span-end-spec =
     (tie.spec
     Inv-loop
     μ-loop
-    loop-holds
-    shared-slice-read-b
-    belongs-requires
+    (λ c. search needs)
+    (λ c. search needs)
+    (λ c κs. search needs)
     returns
-    add-i
-    loop-less
+    (λ c. search needs)
+    (λ c. search needs)
     loop-again
     returns-2)

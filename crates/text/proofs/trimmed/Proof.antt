@@ -11,20 +11,11 @@ use Rattle.text.proofs.Bytes.{part-tail, span-le, trim-from}
 use Rattle.text.proofs.trimmed.Statement.{statement}
 use Rattle.text.proofs.trimmed.Tie as tie
 
-span-end-requires : tie.Need-span-end-requires
-span-end-requires c κs = search needs
-
 sub-t : tie.Need-sub-t
 sub-t c = omega (arith, span-le (inClass White) (c .before .before .args .s .now))
 
 part-t-start : tie.Need-part-t-start
 part-t-start c = omega (arith, span-le (inClass White) (c .before .before .args .s .now))
-
-part-t-end : tie.Need-part-t-end
-part-t-end c = search needs
-
-trim-end-requires : tie.Need-trim-end-requires
-trim-end-requires c κs = search needs
 
 slice-aggregate-result : tie.Need-slice-aggregate-result
 slice-aggregate-result c = sym (length-take-le _ _ (c .before .trim-end .ensures .0))
@@ -38,10 +29,10 @@ pub trimmed-spec : {M : Type 1} → statement M
 trimmed-spec =
     tie.close
     (tie.spec
-    span-end-requires
+    (λ c κs. search needs)
     sub-t
     part-t-start
-    part-t-end
-    trim-end-requires
+    (λ c. search needs)
+    (λ c κs. search needs)
     slice-aggregate-result
     returns)

@@ -8,32 +8,17 @@ use borrow.Author.Needs.{needs}
 use Rattle.thinning.proofs.emit.Statement.{statement}
 use Rattle.thinning.proofs.emit.Tie as tie
 
-stop-refusal-requires : tie.Need-stop-refusal-requires
-stop-refusal-requires c κs = search needs
-
 returns : tie.Need-returns
 returns c =
     let a = c .before .before .before .before .before .args in
     let s = c .before .stop-refusal in
     refused-run (a .room) (run (a .s) (a .out-positions .now) (a .out-channels .now)) (a .p) (s .result) (s .ensures) (c .if1 .taken)
 
-put-requires : tie.Need-put-requires
-put-requires c κs = search needs
-
-put-stop-requires : tie.Need-put-stop-requires
-put-stop-requires c κs = search needs
-
 add-t15 : tie.Need-add-t15
 add-t15 c =
     let at-test = c .before .before .before .before .before .before .before .before in
     let a = at-test .before .before .before .before .before .args in
     omega (arith, has-room (a .room) (a .s .stops) _ _ _ (sym (at-test .before .stop-refusal .ensures) ∙ at-test .if1 .left))
-
-same-length : tie.Need-same-length
-same-length c = search needs
-
-same-length-2 : tie.Need-same-length-2
-same-length-2 c = search needs
 
 returns-2 : tie.Need-returns-2
 returns-2 c =
@@ -46,11 +31,11 @@ pub emit-spec : {M : Type 1} → statement M
 emit-spec =
     tie.close
     (tie.spec
-    stop-refusal-requires
+    (λ c κs. search needs)
     returns
-    put-requires
-    put-stop-requires
+    (λ c κs. search needs)
+    (λ c κs. search needs)
     add-t15
-    same-length
-    same-length-2
+    (λ c. search needs)
+    (λ c. search needs)
     returns-2)

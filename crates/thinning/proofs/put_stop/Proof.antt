@@ -7,21 +7,9 @@ use borrow.Author.Needs.{needs}
 use Rattle.thinning.proofs.put_stop.Statement.{statement}
 use Rattle.thinning.proofs.put_stop.Tie as tie
 
-mul-put-colour : tie.Need-mul-put-colour
-mul-put-colour c = search needs
-
-put-colour-requires : tie.Need-put-colour-requires
-put-colour-requires c κs = search needs
-
-same-length : tie.Need-same-length
-same-length c = search needs
-
-returns : tie.Need-returns
-returns c = search needs
-
 returns-2 : tie.Need-returns-2
 returns-2 c = let s = c .before .before in sym (sets-out (s .args .out .now) _ (channelsOf (s .args .c)) (omega (arith, c .if1 .left)))
 
 pub put-stop-spec : {M : Type 1} → statement M
 put-stop-spec =
-    tie.close (tie.spec mul-put-colour put-colour-requires same-length returns returns-2)
+    tie.close (tie.spec (λ c. search needs) (λ c κs. search needs) (λ c. search needs) (λ c. search needs) returns-2)

@@ -8,14 +8,8 @@ use Rattle.thinning.proofs.stop_refusal.Tie as tie
 returns : tie.Need-returns
 returns c = no-room (c .before .args .room) (c .before .args .n) (c .before .args .last) (c .before .args .t) (c .before .args .c) (c .if1 .taken)
 
-is-finite-requires : tie.Need-is-finite-requires
-is-finite-requires c κs = search needs
-
 returns-2 : tie.Need-returns-2
 returns-2 c = place-not (c .before .before .before .args .room) (c .before .before .before .args .n) (c .before .before .before .args .last) (c .before .before .before .args .t) (c .before .before .before .args .c) (c .before .before .if1 .left) (failed (c .if2 .taken) (c .before .is-finite .ensures))
-
-is-finite-colour-requires : tie.Need-is-finite-colour-requires
-is-finite-colour-requires c κs = search needs
 
 returns-3 : tie.Need-returns-3
 returns-3 c = colour-not (c .before .before .before .before .before .args .room) (c .before .before .before .before .before .args .n) (c .before .before .before .before .before .args .last) (c .before .before .before .before .before .args .t) (c .before .before .before .before .before .args .c) (c .before .before .before .before .if1 .left) (passed (c .before .before .if2 .left) (c .before .before .before .is-finite .ensures)) (failed (c .if3 .taken) (c .before .is-finite-colour .ensures))
@@ -31,9 +25,9 @@ stop-refusal-spec =
     tie.close
     (tie.spec
     returns
-    is-finite-requires
+    (λ c κs. search needs)
     returns-2
-    is-finite-colour-requires
+    (λ c κs. search needs)
     returns-3
     returns-4
     returns-5)

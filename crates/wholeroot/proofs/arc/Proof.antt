@@ -22,17 +22,11 @@ fallen c =
 risen : (c : tie.Start) → c .args .done * (c .args .slope + (131071 - c .args .done) * c .args .fall / 65536) ≤ 131071 * 17179869183
 risen c = let h = fallen c in along (c .args .done) (c .args .slope + (131071 - c .args .done) * c .args .fall / 65536) (c .pre) (omega arith)
 
-sub-left : tie.Need-sub-left
-sub-left c = search needs
-
 mul-steep : tie.Need-mul-steep
 mul-steep c = let h = fallen c in omega arith
 
 add-steep : tie.Need-add-steep
 add-steep c = let h = fallen c in omega arith
-
-mul-result : tie.Need-mul-result
-mul-result c = search needs
 
 mul-result-2 : tie.Need-mul-result-2
 mul-result-2 c = let h = risen c in omega arith
@@ -44,4 +38,4 @@ returns : tie.Need-returns
 returns c = let h = risen c in omega arith
 
 pub arc-spec : {M : Type 1} → statement M
-arc-spec = tie.close (tie.spec sub-left mul-steep add-steep mul-result mul-result-2 add-result returns)
+arc-spec = tie.close (tie.spec (λ c. search needs) mul-steep add-steep (λ c. search needs) mul-result-2 add-result returns)

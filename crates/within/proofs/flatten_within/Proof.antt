@@ -7,7 +7,8 @@ use Rattle.sampling.proofs.Answers.{Fresh, fresh-is, fresh-bound}
 use Rattle.sampling.proofs.Checks.{ramp-fine}
 use Rattle.linearize.proofs.Lists.{after-few}
 use Rattle.linearize.proofs.Records.{fresh-ready}
-use Rattle.within.proofs.Making.{positions-few, made-few, flatten-refused, flatten-done}
+use Rattle.within.proofs.Sites.{positions-few}
+use Rattle.within.proofs.Making.{made-few, flatten-refused, flatten-done}
 use Rattle.within.proofs.flatten_within.Statement.{statement}
 use Rattle.within.proofs.flatten_within.Tie as tie
 

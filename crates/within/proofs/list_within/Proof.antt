@@ -10,7 +10,8 @@ use Rattle.float.specs.F32.{f0}
 use Rattle.sqrt.specs.Cutoff.{IsCutoff}
 use Rattle.stops.specs.Lent.{Ramp, rampIn}
 use Rattle.sampling.specs.Constants.{thresholdOf}
-use Rattle.within.proofs.Making.{positions-few, count-few, made}
+use Rattle.within.proofs.Sites.{positions-few, count-few}
+use Rattle.within.proofs.Making.{made}
 use Rattle.within.proofs.list_within.Statement.{statement}
 use Rattle.within.proofs.list_within.Tie as tie
 

@@ -29,10 +29,10 @@ use Rattle.within.specs.Shown.{Near, nearBelow, fairly, pointAfter, show
 use Rattle.within.specs.Kept.{Kept, lentShown, anyShown, stepFrom, keptFrom, keptAll, positionsOf, keptRefusals}
 use Rattle.within.specs.Lists.{keptOf, refusalWithin, evaluationsWithin, writtenWithin}
 use Rattle.within.specs.declared.fair.Allowed.{Allowed}
-use Rattle.within.specs.declared.asking.Ahead.{Ahead}
+use Rattle.within.specs.declared.lent.Ahead.{Ahead}
 use Rattle.within.specs.declared.asking.Answer.{Answer}
-use Rattle.within.specs.declared.asking.Reach.{Reach}
-use Rattle.within.specs.declared.asking.Step.{Step}
+use Rattle.within.specs.declared.steps.Reach.{Reach}
+use Rattle.within.specs.declared.steps.Step.{Step}
 
 -- ---- the points in two arrays: k of them from i on
 abbrev pub siteAt : List Float → List ℕ → ℕ → Site
@@ -187,19 +187,20 @@ pub record EndsWith (o : Ending) (s : Progress) (ps cs : List Float) : Type 0 wh
   pub refused : s .refusal ≡ o .refusal
   pub same : s .refusal ≡ 0 → (s .stops ≡ o .stops) × ((ps ≡ o .places) × (cs ≡ o .colours))
 
--- of the stops after one that stands, and of all: from the outputs before to those after
+-- of the stops after one that stands: from the outputs before to those after
 abbrev pub StopsAfter : Ramp → Allowed → ℕ → Progress → ℕ → Point → List Float → List ℕ → Change Output → Progress → Type 0
 StopsAfter ramp offs room s count end ts ms out r =
     EndsWith
     (ending (colourOf ramp) room (s .stops) (out .entry .positions) (out .entry .channels) (keptFrom (colourOf ramp) (nearBy offs) (end .t) (suc count) (s .last .t) (sitesFrom ts ms 0 count)))
     r (out .exit .positions) (out .exit .channels)
 
-abbrev pub allStops : Ramp → Allowed → ℕ → ℕ → Float → Float → List Float → List ℕ → List Float → List Float → Ending
-allStops ramp offs room count lo max ts ms ps cs = ending (colourOf ramp) room 0 ps cs (keptAll (colourOf ramp) (nearBy offs) max lo (sitesFrom ts ms 0 count))
+-- what all stops come to, and the promise of it
+abbrev pub wholeEnding : Ramp → Allowed → ℕ → ℕ → Float → Float → List Float → List ℕ → List Float → List Float → Ending
+wholeEnding ramp offs room count lo max ts ms ps cs = ending (colourOf ramp) room 0 ps cs (keptAll (colourOf ramp) (nearBy offs) max lo (sitesFrom ts ms 0 count))
 
 abbrev pub AllStops : Ramp → Allowed → ℕ → ℕ → Float → Float → List Float → List ℕ → Change Output → Progress → Type 0
 AllStops ramp offs room count lo max ts ms out r =
-    EndsWith (allStops ramp offs room count lo max ts ms (out .entry .positions) (out .entry .channels)) r (out .exit .positions) (out .exit .channels)
+    EndsWith (wholeEnding ramp offs room count lo max ts ms (out .entry .positions) (out .entry .channels)) r (out .exit .positions) (out .exit .channels)
 
 -- the list of the points ts is made: the answer and both outputs
 pub record MakesWithin (ramp : Ramp) (asked hold : Float) (ts : List Float) (out : Change Output) (r : Listed) : Type 0 where

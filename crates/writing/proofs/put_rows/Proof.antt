@@ -18,18 +18,6 @@ abbrev μ-loop : tie.MeasureT-loop
 loop-holds : tie.Need-loop-holds Inv-loop μ-loop
 loop-holds c = (refl, rowed-start (now (c .before .before .before .args .out)) (c .before .before .before .args .at) (c .before .before .before .args .n) (c .before .before .before .args .positions .now) (c .before .before .before .args .channels .now) (omega arith))
 
-stop-requires : tie.Need-stop-requires Inv-loop μ-loop
-stop-requires c κs = search needs
-
-put-stop-requires : tie.Need-put-stop-requires Inv-loop μ-loop
-put-stop-requires c κs = search needs
-
-add-i : tie.Need-add-i Inv-loop μ-loop
-add-i c = search needs
-
-loop-less : tie.Need-loop-less Inv-loop μ-loop
-loop-less c = search needs
-
 loop-again : tie.Need-loop-again Inv-loop μ-loop
 loop-again c = (from-size (c .before .before .put-stop .ensures) ∙ c .before .before .before .before .before .before .loop .inv .0, rowed-next (search needs) (c .before .before .before .stop .ensures) (c .before .before .before .before .before .before .loop .inv .1) (c .before .before .put-stop .ensures) (omega arith))
 
@@ -46,10 +34,10 @@ put-rows-spec =
     Inv-loop
     μ-loop
     loop-holds
-    stop-requires
-    put-stop-requires
-    add-i
-    loop-less
+    (λ c κs. search needs)
+    (λ c κs. search needs)
+    (λ c. search needs)
+    (λ c. search needs)
     loop-again
     same-length
     returns)

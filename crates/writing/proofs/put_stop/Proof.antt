@@ -6,24 +6,6 @@ use Rattle.writing.proofs.Texts.{puts-then}
 use Rattle.writing.proofs.put_stop.Statement.{statement}
 use Rattle.writing.proofs.put_stop.Tie as tie
 
-slice-aggregate-put-all : tie.Need-slice-aggregate-put-all
-slice-aggregate-put-all c = search needs
-
-put-all-requires : tie.Need-put-all-requires
-put-all-requires c κs = search needs
-
-put-field-requires : tie.Need-put-field-requires
-put-field-requires c κs = search needs
-
-put-colour-requires : tie.Need-put-colour-requires
-put-colour-requires c κs = search needs
-
-put-requires : tie.Need-put-requires
-put-requires c κs = search needs
-
-same-length : tie.Need-same-length
-same-length c = search needs
-
 returns : tie.Need-returns
 unfolding stopText
 returns c = let at-put-colour = c .before .before .before .before .before .before in let at-put-field = at-put-colour .before .before .before .before in let at-put-all = at-put-field .before .before .before .before in
@@ -33,10 +15,10 @@ pub put-stop-spec : {M : Type 1} → statement M
 put-stop-spec =
     tie.close
     (tie.spec
-    slice-aggregate-put-all
-    put-all-requires
-    put-field-requires
-    put-colour-requires
-    put-requires
-    same-length
+    (λ c. search needs)
+    (λ c κs. search needs)
+    (λ c κs. search needs)
+    (λ c κs. search needs)
+    (λ c κs. search needs)
+    (λ c. search needs)
     returns)

@@ -8,14 +8,8 @@ use Rattle.apart.proofs.checks.check_asked.Tie as tie
 returns : tie.Need-returns
 returns c = no-depth _ _ _ _ (c .if1 .taken)
 
-first-bad-requires : tie.Need-first-bad-requires
-first-bad-requires c κs = search needs
-
 returns-2 : tie.Need-returns-2
 returns-2 c = bad-depth _ _ _ _ (c .before .before .if1 .left) (c .before .first-bad .ensures) (c .if2 .taken)
-
-is-finite-requires : tie.Need-is-finite-requires
-is-finite-requires c κs = search needs
 
 returns-3 : tie.Need-returns-3
 returns-3 c =
@@ -39,9 +33,9 @@ check-asked-spec =
     tie.close
     (tie.spec
     returns
-    first-bad-requires
+    (λ c κs. search needs)
     returns-2
-    is-finite-requires
+    (λ c κs. search needs)
     returns-3
     returns-4
     returns-5)

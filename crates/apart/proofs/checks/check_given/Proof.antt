@@ -4,15 +4,6 @@ use Rattle.apart.proofs.Checking.{list-fine, bad-list}
 use Rattle.apart.proofs.checks.check_given.Statement.{statement}
 use Rattle.apart.proofs.checks.check_given.Tie as tie
 
-check-list-requires : tie.Need-check-list-requires
-check-list-requires c κs = search needs
-
-enum-told : tie.Need-enum-told
-enum-told c = search needs
-
-check-asked-requires : tie.Need-check-asked-requires
-check-asked-requires c κs = search needs
-
 returns : tie.Need-returns
 returns c =
     let told = c .before in
@@ -23,4 +14,4 @@ returns-2 c = bad-list _ _ _ _ _ (c .before .check-list .ensures) (c .match .key
 
 pub check-given-spec : {M : Type 1} → statement M
 check-given-spec =
-    tie.close (tie.spec check-list-requires enum-told check-asked-requires returns returns-2)
+    tie.close (tie.spec (λ c κs. search needs) (λ c. search needs) (λ c κs. search needs) returns returns-2)

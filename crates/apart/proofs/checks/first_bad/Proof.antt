@@ -20,16 +20,10 @@ abbrev μ-loop : tie.MeasureT-loop
 loop-holds : tie.Need-loop-holds Inv-loop μ-loop
 loop-holds c = begun _ _ _
 
-is-good-requires : tie.Need-is-good-requires Inv-loop μ-loop
-is-good-requires c κs = tt
-
 returns : tie.Need-returns Inv-loop μ-loop
 returns c =
     let turn = c .before .before in
     sym (fails-here _ _ _ (turn .loop-test .taken) (failed (c .if1 .taken) (c .before .is-good .ensures))) ∙ turn .before .loop .inv
-
-add-i : tie.Need-add-i Inv-loop μ-loop
-add-i c = omega arith
 
 loop-less : tie.Need-loop-less Inv-loop μ-loop
 loop-less c = omega (arith, c .before .before .loop-test .taken)
@@ -49,9 +43,9 @@ first-bad-spec =
     Inv-loop
     μ-loop
     loop-holds
-    is-good-requires
+    (λ c κs. tt)
     returns
-    add-i
+    (λ c. omega arith)
     loop-less
     loop-again
     returns-2)

@@ -8,12 +8,6 @@ use Rattle.apart.proofs.Checking.{as-lt, not-finite, below, above, fall
 use Rattle.apart.proofs.checks.is_good.Statement.{statement}
 use Rattle.apart.proofs.checks.is_good.Tie as tie
 
-item-requires : tie.Need-item-requires
-item-requires c κs = search needs
-
-is-finite-requires : tie.Need-is-finite-requires
-is-finite-requires c κs = search needs
-
 returns : tie.Need-returns
 returns c = not-finite _ _ _ _ (failed (c .if1 .taken) (c .before .is-finite .ensures ∙ ap finite (c .before .before .item .ensures)))
 
@@ -29,12 +23,6 @@ returns-3 c =
     let one = two .before in
     above _ _ _ _ (passed (one .if1 .left) (one .before .is-finite .ensures ∙ ap finite (one .before .before .item .ensures)))
     (as-lt (one .before .before .item .ensures) refl (two .if2 .left)) (as-lt refl (one .before .before .item .ensures) (c .if3 .taken))
-
-less-requires : tie.Need-less-requires
-less-requires c κs = search needs
-
-item-requires-2 : tie.Need-item-requires-2
-item-requires-2 c κs = search needs
 
 returns-4 : tie.Need-returns-4
 returns-4 c =
@@ -58,12 +46,12 @@ pub is-good-spec : {M : Type 1} → statement M
 is-good-spec =
     tie.close
     (tie.spec
-    item-requires
-    is-finite-requires
+    (λ c κs. search needs)
+    (λ c κs. search needs)
     returns
     returns-2
     returns-3
-    less-requires
-    item-requires-2
+    (λ c κs. search needs)
+    (λ c κs. search needs)
     returns-4
     returns-5)

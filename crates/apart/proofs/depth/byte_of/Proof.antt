@@ -5,28 +5,16 @@ use Rattle.apart.proofs.Counting.{bit-most}
 use Rattle.apart.proofs.depth.byte_of.Statement.{statement}
 use Rattle.apart.proofs.depth.byte_of.Tie as tie
 
-bit-requires : tie.Need-bit-requires
-bit-requires c κs = search needs
-
-bit-requires-2 : tie.Need-bit-requires-2
-bit-requires-2 c κs = search needs
-
 add-result : tie.Need-add-result
 add-result c =
     let fault = c .before .before .args .fault in
     omega (arith, bit-most 1 (fault .moved) (c .before .bit .ensures), bit-most 2 (fault .close) (c .bit2 .ensures))
-
-bit-requires-3 : tie.Need-bit-requires-3
-bit-requires-3 c κs = search needs
 
 add-result-2 : tie.Need-add-result-2
 add-result-2 c =
     let fault = c .before .before .before .args .fault in
     omega (arith, bit-most 1 (fault .moved) (c .before .before .bit .ensures), bit-most 2 (fault .close) (c .before .bit2 .ensures), bit-most 4 (fault .merged) (c .bit3 .ensures))
 
-returns : tie.Need-returns
-returns c = search needs
-
 pub byte-of-spec : {M : Type 1} → statement M
 byte-of-spec =
-    tie.close (tie.spec bit-requires bit-requires-2 add-result bit-requires-3 add-result-2 returns)
+    tie.close (tie.spec (λ c κs. search needs) (λ c κs. search needs) add-result (λ c κs. search needs) add-result-2 (λ c. search needs))

@@ -10,12 +10,9 @@ returns c = was-first _ _ _ (c .if1 .taken)
 returns-2 : tie.Need-returns-2
 returns-2 c = is-first _ _ _ (c .before .if1 .left) (c .if2 .taken)
 
-add-result : tie.Need-add-result
-add-result c = search needs
-
 returns-3 : tie.Need-returns-3
 returns-3 c = not-first _ _ _ (c .before .if1 .left) (c .if2 .left)
 
 pub first-with-spec : {M : Type 1} → statement M
 first-with-spec =
-    tie.close (tie.spec returns returns-2 add-result returns-3)
+    tie.close (tie.spec returns returns-2 (λ c. search needs) returns-3)

@@ -4,12 +4,9 @@ use Rattle.apart.proofs.Telling.{near-is}
 use Rattle.apart.proofs.depth.is_near.Statement.{statement}
 use Rattle.apart.proofs.depth.is_near.Tie as tie
 
-distance-requires : tie.Need-distance-requires
-distance-requires c κs = search needs
-
 returns : tie.Need-returns
 returns c = near-is _ _ _ (c .distance .ensures)
 
 pub is-near-spec : {M : Type 1} → statement M
 is-near-spec =
-    tie.close (tie.spec distance-requires returns)
+    tie.close (tie.spec (λ c κs. search needs) returns)

@@ -4,9 +4,6 @@ use Rattle.apart.proofs.Counting.{one-more, no-more}
 use Rattle.apart.proofs.depth.more.Statement.{statement}
 use Rattle.apart.proofs.depth.more.Tie as tie
 
-add-result : tie.Need-add-result
-add-result c = search needs
-
 returns : tie.Need-returns
 returns c = one-more _ (c .if1 .taken)
 
@@ -15,4 +12,4 @@ returns-2 c = no-more _ (c .if1 .left)
 
 pub more-spec : {M : Type 1} → statement M
 more-spec =
-    tie.close (tie.spec add-result returns returns-2)
+    tie.close (tie.spec (λ c. search needs) returns returns-2)

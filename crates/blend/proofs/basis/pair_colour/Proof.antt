@@ -7,15 +7,9 @@ use borrow.Author.Needs.{needs}
 use Rattle.blend.proofs.basis.pair_colour.Statement.{statement}
 use Rattle.blend.proofs.basis.pair_colour.Tie as tie
 
-share-requires : tie.Need-share-requires
-share-requires c κs = search needs
-
-spline-requires : tie.Need-spline-requires
-spline-requires c κs = search needs
-
 returns : tie.Need-returns
 unfolding basisPair
 returns c = let s = c .before .before in c .spline .ensures ∙ ap (λ (x : Float). basis x (s .args .left) (s .args .p .colour) (s .args .q .colour) (s .args .right)) (c .before .share .ensures)
 
 pub pair-colour-spec : {M : Type 1} → statement M
-pair-colour-spec = tie.close (tie.spec share-requires spline-requires returns)
+pair-colour-spec = tie.close (tie.spec (λ c κs. search needs) (λ c κs. search needs) returns)

@@ -8,21 +8,6 @@ use borrow.Author.Needs.{needs}
 use Rattle.blend.proofs.basis.spline.Statement.{statement}
 use Rattle.blend.proofs.basis.spline.Tie as tie
 
-weights-at-requires : tie.Need-weights-at-requires
-weights-at-requires c κs = search needs
-
-weigh-requires : tie.Need-weigh-requires
-weigh-requires c κs = search needs
-
-weigh-requires-2 : tie.Need-weigh-requires-2
-weigh-requires-2 c κs = search needs
-
-weigh-requires-3 : tie.Need-weigh-requires-3
-weigh-requires-3 c κs = search needs
-
-weigh-requires-4 : tie.Need-weigh-requires-4
-weigh-requires-4 c κs = search needs
-
 returns : tie.Need-returns
 unfolding basis
 returns c =
@@ -34,9 +19,9 @@ pub spline-spec : {M : Type 1} → statement M
 spline-spec =
     tie.close
     (tie.spec
-    weights-at-requires
-    weigh-requires
-    weigh-requires-2
-    weigh-requires-3
-    weigh-requires-4
+    (λ c κs. search needs)
+    (λ c κs. search needs)
+    (λ c κs. search needs)
+    (λ c κs. search needs)
+    (λ c κs. search needs)
     returns)

@@ -6,15 +6,9 @@ use borrow.Author.Needs.{needs}
 use Rattle.blend.proofs.catmull_rom.chord_of.Statement.{statement}
 use Rattle.blend.proofs.catmull_rom.chord_of.Tie as tie
 
-magnitude-requires : tie.Need-magnitude-requires
-magnitude-requires c κs = search needs
-
-root-requires : tie.Need-root-requires
-root-requires c κs = search needs
-
 returns : tie.Need-returns
 unfolding chord
 returns c = c .root .ensures ∙ ap rootOf (c .before .magnitude .ensures)
 
 pub chord-of-spec : {M : Type 1} → statement M
-chord-of-spec = tie.close (tie.spec magnitude-requires root-requires returns)
+chord-of-spec = tie.close (tie.spec (λ c κs. search needs) (λ c κs. search needs) returns)

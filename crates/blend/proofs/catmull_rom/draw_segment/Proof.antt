@@ -5,18 +5,6 @@ use borrow.Author.Needs.{needs}
 use Rattle.blend.proofs.catmull_rom.draw_segment.Statement.{statement}
 use Rattle.blend.proofs.catmull_rom.draw_segment.Tie as tie
 
-coefficients-requires : tie.Need-coefficients-requires
-coefficients-requires c κs = search needs
-
-coefficients-requires-2 : tie.Need-coefficients-requires-2
-coefficients-requires-2 c κs = search needs
-
-coefficients-requires-3 : tie.Need-coefficients-requires-3
-coefficients-requires-3 c κs = search needs
-
-coefficients-requires-4 : tie.Need-coefficients-requires-4
-coefficients-requires-4 c κs = search needs
-
 returns : tie.Need-returns
 unfolding segmentDrawn
 returns c = same-four (c .before .before .before .coefficients .ensures) (c .before .before .coefficients2 .ensures) (c .before .coefficients3 .ensures) (c .coefficients4 .ensures)
@@ -25,8 +13,8 @@ pub draw-segment-spec : {M : Type 1} → statement M
 draw-segment-spec =
     tie.close
     (tie.spec
-    coefficients-requires
-    coefficients-requires-2
-    coefficients-requires-3
-    coefficients-requires-4
+    (λ c κs. search needs)
+    (λ c κs. search needs)
+    (λ c κs. search needs)
+    (λ c κs. search needs)
     returns)

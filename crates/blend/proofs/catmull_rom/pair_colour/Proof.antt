@@ -9,15 +9,6 @@ use borrow.Author.Needs.{needs}
 use Rattle.blend.proofs.catmull_rom.pair_colour.Statement.{statement}
 use Rattle.blend.proofs.catmull_rom.pair_colour.Tie as tie
 
-segment-requires : tie.Need-segment-requires
-segment-requires c κs = search needs
-
-share-requires : tie.Need-share-requires
-share-requires c κs = search needs
-
-segment-at-requires : tie.Need-segment-at-requires
-segment-at-requires c κs = search needs
-
 returns : tie.Need-returns
 unfolding catmullPair
 returns c =
@@ -27,4 +18,4 @@ returns c =
     ∙ ap (λ (g : List (List Float)). segmentAt g (shareOf (s .args .p) (s .args .q) (s .args .t))) (c .before .before .segment .ensures)
 
 pub pair-colour-spec : {M : Type 1} → statement M
-pair-colour-spec = tie.close (tie.spec segment-requires share-requires segment-at-requires returns)
+pair-colour-spec = tie.close (tie.spec (λ c κs. search needs) (λ c κs. search needs) (λ c κs. search needs) returns)

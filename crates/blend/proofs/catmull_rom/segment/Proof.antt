@@ -5,18 +5,6 @@ use borrow.Author.Needs.{needs}
 use Rattle.blend.proofs.catmull_rom.segment.Statement.{statement}
 use Rattle.blend.proofs.catmull_rom.segment.Tie as tie
 
-chords-requires : tie.Need-chords-requires
-chords-requires c κs = search needs
-
-chords-requires-2 : tie.Need-chords-requires-2
-chords-requires-2 c κs = search needs
-
-chords-requires-3 : tie.Need-chords-requires-3
-chords-requires-3 c κs = search needs
-
-draw-segment-requires : tie.Need-draw-segment-requires
-draw-segment-requires c κs = search needs
-
 returns : tie.Need-returns
 returns c =
     c .draw-segment .ensures
@@ -24,4 +12,4 @@ returns c =
 
 pub segment-spec : {M : Type 1} → statement M
 segment-spec =
-    tie.close (tie.spec chords-requires chords-requires-2 chords-requires-3 draw-segment-requires returns)
+    tie.close (tie.spec (λ c κs. search needs) (λ c κs. search needs) (λ c κs. search needs) (λ c κs. search needs) returns)

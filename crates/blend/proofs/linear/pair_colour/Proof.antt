@@ -7,15 +7,9 @@ use borrow.Author.Needs.{needs}
 use Rattle.blend.proofs.linear.pair_colour.Statement.{statement}
 use Rattle.blend.proofs.linear.pair_colour.Tie as tie
 
-share-requires : tie.Need-share-requires
-share-requires c κs = search needs
-
-interpolate-linear-requires : tie.Need-interpolate-linear-requires
-interpolate-linear-requires c κs = search needs
-
 returns : tie.Need-returns
 unfolding linearPair
 returns c = let s = c .before .before in c .interpolate-linear .ensures ∙ ap (λ (x : Float). linear (s .args .p .colour) (s .args .q .colour) x) (c .before .share .ensures)
 
 pub pair-colour-spec : {M : Type 1} → statement M
-pair-colour-spec = tie.close (tie.spec share-requires interpolate-linear-requires returns)
+pair-colour-spec = tie.close (tie.spec (λ c κs. search needs) (λ c κs. search needs) returns)

@@ -7,15 +7,9 @@ use borrow.Author.Needs.{needs}
 use Rattle.blend.proofs.smoothstep.pair_colour.Statement.{statement}
 use Rattle.blend.proofs.smoothstep.pair_colour.Tie as tie
 
-share-requires : tie.Need-share-requires
-share-requires c κs = search needs
-
-interpolate-smoothstep-requires : tie.Need-interpolate-smoothstep-requires
-interpolate-smoothstep-requires c κs = search needs
-
 returns : tie.Need-returns
 unfolding smoothPair
 returns c = let s = c .before .before in c .interpolate-smoothstep .ensures ∙ ap (λ (x : Float). smooth (s .args .p .colour) (s .args .q .colour) x) (c .before .share .ensures)
 
 pub pair-colour-spec : {M : Type 1} → statement M
-pair-colour-spec = tie.close (tie.spec share-requires interpolate-smoothstep-requires returns)
+pair-colour-spec = tie.close (tie.spec (λ c κs. search needs) (λ c κs. search needs) returns)

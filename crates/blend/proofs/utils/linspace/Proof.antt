@@ -9,15 +9,9 @@ returns : tie.Need-returns
 unfolding linspaceAt
 returns c = simp (eq-eqb (c .before .args .n) 1 (c .if1 .taken))
 
-int-to-float-result : tie.Need-int-to-float-result
-int-to-float-result c = search needs
-
-int-to-float-result-2 : tie.Need-int-to-float-result-2
-int-to-float-result-2 c = search needs
-
 returns-2 : tie.Need-returns-2
 unfolding linspaceAt
 returns-2 c = simp (ne-eqb (c .before .before .before .args .n) 1 (c .before .before .if1 .left))
 
 pub linspace-spec : {M : Type 1} → statement M
-linspace-spec = tie.close (tie.spec returns int-to-float-result int-to-float-result-2 returns-2)
+linspace-spec = tie.close (tie.spec returns (λ c. search needs) (λ c. search needs) returns-2)

@@ -8,18 +8,6 @@ use borrow.Author.Needs.{needs}
 use Rattle.colorgrad_c.proofs.about.colorgrad_verdict_message_told.Statement.{statement}
 use Rattle.colorgrad_c.proofs.about.colorgrad_verdict_message_told.Tie as tie
 
-text-number-requires : tie.Need-text-number-requires
-text-number-requires c κs = search needs
-
-slice-aggregate-write-line : tie.Need-slice-aggregate-write-line
-slice-aggregate-write-line c = search needs
-
-write-line-requires : tie.Need-write-line-requires
-write-line-requires c κs = search needs
-
-same-length : tie.Need-same-length
-same-length c = search needs
-
 returns : tie.Need-returns
 unfolding verdictMessageOf bytesIn joinedTexts allShow every
 returns c =
@@ -30,8 +18,8 @@ pub colorgrad-verdict-message-told-spec : {M : Type 1} → statement M
 colorgrad-verdict-message-told-spec =
     tie.close
     (tie.spec
-    text-number-requires
-    slice-aggregate-write-line
-    write-line-requires
-    same-length
+    (λ c κs. search needs)
+    (λ c. search needs)
+    (λ c κs. search needs)
+    (λ c. search needs)
     returns)

@@ -14,20 +14,8 @@ abbrev μ-loop : tie.MeasureT-loop
 loop-holds : tie.Need-loop-holds Inv-loop μ-loop
 loop-holds c = passed-none _ _
 
-line-at-requires : tie.Need-line-at-requires Inv-loop μ-loop
-line-at-requires c κs = search needs
-
-add-i : tie.Need-add-i Inv-loop μ-loop
-add-i c = search needs
-
-loop-less : tie.Need-loop-less Inv-loop μ-loop
-loop-less c = search needs
-
 loop-again : tie.Need-loop-again Inv-loop μ-loop
 loop-again c = passed-more (c .before .before .loop .inv) (c .before .loop-test .taken) (c .line-at .ensures)
-
-line-at-requires-2 : tie.Need-line-at-requires-2 Inv-loop μ-loop
-line-at-requires-2 c κs = search needs
 
 sub-result : tie.Need-sub-result Inv-loop μ-loop
 sub-result c = c .line-at2 .ensures .order
@@ -48,11 +36,11 @@ line-spec =
     Inv-loop
     μ-loop
     loop-holds
-    line-at-requires
-    add-i
-    loop-less
+    (λ c κs. search needs)
+    (λ c. search needs)
+    (λ c. search needs)
     loop-again
-    line-at-requires-2
+    (λ c κs. search needs)
     sub-result
     part-result-start
     part-result-end

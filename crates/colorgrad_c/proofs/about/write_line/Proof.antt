@@ -4,17 +4,8 @@ use borrow.Author.Needs.{needs}
 use Rattle.colorgrad_c.proofs.about.write_line.Statement.{statement}
 use Rattle.colorgrad_c.proofs.about.write_line.Tie as tie
 
-line-requires : tie.Need-line-requires
-line-requires c κs = search needs
-
-write-name-requires : tie.Need-write-name-requires
-write-name-requires c κs = search needs
-
-same-length : tie.Need-same-length
-same-length c = search needs
-
 returns : tie.Need-returns
 returns c = written-same _ (c .before .before .write-name .ensures) (c .before .before .before .before .line .ensures)
 
 pub write-line-spec : {M : Type 1} → statement M
-write-line-spec = tie.close (tie.spec line-requires write-name-requires same-length returns)
+write-line-spec = tie.close (tie.spec (λ c κs. search needs) (λ c κs. search needs) (λ c. search needs) returns)

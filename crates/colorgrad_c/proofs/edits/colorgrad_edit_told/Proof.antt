@@ -2,7 +2,7 @@
 use mathlib.Core.Path.{refl}
 use Rattle.refusals.specs.Refusals.{misshapen}
 use Rattle.refresh.specs.declared.Refreshed.the-variants as refreshed
-use Rattle.plain.proofs.Coding.{of-a-kind, of-no-kind, paired}
+use Rattle.colorgrad_c.proofs.plain.Coding.{of-a-kind, of-no-kind, paired}
 use Rattle.colorgrad_c.proofs.Sorted.{refreshes-by}
 use borrow.Author.Needs.{needs}
 use Rattle.colorgrad_c.proofs.edits.colorgrad_edit_told.Statement.{statement}

@@ -2,7 +2,7 @@
 use mathlib.Core.List.{[], _∷_}
 use Rattle.ggr.specs.File.{numberOfAnswer, lineOfAnswer, segmentsOfAnswer}
 use Rattle.ggr.specs.declared.Answer.{Answer}
-use Rattle.plain.proofs.Stored.{told-case}
+use Rattle.colorgrad_c.proofs.plain.Stored.{told-case}
 use borrow.Author.Needs.{needs}
 use Rattle.colorgrad_c.proofs.gimp.tell_read.Statement.{statement}
 use Rattle.colorgrad_c.proofs.gimp.tell_read.Tie as tie

@@ -2,45 +2,15 @@
 use mathlib.Core.Path.{refl}
 use Rattle.refusals.specs.Refusals.{misshapen}
 use Rattle.judge.specs.declared.Verdict.the-variants as verdict
-use Rattle.plain.proofs.Coding.{of-a-kind, of-no-kind, paired-both}
+use Rattle.colorgrad_c.proofs.plain.Coding.{of-a-kind, of-no-kind, paired-both}
 use borrow.Author.Needs.{needs}
 use Rattle.colorgrad_c.proofs.judging.colorgrad_judge_told.Statement.{statement}
 use Rattle.colorgrad_c.proofs.judging.colorgrad_judge_told.Tie as tie
-
-kind-of-requires : tie.Need-kind-of-requires
-kind-of-requires c κs = search needs
-
-enum-known-known : tie.Need-enum-known-known
-enum-known-known c = search needs
-
-enum-told : tie.Need-enum-told
-enum-told c = search needs
-
-tell-verdict-requires : tie.Need-tell-verdict-requires
-tell-verdict-requires c κs = search needs
-
-same-length : tie.Need-same-length
-same-length c = search needs
-
-same-length-2 : tie.Need-same-length-2
-same-length-2 c = search needs
 
 returns : tie.Need-returns
 returns c =
     let told = c .before .before .before .before in let kind = told .before .before .before in
     of-no-kind (verdict.Refused misshapen) (kind .before .before .kind-of .ensures) (kind .enum-told .given .1) refl (paired-both (told .tell-verdict .ensures))
-
-judge-requires : tie.Need-judge-requires
-judge-requires c κs = search needs
-
-tell-verdict-requires-2 : tie.Need-tell-verdict-requires-2
-tell-verdict-requires-2 c κs = search needs
-
-same-length-3 : tie.Need-same-length-3
-same-length-3 c = search needs
-
-same-length-4 : tie.Need-same-length-4
-same-length-4 c = search needs
 
 returns-2 : tie.Need-returns-2
 returns-2 c =
@@ -51,15 +21,15 @@ pub colorgrad-judge-told-spec : {M : Type 1} → statement M
 colorgrad-judge-told-spec =
     tie.close
     (tie.spec
-    kind-of-requires
-    enum-known-known
-    enum-told
-    tell-verdict-requires
-    same-length
-    same-length-2
+    (λ c κs. search needs)
+    (λ c. search needs)
+    (λ c. search needs)
+    (λ c κs. search needs)
+    (λ c. search needs)
+    (λ c. search needs)
     returns
-    judge-requires
-    tell-verdict-requires-2
-    same-length-3
-    same-length-4
+    (λ c κs. search needs)
+    (λ c κs. search needs)
+    (λ c. search needs)
+    (λ c. search needs)
     returns-2)

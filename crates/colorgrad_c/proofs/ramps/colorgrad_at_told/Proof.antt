@@ -2,39 +2,15 @@
 use mathlib.Core.Path.{refl}
 use Rattle.refusals.specs.Refusals.{misshapen}
 use Rattle.paint.specs.declared.ColourAnswer.the-variants as answer
-use Rattle.plain.proofs.Coding.{of-a-kind, of-no-kind, paired}
+use Rattle.colorgrad_c.proofs.plain.Coding.{of-a-kind, of-no-kind, paired}
 use borrow.Author.Needs.{needs}
 use Rattle.colorgrad_c.proofs.ramps.colorgrad_at_told.Statement.{statement}
 use Rattle.colorgrad_c.proofs.ramps.colorgrad_at_told.Tie as tie
-
-kind-of-requires : tie.Need-kind-of-requires
-kind-of-requires c κs = search needs
-
-enum-known-known : tie.Need-enum-known-known
-enum-known-known c = search needs
-
-enum-told : tie.Need-enum-told
-enum-told c = search needs
-
-tell-colour-requires : tie.Need-tell-colour-requires
-tell-colour-requires c κs = search needs
-
-same-length : tie.Need-same-length
-same-length c = search needs
 
 returns : tie.Need-returns
 returns c =
     let told = c .before .before in let kind = told .before .before in
     of-no-kind (answer.Refused misshapen) (kind .before .before .kind-of .ensures) (kind .enum-told .given .1) refl (paired (told .tell-colour .ensures))
-
-at-requires : tie.Need-at-requires
-at-requires c κs = search needs
-
-tell-colour-requires-2 : tie.Need-tell-colour-requires-2
-tell-colour-requires-2 c κs = search needs
-
-same-length-2 : tie.Need-same-length-2
-same-length-2 c = search needs
 
 returns-2 : tie.Need-returns-2
 returns-2 c =
@@ -45,13 +21,13 @@ pub colorgrad-at-told-spec : {M : Type 1} → statement M
 colorgrad-at-told-spec =
     tie.close
     (tie.spec
-    kind-of-requires
-    enum-known-known
-    enum-told
-    tell-colour-requires
-    same-length
+    (λ c κs. search needs)
+    (λ c. search needs)
+    (λ c. search needs)
+    (λ c κs. search needs)
+    (λ c. search needs)
     returns
-    at-requires
-    tell-colour-requires-2
-    same-length-2
+    (λ c κs. search needs)
+    (λ c κs. search needs)
+    (λ c. search needs)
     returns-2)

@@ -2,31 +2,13 @@
 use mathlib.Core.Path.{refl}
 use Rattle.refusals.specs.Refusals.{misshapen}
 use Rattle.stops.specs.declared.Checked.the-variants as checked
-use Rattle.plain.proofs.Coding.{of-a-kind, of-no-kind}
+use Rattle.colorgrad_c.proofs.plain.Coding.{of-a-kind, of-no-kind}
 use borrow.Author.Needs.{needs}
 use Rattle.colorgrad_c.proofs.ramps.colorgrad_check.Statement.{statement}
 use Rattle.colorgrad_c.proofs.ramps.colorgrad_check.Tie as tie
 
-kind-of-requires : tie.Need-kind-of-requires
-kind-of-requires c κs = search needs
-
-enum-known-known : tie.Need-enum-known-known
-enum-known-known c = search needs
-
-enum-told : tie.Need-enum-told
-enum-told c = search needs
-
-cast-result : tie.Need-cast-result
-cast-result c = search needs
-
 returns : tie.Need-returns
 returns c = of-no-kind (checked.Refused misshapen) (c .before .before .kind-of .ensures) (c .enum-told .given .1) refl refl
-
-check-requires : tie.Need-check-requires
-check-requires c κs = search needs
-
-checked-number-requires : tie.Need-checked-number-requires
-checked-number-requires c κs = search needs
 
 returns-2 : tie.Need-returns-2
 returns-2 c = of-a-kind _ (c .before .before .before .before .before .kind-of .ensures) (c .before .before .before .known .given .1) (c .before .check .ensures) (c .checked-number .ensures)
@@ -35,11 +17,11 @@ pub colorgrad-check-spec : {M : Type 1} → statement M
 colorgrad-check-spec =
     tie.close
     (tie.spec
-    kind-of-requires
-    enum-known-known
-    enum-told
-    cast-result
+    (λ c κs. search needs)
+    (λ c. search needs)
+    (λ c. search needs)
+    (λ c. search needs)
     returns
-    check-requires
-    checked-number-requires
+    (λ c κs. search needs)
+    (λ c κs. search needs)
     returns-2)

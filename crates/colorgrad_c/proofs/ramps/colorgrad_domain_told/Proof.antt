@@ -4,7 +4,7 @@ use Rattle.refusals.specs.Refusals.{misshapen}
 use Rattle.float.specs.F32.{f0}
 use Rattle.stops.specs.declared.Checked.the-variants as checked
 use Rattle.colorgrad_c.specs.Ramps.{domainBy}
-use Rattle.plain.proofs.Coding.{of-a-kind, of-no-kind, paired}
+use Rattle.colorgrad_c.proofs.plain.Coding.{of-a-kind, of-no-kind, paired}
 use Rattle.colorgrad_c.proofs.Ends.{domain-is}
 use borrow.Author.Needs.{needs}
 use Rattle.colorgrad_c.proofs.ramps.colorgrad_domain_told.Statement.{statement}

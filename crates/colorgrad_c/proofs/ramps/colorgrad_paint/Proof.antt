@@ -2,34 +2,13 @@
 use mathlib.Core.Path.{refl}
 use Rattle.refusals.specs.Refusals.{misshapen}
 use Rattle.paint.specs.declared.Painted.the-variants as painted
-use Rattle.plain.proofs.Coding.{of-a-kind, of-no-kind}
+use Rattle.colorgrad_c.proofs.plain.Coding.{of-a-kind, of-no-kind}
 use borrow.Author.Needs.{needs}
 use Rattle.colorgrad_c.proofs.ramps.colorgrad_paint.Statement.{statement}
 use Rattle.colorgrad_c.proofs.ramps.colorgrad_paint.Tie as tie
 
-kind-of-requires : tie.Need-kind-of-requires
-kind-of-requires c κs = search needs
-
-enum-known-known : tie.Need-enum-known-known
-enum-known-known c = search needs
-
-enum-told : tie.Need-enum-told
-enum-told c = search needs
-
-cast-result : tie.Need-cast-result
-cast-result c = search needs
-
 returns : tie.Need-returns
 returns c = of-no-kind (painted.Refused misshapen) (c .before .before .kind-of .ensures) (c .enum-told .given .1) (refl, refl) refl
-
-paint-requires : tie.Need-paint-requires
-paint-requires c κs = search needs
-
-painted-number-requires : tie.Need-painted-number-requires
-painted-number-requires c κs = search needs
-
-same-length : tie.Need-same-length
-same-length c = search needs
 
 returns-2 : tie.Need-returns-2
 returns-2 c = of-a-kind _ (c .before .before .before .before .before .before .before .before .kind-of .ensures) (c .before .before .before .before .before .before .known .given .1) (c .before .before .before .paint .ensures) (c .painted-number .ensures)
@@ -38,12 +17,12 @@ pub colorgrad-paint-spec : {M : Type 1} → statement M
 colorgrad-paint-spec =
     tie.close
     (tie.spec
-    kind-of-requires
-    enum-known-known
-    enum-told
-    cast-result
+    (λ c κs. search needs)
+    (λ c. search needs)
+    (λ c. search needs)
+    (λ c. search needs)
     returns
-    paint-requires
-    painted-number-requires
-    same-length
+    (λ c κs. search needs)
+    (λ c κs. search needs)
+    (λ c. search needs)
     returns-2)

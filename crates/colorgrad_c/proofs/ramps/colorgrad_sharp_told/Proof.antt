@@ -1,23 +1,8 @@
 -- `colorgrad_sharp_told` meets its contract: the answer of `build`, told, and what that answer leaves. Assumes nothing.
-use Rattle.plain.proofs.Coding.{paired}
+use Rattle.colorgrad_c.proofs.plain.Coding.{paired}
 use borrow.Author.Needs.{needs}
 use Rattle.colorgrad_c.proofs.ramps.colorgrad_sharp_told.Statement.{statement}
 use Rattle.colorgrad_c.proofs.ramps.colorgrad_sharp_told.Tie as tie
-
-build-requires : tie.Need-build-requires
-build-requires c κs = search needs
-
-tell-built-requires : tie.Need-tell-built-requires
-tell-built-requires c κs = search needs
-
-same-length : tie.Need-same-length
-same-length c = search needs
-
-same-length-2 : tie.Need-same-length-2
-same-length-2 c = search needs
-
-same-length-3 : tie.Need-same-length-3
-same-length-3 c = search needs
 
 returns : tie.Need-returns
 returns c =
@@ -27,4 +12,4 @@ returns c =
 pub colorgrad-sharp-told-spec : {M : Type 1} → statement M
 colorgrad-sharp-told-spec =
     tie.close
-    (tie.spec build-requires tell-built-requires same-length same-length-2 same-length-3 returns)
+    (tie.spec (λ c κs. search needs) (λ c κs. search needs) (λ c. search needs) (λ c. search needs) (λ c. search needs) returns)

@@ -8,20 +8,11 @@ use borrow.Author.Needs.{needs}
 use Rattle.colorgrad_c.proofs.writer.colorgrad_numeral.Statement.{statement}
 use Rattle.colorgrad_c.proofs.writer.colorgrad_numeral.Tie as tie
 
-write-requires : tie.Need-write-requires
-write-requires c κs = search needs
-
 array-share-prefix-bytes : tie.Need-array-share-prefix-bytes
 array-share-prefix-bytes c = field-within (c .before .before .before .args .x) (c .before .write .ensures)
 
 slice-aggregate-write-name : tie.Need-slice-aggregate-write-name
 slice-aggregate-write-name c = sym (field-size (c .before .before .before .before .args .x) (c .before .before .write .ensures))
-
-write-name-requires : tie.Need-write-name-requires
-write-name-requires c κs = search needs
-
-same-length : tie.Need-same-length
-same-length c = search needs
 
 returns : tie.Need-returns
 returns c =
@@ -32,9 +23,9 @@ pub colorgrad-numeral-spec : {M : Type 1} → statement M
 colorgrad-numeral-spec =
     tie.close
     (tie.spec
-    write-requires
+    (λ c κs. search needs)
     array-share-prefix-bytes
     slice-aggregate-write-name
-    write-name-requires
-    same-length
+    (λ c κs. search needs)
+    (λ c. search needs)
     returns)

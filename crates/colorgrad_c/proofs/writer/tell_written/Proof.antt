@@ -2,42 +2,15 @@
 use mathlib.Core.List.{[], _∷_}
 use Rattle.ggr_writing.specs.File.{numberOfWriteAnswer, bytesOfWriteAnswer}
 use Rattle.ggr_writing.specs.declared.WriteAnswer.{WriteAnswer}
-use Rattle.plain.proofs.Stored.{told-case}
+use Rattle.colorgrad_c.proofs.plain.Stored.{told-case}
 use borrow.Author.Needs.{needs}
 use Rattle.colorgrad_c.proofs.writer.tell_written.Statement.{statement}
 use Rattle.colorgrad_c.proofs.writer.tell_written.Tie as tie
-
-enum-known-answer : tie.Need-enum-known-answer
-enum-known-answer c = search needs
-
-slice-aggregate-tell-numbers : tie.Need-slice-aggregate-tell-numbers
-slice-aggregate-tell-numbers c = search needs
-
-tell-numbers-requires : tie.Need-tell-numbers-requires
-tell-numbers-requires c κs = search needs
-
-enum-known-answer-2 : tie.Need-enum-known-answer-2
-enum-known-answer-2 c = search needs
-
-slice-aggregate-tell-numbers-2 : tie.Need-slice-aggregate-tell-numbers-2
-slice-aggregate-tell-numbers-2 c = search needs
-
-tell-numbers-requires-2 : tie.Need-tell-numbers-requires-2
-tell-numbers-requires-2 c κs = search needs
-
-cast-result : tie.Need-cast-result
-cast-result c = search needs
-
-same-length : tie.Need-same-length
-same-length c = search needs
 
 returns : tie.Need-returns
 returns c =
     let told = c .before .before in let case = told .before .before .before .before in
     told-case _ numberOfWriteAnswer (λ (x : WriteAnswer). bytesOfWriteAnswer x ∷ []) (case .answer .given .1) (told .tell-numbers .ensures)
-
-same-length-2 : tie.Need-same-length-2
-same-length-2 c = search needs
 
 returns-2 : tie.Need-returns-2
 returns-2 c =
@@ -48,14 +21,14 @@ pub tell-written-spec : {M : Type 1} → statement M
 tell-written-spec =
     tie.close
     (tie.spec
-    enum-known-answer
-    slice-aggregate-tell-numbers
-    tell-numbers-requires
-    enum-known-answer-2
-    slice-aggregate-tell-numbers-2
-    tell-numbers-requires-2
-    cast-result
-    same-length
+    (λ c. search needs)
+    (λ c. search needs)
+    (λ c κs. search needs)
+    (λ c. search needs)
+    (λ c. search needs)
+    (λ c κs. search needs)
+    (λ c. search needs)
+    (λ c. search needs)
     returns
-    same-length-2
+    (λ c. search needs)
     returns-2)

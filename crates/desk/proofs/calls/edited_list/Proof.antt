@@ -6,45 +6,6 @@ use Rattle.desk.proofs.Making.{says-listed, sample-no, sample-few, reli
 use Rattle.desk.proofs.calls.edited_list.Statement.{statement}
 use Rattle.desk.proofs.calls.edited_list.Tie as tie
 
-slice-aggregate-sample : tie.Need-slice-aggregate-sample
-slice-aggregate-sample c = search needs
-
-slice-aggregate-sample-2 : tie.Need-slice-aggregate-sample-2
-slice-aggregate-sample-2 c = search needs
-
-slice-aggregate-sample-3 : tie.Need-slice-aggregate-sample-3
-slice-aggregate-sample-3 c = search needs
-
-slice-aggregate-sample-4 : tie.Need-slice-aggregate-sample-4
-slice-aggregate-sample-4 c = search needs
-
-sample-requires : tie.Need-sample-requires
-sample-requires c κs = search needs
-
-enum-known-number : tie.Need-enum-known-number
-enum-known-number c = search needs
-
-enum-known-n : tie.Need-enum-known-n
-enum-known-n c = search needs
-
-slice-aggregate-refresh-list : tie.Need-slice-aggregate-refresh-list
-slice-aggregate-refresh-list c = search needs
-
-slice-aggregate-refresh-list-2 : tie.Need-slice-aggregate-refresh-list-2
-slice-aggregate-refresh-list-2 c = search needs
-
-slice-aggregate-refresh-list-3 : tie.Need-slice-aggregate-refresh-list-3
-slice-aggregate-refresh-list-3 c = search needs
-
-slice-aggregate-refresh-list-4 : tie.Need-slice-aggregate-refresh-list-4
-slice-aggregate-refresh-list-4 c = search needs
-
-refresh-list-requires : tie.Need-refresh-list-requires
-refresh-list-requires c κs = search needs
-
-after-requires : tie.Need-after-requires
-after-requires c κs = search needs
-
 reply-of-requires : tie.Need-reply-of-requires
 reply-of-requires c κs =
     let b = c in
@@ -63,12 +24,6 @@ returns c =
     let z = w .before .before .before .before .before .before .before .before .before in
     sample-no (z .args .edit) (w .sample .ensures) (i .number .given .1)
 
-same-length : tie.Need-same-length
-same-length c = search needs
-
-same-length-2 : tie.Need-same-length-2
-same-length-2 c = search needs
-
 returns-2 : tie.Need-returns-2
 returns-2 c =
     let b = c .before in
@@ -84,21 +39,21 @@ pub edited-list-spec : {M : Type 1} → statement M
 edited-list-spec =
     tie.close
     (tie.spec
-    slice-aggregate-sample
-    slice-aggregate-sample-2
-    slice-aggregate-sample-3
-    slice-aggregate-sample-4
-    sample-requires
-    enum-known-number
-    enum-known-n
-    slice-aggregate-refresh-list
-    slice-aggregate-refresh-list-2
-    slice-aggregate-refresh-list-3
-    slice-aggregate-refresh-list-4
-    refresh-list-requires
-    after-requires
+    (λ c. search needs)
+    (λ c. search needs)
+    (λ c. search needs)
+    (λ c. search needs)
+    (λ c κs. search needs)
+    (λ c. search needs)
+    (λ c. search needs)
+    (λ c. search needs)
+    (λ c. search needs)
+    (λ c. search needs)
+    (λ c. search needs)
+    (λ c κs. search needs)
+    (λ c κs. search needs)
     reply-of-requires
     returns
-    same-length
-    same-length-2
+    (λ c. search needs)
+    (λ c. search needs)
     returns-2)

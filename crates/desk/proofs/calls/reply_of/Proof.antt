@@ -5,12 +5,6 @@ use Rattle.desk.proofs.Making.{done-fits, done-reply, refused-reply}
 use Rattle.desk.proofs.calls.reply_of.Statement.{statement}
 use Rattle.desk.proofs.calls.reply_of.Tie as tie
 
-enum-known-made : tie.Need-enum-known-made
-enum-known-made c = search needs
-
-enum-known-made-2 : tie.Need-enum-known-made-2
-enum-known-made-2 c = search needs
-
 cast-t6 : tie.Need-cast-t6
 cast-t6 c = let i = c .before in let z = i .before .before in
     record { fits = omega (arith, done-fits (i .made2 .given .1) (z .pre)) }
@@ -24,4 +18,4 @@ returns-2 c = let i = c .before in
     done-reply (i .made2 .given .1)
 
 pub reply-of-spec : {M : Type 1} → statement M
-reply-of-spec = tie.close (tie.spec enum-known-made enum-known-made-2 cast-t6 returns returns-2)
+reply-of-spec = tie.close (tie.spec (λ c. search needs) (λ c. search needs) cast-t6 returns returns-2)

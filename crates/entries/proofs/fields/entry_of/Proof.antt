@@ -7,41 +7,17 @@ use Rattle.entries.proofs.Rows.{says-stop, says-linear, says-smoothstep
 use Rattle.entries.proofs.fields.entry_of.Statement.{statement}
 use Rattle.entries.proofs.fields.entry_of.Tie as tie
 
-slice-aggregate-starts-with : tie.Need-slice-aggregate-starts-with
-slice-aggregate-starts-with c = search needs
-
-starts-with-requires : tie.Need-starts-with-requires
-starts-with-requires c κs = search needs
-
 stop-entry-requires : tie.Need-stop-entry-requires
 stop-entry-requires c κs = starts-long stopTag (c .before .before .before .before .args .l .now) (sym (c .before .starts-with .ensures) ∙ c .if1 .taken)
 
 returns : tie.Need-returns
 returns c = says-stop (c .before .before .before .before .before .args .l .now) (sym (c .before .before .starts-with .ensures) ∙ c .before .if1 .taken) (c .stop-entry .ensures)
 
-slice-aggregate-is-same : tie.Need-slice-aggregate-is-same
-slice-aggregate-is-same c = search needs
-
-is-same-requires : tie.Need-is-same-requires
-is-same-requires c κs = search needs
-
 returns-2 : tie.Need-returns-2
 returns-2 c = says-linear (c .before .before .before .before .before .before .before .args .l .now) (sym (c .before .before .before .before .starts-with .ensures) ∙ c .before .before .before .if1 .left) (sym (c .before .is-same .ensures) ∙ c .if2 .taken)
 
-slice-aggregate-is-same-2 : tie.Need-slice-aggregate-is-same-2
-slice-aggregate-is-same-2 c = search needs
-
-is-same-requires-2 : tie.Need-is-same-requires-2
-is-same-requires-2 c κs = search needs
-
 returns-3 : tie.Need-returns-3
 returns-3 c = says-smoothstep (c .before .before .before .before .before .before .before .before .before .before .args .l .now) (sym (c .before .before .before .before .before .before .before .starts-with .ensures) ∙ c .before .before .before .before .before .before .if1 .left) (sym (c .before .before .before .before .is-same .ensures) ∙ c .before .before .before .if2 .left) (sym (c .before .is-same2 .ensures) ∙ c .if3 .taken)
-
-slice-aggregate-starts-with-2 : tie.Need-slice-aggregate-starts-with-2
-slice-aggregate-starts-with-2 c = search needs
-
-starts-with-requires-2 : tie.Need-starts-with-requires-2
-starts-with-requires-2 c κs = search needs
 
 threshold-entry-requires : tie.Need-threshold-entry-requires
 threshold-entry-requires c κs =
@@ -52,12 +28,6 @@ threshold-entry-requires c κs =
 returns-4 : tie.Need-returns-4
 returns-4 c = let at-is-same2 = c .before .before .before .before .before in let at-else2 = at-is-same2 .before .before in let at-is-same = at-else2 .before in let at-else1 = at-is-same .before .before in let at-starts-with = at-else1 .before in let at-start = at-starts-with .before .before .before in
     says-threshold (at-start .args .l .now) (sym (at-starts-with .starts-with .ensures) ∙ at-else1 .if1 .left) (sym (at-is-same .is-same .ensures) ∙ at-else2 .if2 .left) (sym (at-is-same2 .is-same2 .ensures) ∙ c .before .before .before .before .if3 .left) (sym (c .before .before .starts-with2 .ensures) ∙ c .before .if4 .taken) (c .threshold-entry .ensures)
-
-slice-aggregate-starts-with-3 : tie.Need-slice-aggregate-starts-with-3
-slice-aggregate-starts-with-3 c = search needs
-
-starts-with-requires-3 : tie.Need-starts-with-requires-3
-starts-with-requires-3 c κs = search needs
 
 edit-entry-requires : tie.Need-edit-entry-requires
 edit-entry-requires c κs =
@@ -78,22 +48,22 @@ pub entry-of-spec : {M : Type 1} → statement M
 entry-of-spec =
     tie.close
     (tie.spec
-    slice-aggregate-starts-with
-    starts-with-requires
+    (λ c. search needs)
+    (λ c κs. search needs)
     stop-entry-requires
     returns
-    slice-aggregate-is-same
-    is-same-requires
+    (λ c. search needs)
+    (λ c κs. search needs)
     returns-2
-    slice-aggregate-is-same-2
-    is-same-requires-2
+    (λ c. search needs)
+    (λ c κs. search needs)
     returns-3
-    slice-aggregate-starts-with-2
-    starts-with-requires-2
+    (λ c. search needs)
+    (λ c κs. search needs)
     threshold-entry-requires
     returns-4
-    slice-aggregate-starts-with-3
-    starts-with-requires-3
+    (λ c. search needs)
+    (λ c κs. search needs)
     edit-entry-requires
     returns-5
     returns-6)

@@ -4,15 +4,9 @@ use Rattle.entries.proofs.Rows.{threshold-not, threshold-is}
 use Rattle.entries.proofs.fields.threshold_entry.Statement.{statement}
 use Rattle.entries.proofs.fields.threshold_entry.Tie as tie
 
-row-at-requires : tie.Need-row-at-requires
-row-at-requires c κs = search needs
-
 returns : tie.Need-returns
 returns c = let r = c .before .before .before in let z = r .before .before in
     threshold-not (z .args .l .now) (z .args .from) (z .pre) (r .row-at .ensures) (c .if1 .taken)
-
-array-read-t9 : tie.Need-array-read-t9
-array-read-t9 c = search needs
 
 returns-2 : tie.Need-returns-2
 returns-2 c = let r = c .before .before .before in let z = r .before .before in
@@ -22,7 +16,7 @@ pub threshold-entry-spec : {M : Type 1} → statement M
 threshold-entry-spec =
     tie.close
     (tie.spec
-    row-at-requires
+    (λ c κs. search needs)
     returns
-    array-read-t9
+    (λ c. search needs)
     returns-2)

@@ -10,32 +10,11 @@ returns c = many-bytes (c .before .before .args .s .now) (c .if1 .taken)
 returns-2 : tie.Need-returns-2
 returns-2 c = no-bytes (c .before .before .before .args .s .now) (c .if2 .taken)
 
-step-at-requires : tie.Need-step-at-requires
-step-at-requires c κs = search needs
-
-enum-known-entry : tie.Need-enum-known-entry
-enum-known-entry c = search needs
-
 returns-3 : tie.Need-returns-3
 returns-3 c = no-kind (c .before .before .before .before .before .args .s .now) (search needs) (search needs) (c .before .step-at .ensures) (c .match .keys2)
 
-start-at-requires : tie.Need-start-at-requires
-start-at-requires c κs = search needs
-
 stops-at-requires : tie.Need-stops-at-requires
 stops-at-requires c κs = (c .before .before .start-at .ensures .within, search needs)
-
-add-ending-at : tie.Need-add-ending-at
-add-ending-at c = search needs
-
-ending-at-requires : tie.Need-ending-at-requires
-ending-at-requires c κs = search needs
-
-enum-known-n : tie.Need-enum-known-n
-enum-known-n c = search needs
-
-enum-known-edited : tie.Need-enum-known-edited
-enum-known-edited c = search needs
 
 returns-4 : tie.Need-returns-4
 returns-4 c = let z = c .before .before .before in let b = z .before .before .before in let t = b .before .before .before in let i = t .before .before in let w = i .before .before in let a = w .before .before .before .before in
@@ -51,14 +30,14 @@ read-spec =
     (tie.spec
     returns
     returns-2
-    step-at-requires
-    enum-known-entry
+    (λ c κs. search needs)
+    (λ c. search needs)
     returns-3
-    start-at-requires
+    (λ c κs. search needs)
     stops-at-requires
-    add-ending-at
-    ending-at-requires
-    enum-known-n
-    enum-known-edited
+    (λ c. search needs)
+    (λ c κs. search needs)
+    (λ c. search needs)
+    (λ c. search needs)
     returns-4
     returns-5)

@@ -21,21 +21,12 @@ loop-holds c = let z = c .before in
 step-at-requires : tie.Need-step-at-requires Inv-loop μ-loop
 step-at-requires c κs = c .before .loop .inv .inside
 
-enum-known-entry : tie.Need-enum-known-entry Inv-loop μ-loop
-enum-known-entry c = search needs
-
 returns : tie.Need-returns Inv-loop μ-loop
 returns c = block-other (c .before .before .before .loop .inv) (search needs) (c .before .step-at .ensures) (c .match .keys2)
-
-put-requires : tie.Need-put-requires Inv-loop μ-loop
-put-requires c κs = search needs
 
 mul-put-colour : tie.Need-mul-put-colour Inv-loop μ-loop
 mul-put-colour c = let l = c .before .before .before .before .before .before .before .before in
     omega (arith, taken-few (l .loop .inv), l .before .before .pre .1)
-
-put-colour-requires : tie.Need-put-colour-requires Inv-loop μ-loop
-put-colour-requires c κs = search needs
 
 add-n : tie.Need-add-n Inv-loop μ-loop
 add-n c = let p = c .before .before in let e = p .before .before .before in let w = e .before .before in let l = w .before .before in
@@ -60,11 +51,11 @@ stops-at-spec =
     μ-loop
     loop-holds
     step-at-requires
-    enum-known-entry
+    (λ c. search needs)
     returns
-    put-requires
+    (λ c κs. search needs)
     mul-put-colour
-    put-colour-requires
+    (λ c κs. search needs)
     add-n
     loop-less
     loop-again

@@ -6,11 +6,8 @@ use Rattle.ggr.proofs.fill.closing.Tie as tie
 returns : tie.Need-returns
 returns c = rw (c .if1 .taken)
 
-add-t4 : tie.Need-add-t4
-add-t4 c = search needs
-
 returns-2 : tie.Need-returns-2
 returns-2 c = rw (c .if1 .left)
 
 pub closing-spec : {M : Type 1} → statement M
-closing-spec = tie.close (tie.spec returns add-t4 returns-2)
+closing-spec = tie.close (tie.spec returns (λ c. search needs) returns-2)

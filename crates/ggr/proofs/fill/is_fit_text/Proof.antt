@@ -13,21 +13,6 @@ returns : tie.Need-returns
 unfolding fitText
 returns c = rw (lt-leb _ _ (c .if1 .taken))
 
-marks-requires : tie.Need-marks-requires
-marks-requires c κs = search needs
-
-sub-is-ascii : tie.Need-sub-is-ascii
-sub-is-ascii c = search needs
-
-part-is-ascii-start : tie.Need-part-is-ascii-start
-part-is-ascii-start c = search needs
-
-part-is-ascii-end : tie.Need-part-is-ascii-end
-part-is-ascii-end c = search needs
-
-is-ascii-requires : tie.Need-is-ascii-requires
-is-ascii-requires c κs = search needs
-
 returns-2 : tie.Need-returns-2
 unfolding fitText
 returns-2 c = let m = c .before .before in let s = m .before .before .before .args .s .now in
@@ -38,9 +23,9 @@ is-fit-text-spec =
     tie.close
     (tie.spec
     returns
-    marks-requires
-    sub-is-ascii
-    part-is-ascii-start
-    part-is-ascii-end
-    is-ascii-requires
+    (λ c κs. search needs)
+    (λ c. search needs)
+    (λ c. search needs)
+    (λ c. search needs)
+    (λ c κs. search needs)
     returns-2)

@@ -10,40 +10,19 @@ use borrow.Author.Needs.{needs}
 use Rattle.ggr.proofs.fill.read_into.Statement.{statement}
 use Rattle.ggr.proofs.fill.read_into.Tie as tie
 
-is-finite-colour-requires : tie.Need-is-finite-colour-requires
-is-finite-colour-requires c κs = search needs
-
 returns : tie.Need-returns
 returns c = filled-no _ _ _ _ (file-fg _ _ _ _ (failed (c .if1 .taken) (c .before .is-finite-colour .ensures)))
-
-is-finite-colour-requires-2 : tie.Need-is-finite-colour-requires-2
-is-finite-colour-requires-2 c κs = search needs
 
 returns-2 : tie.Need-returns-2
 returns-2 c =
     let one = c .before .before in
     filled-no _ _ _ _ (file-bg _ _ _ _ (passed (one .if1 .left) (one .before .is-finite-colour .ensures)) (failed (c .if2 .taken) (c .before .is-finite-colour2 .ensures)))
 
-is-fit-text-requires : tie.Need-is-fit-text-requires
-is-fit-text-requires c κs = search needs
-
 returns-3 : tie.Need-returns-3
 returns-3 c =
     let two = c .before .before in
     let one = two .before .before in
     filled-no _ _ _ _ (file-text _ _ _ _ (passed (one .if1 .left) (one .before .is-finite-colour .ensures)) (passed (two .if2 .left) (two .before .is-finite-colour2 .ensures)) (failed (c .if3 .taken) (c .before .is-fit-text .ensures)))
-
-room-of-requires : tie.Need-room-of-requires
-room-of-requires c κs = search needs
-
-read-header-requires : tie.Need-read-header-requires
-read-header-requires c κs = search needs
-
-enum-known-lead : tie.Need-enum-known-lead
-enum-known-lead c = search needs
-
-enum-known-lead-2 : tie.Need-enum-known-lead-2
-enum-known-lead-2 c = search needs
 
 fill-requires : tie.Need-fill-requires
 fill-requires c κs =
@@ -67,15 +46,6 @@ returns-4 c =
     let a = one .before .before .before .before .before .before .args in
     filled-no _ _ _ _ (file-refuse (a .fg) (a .bg) (a .s .now) (h .before .room-of .ensures) (passed (one .if1 .left) (one .before .is-finite-colour .ensures)) (passed (two .if2 .left) (two .before .is-finite-colour2 .ensures)) (passed (three .if3 .left) (three .before .is-fit-text .ensures)) (h .read-header .ensures) _ _ (c .before .lead .given .1))
 
-same-length : tie.Need-same-length
-same-length c = search needs
-
-same-length-2 : tie.Need-same-length-2
-same-length-2 c = search needs
-
-same-length-3 : tie.Need-same-length-3
-same-length-3 c = search needs
-
 returns-5 : tie.Need-returns-5
 returns-5 c =
     let filled = c .before .before .before .before .before .before in
@@ -91,19 +61,19 @@ pub read-into-spec : {M : Type 1} → statement M
 read-into-spec =
     tie.close
     (tie.spec
-    is-finite-colour-requires
+    (λ c κs. search needs)
     returns
-    is-finite-colour-requires-2
+    (λ c κs. search needs)
     returns-2
-    is-fit-text-requires
+    (λ c κs. search needs)
     returns-3
-    room-of-requires
-    read-header-requires
-    enum-known-lead
-    enum-known-lead-2
+    (λ c κs. search needs)
+    (λ c κs. search needs)
+    (λ c. search needs)
+    (λ c. search needs)
     fill-requires
     returns-4
-    same-length
-    same-length-2
-    same-length-3
+    (λ c. search needs)
+    (λ c. search needs)
+    (λ c. search needs)
     returns-5)

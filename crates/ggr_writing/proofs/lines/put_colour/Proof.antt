@@ -6,21 +6,6 @@ use Rattle.writing.proofs.Texts.{puts-then}
 use Rattle.ggr_writing.proofs.lines.put_colour.Statement.{statement}
 use Rattle.ggr_writing.proofs.lines.put_colour.Tie as tie
 
-put-field-requires : tie.Need-put-field-requires
-put-field-requires c κs = search needs
-
-put-field-requires-2 : tie.Need-put-field-requires-2
-put-field-requires-2 c κs = search needs
-
-put-field-requires-3 : tie.Need-put-field-requires-3
-put-field-requires-3 c κs = search needs
-
-put-field-requires-4 : tie.Need-put-field-requires-4
-put-field-requires-4 c κs = search needs
-
-same-length : tie.Need-same-length
-same-length c = search needs
-
 returns : tie.Need-returns
 unfolding spacedColour
 returns c = let at-put-field3 = c .before .before .before .before .before .before in let at-put-field2 = at-put-field3 .before .before .before .before in let at-put-field = at-put-field2 .before .before .before .before in
@@ -30,9 +15,9 @@ pub put-colour-spec : {M : Type 1} → statement M
 put-colour-spec =
     tie.close
     (tie.spec
-    put-field-requires
-    put-field-requires-2
-    put-field-requires-3
-    put-field-requires-4
-    same-length
+    (λ c κs. search needs)
+    (λ c κs. search needs)
+    (λ c κs. search needs)
+    (λ c κs. search needs)
+    (λ c. search needs)
     returns)

@@ -19,24 +19,6 @@ abbrev μ-loop : tie.MeasureT-loop
 loop-holds : tie.Need-loop-holds Inv-loop μ-loop
 loop-holds c = let a = c .before .before .before .args in (refl, rowed-start (now (a .out)) (a .at) (a .n) (a .positions .now) (a .channels .now) (omega arith))
 
-stop-requires : tie.Need-stop-requires Inv-loop μ-loop
-stop-requires c κs = search needs
-
-add-stop : tie.Need-add-stop Inv-loop μ-loop
-add-stop c = search needs
-
-stop-requires-2 : tie.Need-stop-requires-2 Inv-loop μ-loop
-stop-requires-2 c κs = search needs
-
-put-segment-requires : tie.Need-put-segment-requires Inv-loop μ-loop
-put-segment-requires c κs = search needs
-
-add-i : tie.Need-add-i Inv-loop μ-loop
-add-i c = search needs
-
-loop-less : tie.Need-loop-less Inv-loop μ-loop
-loop-less c = search needs
-
 loop-again : tie.Need-loop-again Inv-loop μ-loop
 loop-again c = let l = c .before .before .before .before .before .before .before .loop .inv in (from-size (c .before .before .put-segment .ensures) ∙ l .0, rowed-next (search needs) (c .before .before .before .before .before .stop .ensures) (c .before .before .before .before .stop2 .ensures) (l .1) (c .before .before .put-segment .ensures) (omega arith))
 
@@ -53,12 +35,12 @@ put-rows-spec =
     Inv-loop
     μ-loop
     loop-holds
-    stop-requires
-    add-stop
-    stop-requires-2
-    put-segment-requires
-    add-i
-    loop-less
+    (λ c κs. search needs)
+    (λ c. search needs)
+    (λ c κs. search needs)
+    (λ c κs. search needs)
+    (λ c. search needs)
+    (λ c. search needs)
     loop-again
     same-length
     returns)

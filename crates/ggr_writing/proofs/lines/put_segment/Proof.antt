@@ -6,30 +6,6 @@ use Rattle.writing.proofs.Texts.{puts-then}
 use Rattle.ggr_writing.proofs.lines.put_segment.Statement.{statement}
 use Rattle.ggr_writing.proofs.lines.put_segment.Tie as tie
 
-put-field-requires : tie.Need-put-field-requires
-put-field-requires c κs = search needs
-
-put-field-requires-2 : tie.Need-put-field-requires-2
-put-field-requires-2 c κs = search needs
-
-put-field-requires-3 : tie.Need-put-field-requires-3
-put-field-requires-3 c κs = search needs
-
-put-colour-requires : tie.Need-put-colour-requires
-put-colour-requires c κs = search needs
-
-put-colour-requires-2 : tie.Need-put-colour-requires-2
-put-colour-requires-2 c κs = search needs
-
-slice-aggregate-put-all : tie.Need-slice-aggregate-put-all
-slice-aggregate-put-all c = search needs
-
-put-all-requires : tie.Need-put-all-requires
-put-all-requires c κs = search needs
-
-same-length : tie.Need-same-length
-same-length c = search needs
-
 returns : tie.Need-returns
 unfolding segmentText
 returns c = let p5 = c .before .before .before .before .before .before .before in let p4 = p5 .before .before .before .before in let p3 = p4 .before .before .before .before in let p2 = p3 .before .before .before .before in let p1 = p2 .before .before .before .before .before .before in
@@ -39,12 +15,12 @@ pub put-segment-spec : {M : Type 1} → statement M
 put-segment-spec =
     tie.close
     (tie.spec
-    put-field-requires
-    put-field-requires-2
-    put-field-requires-3
-    put-colour-requires
-    put-colour-requires-2
-    slice-aggregate-put-all
-    put-all-requires
-    same-length
+    (λ c κs. search needs)
+    (λ c κs. search needs)
+    (λ c κs. search needs)
+    (λ c κs. search needs)
+    (λ c κs. search needs)
+    (λ c. search needs)
+    (λ c κs. search needs)
+    (λ c. search needs)
     returns)

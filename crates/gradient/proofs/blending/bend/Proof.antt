@@ -4,14 +4,8 @@ use borrow.Author.Needs.{needs}
 use Rattle.gradient.proofs.blending.bend.Statement.{statement}
 use Rattle.gradient.proofs.blending.bend.Tie as tie
 
-spherical-increasing-requires : tie.Need-spherical-increasing-requires
-spherical-increasing-requires c κs = search needs
-
 returns : tie.Need-returns
 returns c = let a = c .before .before .args in bent-increasing (a .blending) (a .f) (c .before .if1 .taken) (c .spherical-increasing .ensures)
-
-spherical-decreasing-requires : tie.Need-spherical-decreasing-requires
-spherical-decreasing-requires c κs = search needs
 
 returns-2 : tie.Need-returns-2
 returns-2 c = let a = c .before .before .before .args in bent-decreasing (a .blending) (a .f) (c .before .before .if1 .left) (c .before .if2 .taken) (c .spherical-decreasing .ensures)
@@ -23,8 +17,8 @@ pub bend-spec : {M : Type 1} → statement M
 bend-spec =
     tie.close
     (tie.spec
-    spherical-increasing-requires
+    (λ c κs. search needs)
     returns
-    spherical-decreasing-requires
+    (λ c κs. search needs)
     returns-2
     returns-3)

@@ -10,15 +10,6 @@ returns c = let t = c .before in let a = t .before .before .before .args in step
 returns-2 : tie.Need-returns-2
 returns-2 c = let t = c .before in let a = t .before .before .before .args in step-left (a .g) (a .pivot) (a .place) (t .before .if1 .taken) (t .if2 .left)
 
-calc-linear-factor-requires : tie.Need-calc-linear-factor-requires
-calc-linear-factor-requires c κs = search needs
-
-bend-requires : tie.Need-bend-requires
-bend-requires c κs = search needs
-
-interpolate-linear-requires : tie.Need-interpolate-linear-requires
-interpolate-linear-requires c κs = search needs
-
 returns-3 : tie.Need-returns-3
 returns-3 c = let f = c .before .before in let a = f .before .before .before .args in mixed-at (a .g) (a .pivot) (a .place) (f .before .if1 .left) (f .calc-linear-factor .ensures) (c .before .bend .ensures) (c .interpolate-linear .ensures)
 
@@ -28,7 +19,7 @@ blend-spec =
     (tie.spec
     returns
     returns-2
-    calc-linear-factor-requires
-    bend-requires
-    interpolate-linear-requires
+    (λ c κs. search needs)
+    (λ c κs. search needs)
+    (λ c κs. search needs)
     returns-3)

@@ -7,12 +7,9 @@ use borrow.Author.Needs.{needs}
 use Rattle.gradient.proofs.blending.spherical_decreasing.Statement.{statement}
 use Rattle.gradient.proofs.blending.spherical_decreasing.Tie as tie
 
-root-requires : tie.Need-root-requires
-root-requires c κs = search needs
-
 returns : tie.Need-returns
 unfolding decreasing
 returns c = ap (λ (x : Float). f1 ⊖ x) (c .root .ensures)
 
 pub spherical-decreasing-spec : {M : Type 1} → statement M
-spherical-decreasing-spec = tie.close (tie.spec root-requires returns)
+spherical-decreasing-spec = tie.close (tie.spec (λ c κs. search needs) returns)

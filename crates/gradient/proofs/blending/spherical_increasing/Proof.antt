@@ -4,12 +4,9 @@ use borrow.Author.Needs.{needs}
 use Rattle.gradient.proofs.blending.spherical_increasing.Statement.{statement}
 use Rattle.gradient.proofs.blending.spherical_increasing.Tie as tie
 
-root-requires : tie.Need-root-requires
-root-requires c κs = search needs
-
 returns : tie.Need-returns
 unfolding increasing
 returns c = c .root .ensures
 
 pub spherical-increasing-spec : {M : Type 1} → statement M
-spherical-increasing-spec = tie.close (tie.spec root-requires returns)
+spherical-increasing-spec = tie.close (tie.spec (λ c κs. search needs) returns)

@@ -19,20 +19,11 @@ abbrev μ-loop : tie.MeasureT-loop
 loop-holds : tie.Need-loop-holds Inv-loop μ-loop
 loop-holds c = (omega arith, carried-start (c .before .before .args .n) (now (c .before .before .args .positions)) (now (c .before .before .args .codes)))
 
-is-carried-at-requires : tie.Need-is-carried-at-requires Inv-loop μ-loop
-is-carried-at-requires c κs = search needs
-
 returns : tie.Need-returns Inv-loop μ-loop
 returns c =
     let l = c .before .before .before in
     let a = l .before .before .before .args in
     sym (carried-not (a .n) (l .loop .i) (now (a .positions)) (now (a .codes)) (c .before .before .loop-test .taken) (failed (c .if1 .taken) (c .before .is-carried-at .ensures))) ∙ l .loop .inv .1
-
-add-i : tie.Need-add-i Inv-loop μ-loop
-add-i c = omega arith
-
-loop-less : tie.Need-loop-less Inv-loop μ-loop
-loop-less c = omega arith
 
 loop-again : tie.Need-loop-again Inv-loop μ-loop
 loop-again c =
@@ -51,9 +42,9 @@ are-carried-spec =
     Inv-loop
     μ-loop
     loop-holds
-    is-carried-at-requires
+    (λ c κs. search needs)
     returns
-    add-i
-    loop-less
+    (λ c. omega arith)
+    (λ c. omega arith)
     loop-again
     returns-2)

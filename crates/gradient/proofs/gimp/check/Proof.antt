@@ -9,9 +9,6 @@ use borrow.Author.Needs.{needs}
 use Rattle.gradient.proofs.gimp.check.Statement.{statement}
 use Rattle.gradient.proofs.gimp.check.Tie as tie
 
-is-shaped-requires : tie.Need-is-shaped-requires
-is-shaped-requires c κs = search needs
-
 returns : tie.Need-returns
 returns c =
     checks
@@ -33,9 +30,6 @@ returns-2 c =
     (failed (c .if2 .taken) (c .before .are-carried .ensures))
     (passed (s .if1 .left) (s .before .is-shaped .ensures)))
 
-all-finite-requires : tie.Need-all-finite-requires
-all-finite-requires c κs = search needs
-
 returns-3 : tie.Need-returns-3
 returns-3 c =
     checks
@@ -46,9 +40,6 @@ returns-3 c =
     (failed (c .if3 .taken) (c .before .all-finite .ensures))
     (passed (k .if2 .left) (k .before .are-carried .ensures))
     (passed (s .if1 .left) (s .before .is-shaped .ensures)))
-
-all-finite-requires-2 : tie.Need-all-finite-requires-2
-all-finite-requires-2 c κs = search needs
 
 returns-4 : tie.Need-returns-4
 returns-4 c =
@@ -80,12 +71,12 @@ pub check-spec : {M : Type 1} → statement M
 check-spec =
     tie.close
     (tie.spec
-    is-shaped-requires
+    (λ c κs. search needs)
     returns
     are-carried-requires
     returns-2
-    all-finite-requires
+    (λ c κs. search needs)
     returns-3
-    all-finite-requires-2
+    (λ c κs. search needs)
     returns-4
     returns-5)

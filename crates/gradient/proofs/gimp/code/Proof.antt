@@ -5,14 +5,8 @@ use borrow.Author.Needs.{needs}
 use Rattle.gradient.proofs.gimp.code.Statement.{statement}
 use Rattle.gradient.proofs.gimp.code.Tie as tie
 
-shared-slice-read-result : tie.Need-shared-slice-read-result
-shared-slice-read-result c = search needs
-
-returns : tie.Need-returns
-returns c = search needs
-
 returns-2 : tie.Need-returns-2
 returns-2 c = no-code (now (c .before .args .codes)) (c .before .args .i) (c .if1 .left)
 
 pub code-spec : {M : Type 1} → statement M
-code-spec = tie.close (tie.spec shared-slice-read-result returns returns-2)
+code-spec = tie.close (tie.spec (λ c. search needs) (λ c. search needs) returns-2)

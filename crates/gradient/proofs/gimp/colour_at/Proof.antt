@@ -6,20 +6,11 @@ use borrow.Author.Needs.{needs}
 use Rattle.gradient.proofs.gimp.colour_at.Statement.{statement}
 use Rattle.gradient.proofs.gimp.colour_at.Tie as tie
 
-is-off-domain-requires : tie.Need-is-off-domain-requires
-is-off-domain-requires c κs = search needs
-
 returns : tie.Need-returns
 returns c = let a = c .before .before .before .before .before .args in beyond (now (a .positions)) (now (a .channels)) (now (a .codes)) (a .t) (c .before .is-off-domain .ensures) (c .if1 .taken)
 
-find-segment-requires : tie.Need-find-segment-requires
-find-segment-requires c κs = search needs
-
 segment-at-requires : tie.Need-segment-at-requires
 segment-at-requires c κs = let a = c .before .before .before .before .before .before .args in rw (c .find-segment .ensures) (found-within (now (a .positions)) (a .t))
-
-segment-colour-requires : tie.Need-segment-colour-requires
-segment-colour-requires c κs = search needs
 
 returns-2 : tie.Need-returns-2
 returns-2 c =
@@ -32,9 +23,9 @@ pub colour-at-spec : {M : Type 1} → statement M
 colour-at-spec =
     tie.close
     (tie.spec
-    is-off-domain-requires
+    (λ c κs. search needs)
     returns
-    find-segment-requires
+    (λ c κs. search needs)
     segment-at-requires
-    segment-colour-requires
+    (λ c κs. search needs)
     returns-2)

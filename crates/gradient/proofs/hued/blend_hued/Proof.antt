@@ -4,23 +4,11 @@ use borrow.Author.Needs.{needs}
 use Rattle.gradient.proofs.hued.blend_hued.Statement.{statement}
 use Rattle.gradient.proofs.hued.blend_hued.Tie as tie
 
-there-and-back-requires : tie.Need-there-and-back-requires
-there-and-back-requires c κs = search needs
-
 returns : tie.Need-returns
 returns c = let t = c .before in let a = t .before .before .before .args in hued-right (a .g) (a .pivot) (a .place) (t .before .if1 .taken) (t .if2 .taken) (c .there-and-back .ensures)
 
-there-and-back-requires-2 : tie.Need-there-and-back-requires-2
-there-and-back-requires-2 c κs = search needs
-
 returns-2 : tie.Need-returns-2
 returns-2 c = let t = c .before in let a = t .before .before .before .args in hued-left (a .g) (a .pivot) (a .place) (t .before .if1 .taken) (t .if2 .left) (c .there-and-back2 .ensures)
-
-factor-requires : tie.Need-factor-requires
-factor-requires c κs = search needs
-
-turn-requires : tie.Need-turn-requires
-turn-requires c κs = search needs
 
 returns-3 : tie.Need-returns-3
 returns-3 c = let f = c .before in let a = f .before .before .before .args in hued-at (a .g) (a .pivot) (a .place) (f .before .if1 .left) (f .factor .ensures) (c .turn .ensures)
@@ -29,10 +17,10 @@ pub blend-hued-spec : {M : Type 1} → statement M
 blend-hued-spec =
     tie.close
     (tie.spec
-    there-and-back-requires
+    (λ c κs. search needs)
     returns
-    there-and-back-requires-2
+    (λ c κs. search needs)
     returns-2
-    factor-requires
-    turn-requires
+    (λ c κs. search needs)
+    (λ c κs. search needs)
     returns-3)

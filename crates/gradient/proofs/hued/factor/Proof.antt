@@ -4,21 +4,12 @@ use borrow.Author.Needs.{needs}
 use Rattle.gradient.proofs.hued.factor.Statement.{statement}
 use Rattle.gradient.proofs.hued.factor.Tie as tie
 
-calc-linear-factor-requires : tie.Need-calc-linear-factor-requires
-calc-linear-factor-requires c κs = search needs
-
-wave-requires : tie.Need-wave-requires
-wave-requires c κs = search needs
-
 returns : tie.Need-returns
 returns c = let a = c .before .before .before .args in factor-wave (a .blending) (a .pivot) (a .place) (c .before .before .calc-linear-factor .ensures) (c .before .if1 .taken) (c .wave .ensures)
-
-bend-requires : tie.Need-bend-requires
-bend-requires c κs = search needs
 
 returns-2 : tie.Need-returns-2
 returns-2 c = let a = c .before .before .before .args in factor-bent (a .blending) (a .pivot) (a .place) (c .before .before .calc-linear-factor .ensures) (c .before .if1 .left) (c .bend .ensures)
 
 pub factor-spec : {M : Type 1} → statement M
 factor-spec =
-    tie.close (tie.spec calc-linear-factor-requires wave-requires returns bend-requires returns-2)
+    tie.close (tie.spec (λ c κs. search needs) (λ c κs. search needs) returns (λ c κs. search needs) returns-2)

@@ -4,12 +4,9 @@ use borrow.Author.Needs.{needs}
 use Rattle.hsv.proofs.circle.counter_clockwise_hue.Statement.{statement}
 use Rattle.hsv.proofs.circle.counter_clockwise_hue.Tie as tie
 
-way-requires : tie.Need-way-requires
-way-requires c κs = search needs
-
 returns : tie.Need-returns
 unfolding upHue
 returns c = c .way .ensures
 
 pub counter-clockwise-hue-spec : {M : Type 1} → statement M
-counter-clockwise-hue-spec = tie.close (tie.spec way-requires returns)
+counter-clockwise-hue-spec = tie.close (tie.spec (λ c κs. search needs) returns)

@@ -4,17 +4,8 @@ use borrow.Author.Needs.{needs}
 use Rattle.hsv.proofs.to_rgb.channel.Statement.{statement}
 use Rattle.hsv.proofs.to_rgb.channel.Tie as tie
 
-into-six-requires : tie.Need-into-six-requires
-into-six-requires c κs = search needs
-
-channel-at-requires : tie.Need-channel-at-requires
-channel-at-requires c κs = search needs
-
-clamp-requires : tie.Need-clamp-requires
-clamp-requires c κs = search needs
-
 returns : tie.Need-returns
 returns c = let a = c .before .before .before .args in channel-is (a .least) (a .most) (a .x) (c .before .before .into-six .ensures) (c .before .channel-at .ensures) (c .clamp .ensures)
 
 pub channel-spec : {M : Type 1} → statement M
-channel-spec = tie.close (tie.spec into-six-requires channel-at-requires clamp-requires returns)
+channel-spec = tie.close (tie.spec (λ c κs. search needs) (λ c κs. search needs) (λ c κs. search needs) returns)

@@ -7,18 +7,6 @@ use Rattle.hsv.proofs.to_rgb.from_lightness.Tie as tie
 returns : tie.Need-returns
 returns c = let a = c .before .args in light-grey (a .h) (a .s) (a .l) (a .a) (c .if1 .taken)
 
-upper-requires : tie.Need-upper-requires
-upper-requires c κs = search needs
-
-channel-requires : tie.Need-channel-requires
-channel-requires c κs = search needs
-
-channel-requires-2 : tie.Need-channel-requires-2
-channel-requires-2 c κs = search needs
-
-channel-requires-3 : tie.Need-channel-requires-3
-channel-requires-3 c κs = search needs
-
 returns-2 : tie.Need-returns-2
 returns-2 c = let a = c .before .before .before .before .before .args in light-hued (a .h) (a .s) (a .l) (a .a) (c .before .before .before .before .if1 .left) (c .before .before .before .upper .ensures) (c .before .before .channel .ensures) (c .before .channel2 .ensures) (c .channel3 .ensures)
 
@@ -27,8 +15,8 @@ from-lightness-spec =
     tie.close
     (tie.spec
     returns
-    upper-requires
-    channel-requires
-    channel-requires-2
-    channel-requires-3
+    (λ c κs. search needs)
+    (λ c κs. search needs)
+    (λ c κs. search needs)
+    (λ c κs. search needs)
     returns-2)

@@ -8,20 +8,8 @@ use Rattle.judge.proofs.Listing.{not-finite, colour-not-finite, falls, 
 use Rattle.judge.proofs.checks.is_good.Statement.{statement}
 use Rattle.judge.proofs.checks.is_good.Tie as tie
 
-item-requires : tie.Need-item-requires
-item-requires c κs = search needs
-
-is-finite-requires : tie.Need-is-finite-requires
-is-finite-requires c κs = search needs
-
 returns : tie.Need-returns
 returns c = not-finite _ _ _ (failed (c .if1 .taken) (c .before .is-finite .ensures ∙ ap finite (c .before .before .item .ensures)))
-
-colour-requires : tie.Need-colour-requires
-colour-requires c κs = search needs
-
-is-finite-colour-requires : tie.Need-is-finite-colour-requires
-is-finite-colour-requires c κs = search needs
 
 returns-2 : tie.Need-returns-2
 returns-2 c =
@@ -29,12 +17,6 @@ returns-2 c =
     let at-finite = at-colour .before .before in
     colour-not-finite _ _ _ (passed (at-colour .before .if1 .left) (at-finite .is-finite .ensures ∙ ap finite (at-finite .before .item .ensures)))
     (failed (c .if2 .taken) (c .before .is-finite-colour .ensures ∙ ap finiteRgba (at-colour .colour .ensures)))
-
-less-requires : tie.Need-less-requires
-less-requires c κs = search needs
-
-item-requires-2 : tie.Need-item-requires-2
-item-requires-2 c κs = search needs
 
 returns-3 : tie.Need-returns-3
 returns-3 c =
@@ -60,13 +42,13 @@ pub is-good-spec : {M : Type 1} → statement M
 is-good-spec =
     tie.close
     (tie.spec
-    item-requires
-    is-finite-requires
+    (λ c κs. search needs)
+    (λ c κs. search needs)
     returns
-    colour-requires
-    is-finite-colour-requires
+    (λ c κs. search needs)
+    (λ c κs. search needs)
     returns-2
-    less-requires
-    item-requires-2
+    (λ c κs. search needs)
+    (λ c κs. search needs)
     returns-3
     returns-4)

@@ -10,11 +10,8 @@ returns c = few _ _ (c .if1 .taken)
 returns-2 : tie.Need-returns-2
 returns-2 c = many _ _ (c .before .if1 .left) (c .if2 .taken)
 
-mul-result : tie.Need-mul-result
-mul-result c = search needs
-
 returns-3 : tie.Need-returns-3
 returns-3 c = length-last _ _ (c .before .if1 .left) (c .if2 .left)
 
 pub is-sized-spec : {M : Type 1} → statement M
-is-sized-spec = tie.close (tie.spec returns returns-2 mul-result returns-3)
+is-sized-spec = tie.close (tie.spec returns returns-2 (λ c. search needs) returns-3)

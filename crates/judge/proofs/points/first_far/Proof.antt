@@ -24,25 +24,10 @@ abbrev μ-loop : tie.MeasureT-loop
 loop-holds : tie.Need-loop-holds Inv-loop μ-loop
 loop-holds c = from-start _ _
 
-add-is-close : tie.Need-add-is-close Inv-loop μ-loop
-add-is-close c = search needs
-
-mul-is-close : tie.Need-mul-is-close Inv-loop μ-loop
-mul-is-close c = search needs
-
-shared-slice-read-is-close : tie.Need-shared-slice-read-is-close Inv-loop μ-loop
-shared-slice-read-is-close c = search needs
-
-is-close-requires : tie.Need-is-close-requires Inv-loop μ-loop
-is-close-requires c κs = tt
-
 returns : tie.Need-returns Inv-loop μ-loop
 returns c =
     let turn = c .before .before .before in
     sym (fails-here _ _ _ (turn .loop-test .taken) (failed (c .if1 .taken) (c .before .is-close .ensures))) ∙ turn .before .loop .inv
-
-add-j : tie.Need-add-j Inv-loop μ-loop
-add-j c = search needs
 
 loop-less : tie.Need-loop-less Inv-loop μ-loop
 loop-less c = omega (arith, c .before .before .before .loop-test .taken)
@@ -62,12 +47,12 @@ first-far-spec =
     Inv-loop
     μ-loop
     loop-holds
-    add-is-close
-    mul-is-close
-    shared-slice-read-is-close
-    is-close-requires
+    (λ c. search needs)
+    (λ c. search needs)
+    (λ c. search needs)
+    (λ c κs. tt)
     returns
-    add-j
+    (λ c. search needs)
     loop-less
     loop-again
     returns-2)

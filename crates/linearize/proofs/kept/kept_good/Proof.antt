@@ -18,25 +18,10 @@ abbrev μ-loop : tie.MeasureT-loop
 loop-holds : tie.Need-loop-holds Inv-loop μ-loop
 loop-holds c = refl
 
-array-read-count-fits : tie.Need-array-read-count-fits Inv-loop μ-loop
-array-read-count-fits c = omega arith
-
-count-at-requires : tie.Need-count-at-requires Inv-loop μ-loop
-count-at-requires c κs = tt
-
-count-fits-requires : tie.Need-count-fits-requires Inv-loop μ-loop
-count-fits-requires c κs = tt
-
 returns : tie.Need-returns Inv-loop μ-loop
 returns c =
     let turn = c .before .before .before in
     sym (stops-here _ _ _ (omega (arith, turn .loop-test .taken)) (sym (not-true _ (c .if1 .taken)) ∙ c .before .count-fits .ensures ∙ ap (countFits _) (c .before .before .count-at .ensures))) ∙ turn .before .loop .inv
-
-add-i : tie.Need-add-i Inv-loop μ-loop
-add-i c = omega arith
-
-loop-less : tie.Need-loop-less Inv-loop μ-loop
-loop-less c = omega arith
 
 loop-again : tie.Need-loop-again Inv-loop μ-loop
 loop-again c =
@@ -53,11 +38,11 @@ kept-good-spec =
     Inv-loop
     μ-loop
     loop-holds
-    array-read-count-fits
-    count-at-requires
-    count-fits-requires
+    (λ c. omega arith)
+    (λ c κs. tt)
+    (λ c κs. tt)
     returns
-    add-i
-    loop-less
+    (λ c. omega arith)
+    (λ c. omega arith)
     loop-again
     returns-2)

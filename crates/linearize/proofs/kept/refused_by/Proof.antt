@@ -3,9 +3,6 @@ use borrow.Author.Needs.{needs}
 use Rattle.linearize.proofs.kept.refused_by.Statement.{statement}
 use Rattle.linearize.proofs.kept.refused_by.Tie as tie
 
-enum-known-checked : tie.Need-enum-known-checked
-enum-known-checked c = search needs
-
 enum-told : tie.Need-enum-told
 enum-told c = search needs
 
@@ -16,4 +13,4 @@ returns-2 : tie.Need-returns-2
 returns-2 c = rw (c .enum-told .given .1)
 
 pub refused-by-spec : {M : Type 1} → statement M
-refused-by-spec = tie.close (tie.spec enum-known-checked enum-told returns returns-2)
+refused-by-spec = tie.close (tie.spec (λ c. search needs) enum-told returns returns-2)

@@ -4,18 +4,6 @@ use borrow.Author.Needs.{needs}
 use Rattle.linearize.proofs.listing.finish.Statement.{statement}
 use Rattle.linearize.proofs.listing.finish.Tie as tie
 
-zero-from-requires : tie.Need-zero-from-requires
-zero-from-requires c κs = search needs
-
-zero-from-requires-2 : tie.Need-zero-from-requires-2
-zero-from-requires-2 c κs = search needs
-
-same-length : tie.Need-same-length
-same-length c = search needs
-
-same-length-2 : tie.Need-same-length-2
-same-length-2 c = search needs
-
 returns : tie.Need-returns
 returns c =
     let at-channels = c .before .before in
@@ -24,12 +12,6 @@ returns c =
     let a = at-test .before .before .before .args in
     let bad = at-test .if1 .taken in
     (refused-answer _ _ _ bad, (zeroed _ (a .out-positions .now) _ bad (at-positions .zero-from .ensures), zeroed _ (a .out-channels .now) _ bad (at-channels .zero-from2 .ensures)))
-
-mul-t11 : tie.Need-mul-t11
-mul-t11 c = search needs
-
-add-t12 : tie.Need-add-t12
-add-t12 c = search needs
 
 returns-2 : tie.Need-returns-2
 returns-2 c =
@@ -42,11 +24,11 @@ pub finish-spec : {M : Type 1} → statement M
 finish-spec =
     tie.close
     (tie.spec
-    zero-from-requires
-    zero-from-requires-2
-    same-length
-    same-length-2
+    (λ c κs. search needs)
+    (λ c κs. search needs)
+    (λ c. search needs)
+    (λ c. search needs)
     returns
-    mul-t11
-    add-t12
+    (λ c. search needs)
+    (λ c. search needs)
     returns-2)

@@ -4,9 +4,8 @@ use mathlib.Core.List.{List, _∷_}
 use native.Mathlib.Omega.{arith}
 use lib.ListN.{length, getD, drop}
 use lib.Ieee.{Float, nan}
-use Rattle.stops.proofs.Tables.{no-segments}
 use Rattle.stops.specs.Lent.{rampIn}
-use Rattle.sampling.proofs.Tabled.{prepared-point}
+use Rattle.sampling.proofs.Nearness.{near-point}
 use Rattle.gradient.specs.Ramp.{colourOf}
 use Rattle.difference.specs.Difference.{exceeds}
 use Rattle.places.specs.Places.{listOf}
@@ -28,7 +27,7 @@ module _ (c : tie.After-emit) where
   at-point = c .before .before .before
 
   abbrev at-start : tie.Start
-  at-start = at-point .before .before .before .before .before .before .before .before .before .before
+  at-start = at-point .before .before .before .before .before .before .before .before .before
 
   abbrev g : Gradient
   g = colourOf (rampIn (at-start .args .kind) (at-start .args .positions) (at-start .args .channels) (at-start .args .codes))
@@ -46,39 +45,13 @@ module _ (c : tie.After-emit) where
   after = run (c .emit .result) (c .emit .last .1 .1 .1 .0) (c .emit .last .1 .1 .1 .1 .0)
 
   first : PointAt g (getD (at-start .args .rows .now) 0 nan) p
-  first =
-      let none = no-segments (at-start .args .channels .now) (length (at-start .args .positions .now)) 0 (at-start .args .table .now) in
-      prepared-point _ _ _ (record { fine = at-start .pre .1; segments = none }) _ _ _ (at-point .evaluate .ensures)
+  first = near-point _ (at-start .pre .1) _ _ _ (at-point .evaluate .ensures)
 
   written : Emitted g (at-start .args .room) before p after
   written = emitted-as g (at-start .args .room) before after p (c .emit .ensures) (first .1)
 
   head : ts ≡ p .t ∷ drop 1 ts
   head = list-head (at-start .args .rows .now) (at-start .args .counts .now) (at-start .args .max) (at-start .pre .0) (p .t) (first .0)
-
-shared-slice-read-evaluate : tie.Need-shared-slice-read-evaluate
-shared-slice-read-evaluate c = search needs
-
-slice-reshare-prefix-evaluate : tie.Need-slice-reshare-prefix-evaluate
-slice-reshare-prefix-evaluate c = search needs
-
-slice-aggregate-evaluate : tie.Need-slice-aggregate-evaluate
-slice-aggregate-evaluate c = search needs
-
-evaluate-requires : tie.Need-evaluate-requires
-evaluate-requires c κs = search needs
-
-emit-requires : tie.Need-emit-requires
-emit-requires c κs = search needs
-
-same-length : tie.Need-same-length
-same-length c = search needs
-
-same-length-2 : tie.Need-same-length-2
-same-length-2 c = search needs
-
-same-length-3 : tie.Need-same-length-3
-same-length-3 c = search needs
 
 returns : tie.Need-returns
 returns c =
@@ -93,24 +66,15 @@ returns c =
 
 thin-points-requires : tie.Need-thin-points-requires
 thin-points-requires c κs =
-    let at-test = c .before .before .before in
+    let at-test = c .before .before in
     let e = at-test .before .before .before .before .before in
     let w = written e in
     ((at-start e .pre .0, record { going = at-test .if1 .left; none = w .tried; fitting = w .fitting (omega arith); coloured = w .coloured (at-test .if1 .left) }), at-start e .pre .1)
 
-same-length-4 : tie.Need-same-length-4
-same-length-4 c = search needs
-
-same-length-5 : tie.Need-same-length-5
-same-length-5 c = search needs
-
-same-length-6 : tie.Need-same-length-6
-same-length-6 c = search needs
-
 returns-2 : tie.Need-returns-2
 returns-2 c =
-    let at-rest = c .before .before .before .before .before in
-    let at-test = at-rest .before .before .before .before in
+    let at-rest = c .before .before .before .before in
+    let at-test = at-rest .before .before .before in
     let e = at-test .before .before .before .before .before in
     let a = at-start e .args in
     let k = at-rest .thin-points in
@@ -125,17 +89,13 @@ pub thin-all-spec : {M : Type 1} → statement M
 thin-all-spec =
     tie.close
     (tie.spec
-    shared-slice-read-evaluate
-    slice-reshare-prefix-evaluate
-    slice-aggregate-evaluate
-    evaluate-requires
-    emit-requires
-    same-length
-    same-length-2
-    same-length-3
+    (λ c. search needs)
+    (λ c κs. search needs)
+    (λ c κs. search needs)
+    (λ c. search needs)
+    (λ c. search needs)
     returns
     thin-points-requires
-    same-length-4
-    same-length-5
-    same-length-6
+    (λ c. search needs)
+    (λ c. search needs)
     returns-2)

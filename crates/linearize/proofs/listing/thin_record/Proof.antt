@@ -1,39 +1,36 @@
--- `thin_record` meets its contract: the points are thinned with room for segments, or with none. Assumes nothing.
-use mathlib.Core.Path.{sym}
-use lib.Seq.{length-take-le}
+-- `thin_record` meets its contract: the points thinned, and the answer. Assumes nothing.
+use Rattle.stops.specs.Lent.{rampIn}
+use Rattle.gradient.specs.Ramp.{colourOf}
+use Rattle.difference.specs.Difference.{exceeds}
+use Rattle.places.specs.Places.{listOf}
+use Rattle.thinning.specs.Walk.{run}
+use Rattle.linearize.proofs.Lists.{made-list}
 use borrow.Author.Needs.{needs}
 use Rattle.linearize.proofs.listing.thin_record.Statement.{statement}
 use Rattle.linearize.proofs.listing.thin_record.Tie as tie
 
-room-for-requires : tie.Need-room-for-requires
-room-for-requires c κs = search needs
-
-array-borrow-prefix-table : tie.Need-array-borrow-prefix-table
-array-borrow-prefix-table c = search needs
-
-slice-aggregate-thin-each : tie.Need-slice-aggregate-thin-each
-slice-aggregate-thin-each c = sym (length-take-le _ _ (c .before .before .before .room-for .ensures))
-
-thin-each-requires : tie.Need-thin-each-requires
-thin-each-requires c κs = search needs
-
-same-length : tie.Need-same-length
-same-length c = search needs
-
-same-length-2 : tie.Need-same-length-2
-same-length-2 c = search needs
-
 returns : tie.Need-returns
-returns c = search needs
+returns c =
+    let at-end = c .before .before .before .before in
+    let at-list = at-end .before .before .before .before .before .before .before in
+    let at-room = at-list .before .before .before in
+    let at-start = at-room .before .before .before .before .before .before .before .before in
+    let a = at-start .args in
+    let g = colourOf (rampIn (a .kind) (a .positions) (a .channels) (a .codes)) in
+    let k = at-list .thin-all in
+    let f = at-end .finish in
+    let r = run (k .result) (k .last .1 .1 .1 .1 .1 .1 .1 .1 .1 .0) (k .last .1 .1 .1 .1 .1 .1 .1 .1 .1 .1 .0) in
+    made-list g (exceeds (a .cutoff)) (at-room .room-of .result) (listOf (a .rows .now) (a .counts .now) (a .max)) (a .out-positions .now) (a .out-channels .now) _ (at-room .room-of .ensures) r (k .ensures .ends)
+    (k .kept .1 .1 .1 .1 .1 .1 .1 .1 .1 .0) (k .kept .1 .1 .1 .1 .1 .1 .1 .1 .1 .1 .0)
+    (f .last .1 .0) (f .last .1 .1 .0) (f .result) (f .ensures .0) (f .ensures .1 .0) (f .ensures .1 .1)
 
 pub thin-record-spec : {M : Type 1} → statement M
 thin-record-spec =
     tie.close
     (tie.spec
-    room-for-requires
-    array-borrow-prefix-table
-    slice-aggregate-thin-each
-    thin-each-requires
-    same-length
-    same-length-2
+    (λ c κs. search needs)
+    (λ c κs. search needs)
+    (λ c κs. search needs)
+    (λ c. search needs)
+    (λ c. search needs)
     returns)

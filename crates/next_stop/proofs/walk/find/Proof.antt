@@ -26,17 +26,8 @@ start-of c = c .before .before .before .before .before .before
 abbrev first-of : tie.At-loop Inv-loop μ-loop → tie.After-point-at Inv-loop μ-loop
 first-of c = c .before .before .before .before .before
 
-point-at-requires : tie.Need-point-at-requires Inv-loop μ-loop
-point-at-requires c κs = tt
-
 lone-point-requires : tie.Need-lone-point-requires Inv-loop μ-loop
 lone-point-requires c κs = start-of c .pre .1
-
-next-place-requires : tie.Need-next-place-requires Inv-loop μ-loop
-next-place-requires c κs = tt
-
-point-at-requires-2 : tie.Need-point-at-requires-2 Inv-loop μ-loop
-point-at-requires-2 c κs = tt
 
 lone-point-requires-2 : tie.Need-lone-point-requires-2 Inv-loop μ-loop
 lone-point-requires-2 c κs = start-of (c .before .before .before) .pre .1
@@ -53,17 +44,8 @@ loop-holds c =
     let x = c .lone-point2 .ensures in
     started g (exceeds (a .cutoff)) (a .rows .now) (a .counts .now) (a .max) (at-start .pre .0 .0) (a .from) (at-last-kept .lone-point .result) (at-place .next-place .result) (at-start .pre .0 .1 .0) (at-start .pre .0 .1 .1) (at-place .next-place .ensures) (kept .0 ∙ at-last-kept .before .point-at .ensures, kept .1) (c .lone-point2 .result) (x .0 ∙ at-number .point-at2 .ensures, x .1)
 
-next-place-requires-2 : tie.Need-next-place-requires-2 Inv-loop μ-loop
-next-place-requires-2 c κs = tt
-
-point-at-requires-3 : tie.Need-point-at-requires-3 Inv-loop μ-loop
-point-at-requires-3 c κs = tt
-
 lone-point-requires-3 : tie.Need-lone-point-requires-3 Inv-loop μ-loop
 lone-point-requires-3 c κs = start-of (first-of (c .before .before .before .before)) .pre .1
-
-weigh-requires : tie.Need-weigh-requires Inv-loop μ-loop
-weigh-requires c κs = tt
 
 add-tried : tie.Need-add-tried Inv-loop μ-loop
 add-tried c =
@@ -145,16 +127,16 @@ find-spec =
     (tie.spec
     Inv-loop
     μ-loop
-    point-at-requires
+    (λ c κs. tt)
     lone-point-requires
-    next-place-requires
-    point-at-requires-2
+    (λ c κs. tt)
+    (λ c κs. tt)
     lone-point-requires-2
     loop-holds
-    next-place-requires-2
-    point-at-requires-3
+    (λ c κs. tt)
+    (λ c κs. tt)
     lone-point-requires-3
-    weigh-requires
+    (λ c κs. tt)
     add-tried
     returns
     loop-less

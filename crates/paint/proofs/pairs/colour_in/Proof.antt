@@ -8,18 +8,6 @@ use Rattle.paint.proofs.Searching.{placed-colour, placed-inside}
 use Rattle.paint.proofs.pairs.colour_in.Statement.{statement}
 use Rattle.paint.proofs.pairs.colour_in.Tie as tie
 
-enum-known-place : tie.Need-enum-known-place
-enum-known-place c = search needs
-
-colour-requires : tie.Need-colour-requires
-colour-requires c κs = search needs
-
-enum-told : tie.Need-enum-told
-enum-told c = search needs
-
-enum-known-place-2 : tie.Need-enum-known-place-2
-enum-known-place-2 c = search needs
-
 pair-at-requires : tie.Need-pair-at-requires
 pair-at-requires c κs = let s = c .before .before .before .before .before in let p = placed-inside (now (s .args .positions)) (now (s .args .channels)) (s .args .t) (s .pre) (c .before .place2 .given .0 .0) (c .before .place2 .given .1) in (p .0, p .1, s .pre .four)
 
@@ -39,10 +27,10 @@ pub colour-in-spec : {M : Type 1} → statement M
 colour-in-spec =
     tie.close
     (tie.spec
-    enum-known-place
-    colour-requires
-    enum-told
-    enum-known-place-2
+    (λ c. search needs)
+    (λ c κs. search needs)
+    (λ c. search needs)
+    (λ c. search needs)
     pair-at-requires
     returns
     returns-2

@@ -5,26 +5,11 @@ use Rattle.paint.proofs.Searching.{tried, at-first, at-last, at-nan, at
 use Rattle.paint.proofs.pairs.find_place.Statement.{statement}
 use Rattle.paint.proofs.pairs.find_place.Tie as tie
 
-is-between-requires : tie.Need-is-between-requires
-is-between-requires c κs = search needs
-
 returns : tie.Need-returns
 returns c = let s = c .before .before .before in tried (now (s .args .positions)) (s .args .t) (s .args .k) (s .args .span) (s .pre .0) (s .pre .1) (c .before .is-between .ensures) (c .if1 .taken)
 
-sub-last : tie.Need-sub-last
-sub-last c = search needs
-
-shared-slice-read-if2 : tie.Need-shared-slice-read-if2
-shared-slice-read-if2 c = search needs
-
 returns-2 : tie.Need-returns-2
 returns-2 c = let s = c .before .before .before .before .before in at-first (now (s .args .positions)) (s .args .t) (c .if2 .taken)
-
-mul-if3 : tie.Need-mul-if3
-mul-if3 c = search needs
-
-shared-slice-read-if3 : tie.Need-shared-slice-read-if3
-shared-slice-read-if3 c = search needs
 
 returns-3 : tie.Need-returns-3
 returns-3 c = let s = c .before .before .before .before .before .before .before in at-last (now (s .args .positions)) (s .args .t) (c .before .before .if2 .left) (c .if3 .taken)
@@ -42,13 +27,13 @@ pub find-place-spec : {M : Type 1} → statement M
 find-place-spec =
     tie.close
     (tie.spec
-    is-between-requires
+    (λ c κs. search needs)
     returns
-    sub-last
-    shared-slice-read-if2
+    (λ c. search needs)
+    (λ c. search needs)
     returns-2
-    mul-if3
-    shared-slice-read-if3
+    (λ c. search needs)
+    (λ c. search needs)
     returns-3
     returns-4
     search-requires

@@ -9,54 +9,6 @@ use Rattle.stops.proofs.Pairs.{by-kind, by-sharp, by-pair}
 use Rattle.paint.proofs.pairs.pair_at.Statement.{statement}
 use Rattle.paint.proofs.pairs.pair_at.Tie as tie
 
-sub-stop-at : tie.Need-sub-stop-at
-sub-stop-at c = search needs
-
-stop-at-requires : tie.Need-stop-at-requires
-stop-at-requires c κs = search needs
-
-stop-at-requires-2 : tie.Need-stop-at-requires-2
-stop-at-requires-2 c κs = search needs
-
-enum-told : tie.Need-enum-told
-enum-told c = search needs
-
-pair-colour-requires : tie.Need-pair-colour-requires
-pair-colour-requires c κs = search needs
-
-enum-told-2 : tie.Need-enum-told-2
-enum-told-2 c = search needs
-
-pair-colour-requires-2 : tie.Need-pair-colour-requires-2
-pair-colour-requires-2 c κs = search needs
-
-enum-told-3 : tie.Need-enum-told-3
-enum-told-3 c = search needs
-
-sub-pair-colour : tie.Need-sub-pair-colour
-sub-pair-colour c = search needs
-
-pair-colour-requires-3 : tie.Need-pair-colour-requires-3
-pair-colour-requires-3 c κs = search needs
-
-enum-told-4 : tie.Need-enum-told-4
-enum-told-4 c = search needs
-
-colour-in-requires : tie.Need-colour-in-requires
-colour-in-requires c κs = search needs
-
-enum-told-5 : tie.Need-enum-told-5
-enum-told-5 c = search needs
-
-colour-in-requires-2 : tie.Need-colour-in-requires-2
-colour-in-requires-2 c κs = search needs
-
-enum-told-6 : tie.Need-enum-told-6
-enum-told-6 c = search needs
-
-colour-in-requires-3 : tie.Need-colour-in-requires-3
-colour-in-requires-3 c κs = search needs
-
 returns : tie.Need-returns
 unfolding pairOf
 returns c = let s = c .before .before .before .before .before .before .before in let a = s .args in by-pair (a .kind) (now (a .positions)) (now (a .channels)) (a .t) (a .k) refl (c .before .before .before .before .stop-at .ensures) (c .before .before .before .stop-at2 .ensures) (by-kind (now (a .channels)) (length (now (a .positions))) (a .k) _ _ (a .t) Linear (c .before .enum-told .given .1) (c .pair-colour .ensures))
@@ -84,22 +36,22 @@ pub pair-at-spec : {M : Type 1} → statement M
 pair-at-spec =
     tie.close
     (tie.spec
-    sub-stop-at
-    stop-at-requires
-    stop-at-requires-2
-    enum-told
-    pair-colour-requires
-    enum-told-2
-    pair-colour-requires-2
-    enum-told-3
-    sub-pair-colour
-    pair-colour-requires-3
-    enum-told-4
-    colour-in-requires
-    enum-told-5
-    colour-in-requires-2
-    enum-told-6
-    colour-in-requires-3
+    (λ c. search needs)
+    (λ c κs. search needs)
+    (λ c κs. search needs)
+    (λ c. search needs)
+    (λ c κs. search needs)
+    (λ c. search needs)
+    (λ c κs. search needs)
+    (λ c. search needs)
+    (λ c. search needs)
+    (λ c κs. search needs)
+    (λ c. search needs)
+    (λ c κs. search needs)
+    (λ c. search needs)
+    (λ c κs. search needs)
+    (λ c. search needs)
+    (λ c κs. search needs)
     returns
     returns-2
     returns-3

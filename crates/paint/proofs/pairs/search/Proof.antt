@@ -6,7 +6,7 @@ use native.Mathlib.Nat.{mul-le-mul-left}
 use native.Mathlib.Omega.{arith}
 use denote.Ref.{now}
 use lib.ListN.{length}
-use Rattle.paint_segments.proofs.Guessing.{passed-over}
+use Rattle.paint.proofs.gimp.Guessing.{passed-over}
 use Rattle.paint.proofs.Searching.{Around, started, turned, ended-two, ended-one}
 use Rattle.paint.proofs.pairs.search.Statement.{statement}
 use Rattle.paint.proofs.pairs.search.Tie as tie

@@ -11,20 +11,8 @@ Inv-loop n last size₀ size = (1 ≤ size) × (size ≤ n - 1) × Power size
 abbrev μ-loop : tie.MeasureT-loop
 μ-loop n last size₀ size = n - 1 - size
 
-sub-last : tie.Need-sub-last Inv-loop μ-loop
-sub-last c = omega arith
-
 loop-holds : tie.Need-loop-holds Inv-loop μ-loop
 loop-holds c = (omega arith, omega arith, one)
-
-sub-loop : tie.Need-sub-loop Inv-loop μ-loop
-sub-loop c = omega arith
-
-add-size : tie.Need-add-size Inv-loop μ-loop
-add-size c = omega arith
-
-loop-less : tie.Need-loop-less Inv-loop μ-loop
-loop-less c = omega arith
 
 loop-again : tie.Need-loop-again Inv-loop μ-loop
 loop-again c = (omega arith, omega arith, doubled _ (c .before .loop .inv .2))
@@ -35,4 +23,4 @@ returns c = let p = c .before .loop .inv .2 in record { width = p .width; power 
 pub span-of-spec : {M : Type 1} → statement M
 span-of-spec =
     tie.close
-    (tie.spec Inv-loop μ-loop sub-last loop-holds sub-loop add-size loop-less loop-again returns)
+    (tie.spec Inv-loop μ-loop (λ c. omega arith) loop-holds (λ c. omega arith) (λ c. omega arith) (λ c. omega arith) loop-again returns)

@@ -12,19 +12,10 @@ use Rattle.paint.proofs.pairs.stop_at.Tie as tie
 abbrev stopWith : Float → Rgba → Stop
 stopWith p x = record { position = p; colour = x }
 
-mul-t4 : tie.Need-mul-t4
-mul-t4 c = search needs
-
-shared-slice-read-t6 : tie.Need-shared-slice-read-t6
-shared-slice-read-t6 c = search needs
-
-colour-requires : tie.Need-colour-requires
-colour-requires c κs = search needs
-
 returns : tie.Need-returns
 returns c =
     let a = c .before .before .before .before .args in
     ap (λ (x : Rgba). stopWith (posAt (now (a .positions)) (a .i)) x) (c .colour .ensures)
 
 pub stop-at-spec : {M : Type 1} → statement M
-stop-at-spec = tie.close (tie.spec mul-t4 shared-slice-read-t6 colour-requires returns)
+stop-at-spec = tie.close (tie.spec (λ c. search needs) (λ c. search needs) (λ c κs. search needs) returns)

@@ -12,29 +12,11 @@ Inv-loop out₀ n i₀ out i = length out ≡ length out₀
 abbrev μ-loop : tie.MeasureT-loop
 μ-loop out₀ n i₀ out i = n - i
 
-loop-holds : tie.Need-loop-holds Inv-loop μ-loop
-loop-holds c = refl
-
-byte-requires : tie.Need-byte-requires Inv-loop μ-loop
-byte-requires c κs = tt
-
-put-byte-requires : tie.Need-put-byte-requires Inv-loop μ-loop
-put-byte-requires c κs = tt
-
-add-i : tie.Need-add-i Inv-loop μ-loop
-add-i c = omega arith
-
-loop-less : tie.Need-loop-less Inv-loop μ-loop
-loop-less c = omega arith
-
 loop-again : tie.Need-loop-again Inv-loop μ-loop
 loop-again c = c .before .before .put-byte .kept .0 ∙ c .before .before .before .before .before .before .loop .inv
 
 same-length : tie.Need-same-length Inv-loop μ-loop
 same-length c = c .before .loop .inv
-
-returns : tie.Need-returns Inv-loop μ-loop
-returns c = tt
 
 pub bytes-spec : {M : Type 1} → statement M
 bytes-spec =
@@ -42,11 +24,11 @@ bytes-spec =
     (tie.spec
     Inv-loop
     μ-loop
-    loop-holds
-    byte-requires
-    put-byte-requires
-    add-i
-    loop-less
+    (λ c. refl)
+    (λ c κs. tt)
+    (λ c κs. tt)
+    (λ c. omega arith)
+    (λ c. omega arith)
     loop-again
     same-length
-    returns)
+    (λ c. tt))

@@ -18,14 +18,8 @@ pattern b h =
     over : 2139095040 < b % 2147483648 → ⊥
     over k = omega arith
 
-returns : tie.Need-returns
-returns c = search needs
-
 float-from-bits-result : tie.Need-float-from-bits-result
 float-from-bits-result c = pattern (c .before .args .bits) (c .if1 .left)
 
-returns-2 : tie.Need-returns-2
-returns-2 c = search needs
-
 pub float-of-spec : {M : Type 1} → statement M
-float-of-spec = tie.close (tie.spec returns float-from-bits-result returns-2)
+float-of-spec = tie.close (tie.spec (λ c. search needs) float-from-bits-result (λ c. search needs))

@@ -7,14 +7,8 @@ use Rattle.float.proofs.Order.{ne-self}
 use Rattle.replay.proofs.words.is_word.Statement.{statement}
 use Rattle.replay.proofs.words.is_word.Tie as tie
 
-returns : tie.Need-returns
-returns c = search needs
-
 float-to-bits-result : tie.Need-float-to-bits-result
 float-to-bits-result c = subst (λ (b : Bool). T (not b)) (sym (c .if1 .left) ∙ ne-self (c .before .args .x)) tt
 
-returns-2 : tie.Need-returns-2
-returns-2 c = search needs
-
 pub is-word-spec : {M : Type 1} → statement M
-is-word-spec = tie.close (tie.spec returns float-to-bits-result returns-2)
+is-word-spec = tie.close (tie.spec (λ c. search needs) float-to-bits-result (λ c. search needs))

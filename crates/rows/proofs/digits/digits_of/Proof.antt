@@ -21,12 +21,6 @@ abbrev μ-loop : tie.MeasureT-loop
 returns : tie.Need-returns Inv-loop μ-loop
 returns c = digits-empty (c .before .args .l .now) (c .if1 .taken)
 
-loop-holds : tie.Need-loop-holds Inv-loop μ-loop
-loop-holds c = search needs
-
-shared-slice-read-b : tie.Need-shared-slice-read-b Inv-loop μ-loop
-shared-slice-read-b c = search needs
-
 returns-2 : tie.Need-returns-2 Inv-loop μ-loop
 returns-2 c = let l = c .before .before .before in
     digits-other (l .before .before .args .l .now) (l .loop .i) (search needs) (l .loop .inv .2) (digit-low _ (c .if2 .taken))
@@ -35,31 +29,13 @@ returns-3 : tie.Need-returns-3 Inv-loop μ-loop
 returns-3 c = let l = c .before .before .before .before in
     digits-other (l .before .before .args .l .now) (l .loop .i) (search needs) (l .loop .inv .2) (digit-high _ (c .if3 .taken))
 
-cast-d : tie.Need-cast-d Inv-loop μ-loop
-cast-d c = search needs
-
 returns-4 : tie.Need-returns-4 Inv-loop μ-loop
 returns-4 c = let l = c .before .before .before .before .before in let s = l .before .before .args .l .now in
     digits-big s (omega (arith, l .loop .inv .3, value-step s (l .loop .v) (l .loop .i) (search needs), value-grows (l .loop .v * 10 + (getD s (l .loop .i) 0 - 48)) (drop (l .loop .i + 1) s)))
 
-mul-w : tie.Need-mul-w Inv-loop μ-loop
-mul-w c = search needs
-
-sub-if5 : tie.Need-sub-if5 Inv-loop μ-loop
-sub-if5 c = search needs
-
 returns-5 : tie.Need-returns-5 Inv-loop μ-loop
 returns-5 c = let l = c .before .before .before .before .before .before in let s = l .before .before .args .l .now in
     digits-big s (omega (arith, l .loop .inv .3, value-step s (l .loop .v) (l .loop .i) (search needs), value-grows (l .loop .v * 10 + (getD s (l .loop .i) 0 - 48)) (drop (l .loop .i + 1) s)))
-
-add-v : tie.Need-add-v Inv-loop μ-loop
-add-v c = search needs
-
-add-i : tie.Need-add-i Inv-loop μ-loop
-add-i c = search needs
-
-loop-less : tie.Need-loop-less Inv-loop μ-loop
-loop-less c = search needs
 
 loop-again : tie.Need-loop-again Inv-loop μ-loop
 loop-again c = let l = c .before .before .before .before .before .before in let s = l .before .before .args .l .now in
@@ -77,17 +53,17 @@ digits-of-spec =
     Inv-loop
     μ-loop
     returns
-    loop-holds
-    shared-slice-read-b
+    (λ c. search needs)
+    (λ c. search needs)
     returns-2
     returns-3
-    cast-d
+    (λ c. search needs)
     returns-4
-    mul-w
-    sub-if5
+    (λ c. search needs)
+    (λ c. search needs)
     returns-5
-    add-v
-    add-i
-    loop-less
+    (λ c. search needs)
+    (λ c. search needs)
+    (λ c. search needs)
     loop-again
     returns-6)

@@ -5,9 +5,6 @@ use borrow.Author.Needs.{needs}
 use Rattle.sampling.proofs.Sampler.new.Statement.{statement}
 use Rattle.sampling.proofs.Sampler.new.Tie as tie
 
-is-finite-requires : tie.Need-is-finite-requires
-is-finite-requires c κs = search needs
-
 returns : tie.Need-returns
 returns c = is-default _ (failed (c .if1 .taken) (c .before .is-finite .ensures))
 
@@ -21,4 +18,4 @@ returns-4 : tie.Need-returns-4
 returns-4 c = is-same _ (passed (c .before .before .if1 .left) (c .before .before .before .is-finite .ensures)) (c .before .if2 .left) (c .if3 .left)
 
 pub new-spec : {M : Type 1} → statement M
-new-spec = tie.close (tie.spec is-finite-requires returns returns-2 returns-3 returns-4)
+new-spec = tie.close (tie.spec (λ c κs. search needs) returns returns-2 returns-3 returns-4)

@@ -9,12 +9,6 @@ use Rattle.sampling.proofs.cells.edge.Tie as tie
 returns : tie.Need-returns
 returns c = past-end _ _ _ (c .if1 .taken)
 
-from-whole-requires : tie.Need-from-whole-requires
-from-whole-requires c κs = search needs
-
-from-whole-requires-2 : tie.Need-from-whole-requires-2
-from-whole-requires-2 c κs = search needs
-
 returns-2 : tie.Need-returns-2
 returns-2 c =
     let a = c .before .before .before .args in
@@ -22,4 +16,4 @@ returns-2 c =
     ∙ sym (end-is (a .min) (a .max) (a .i) (omega (arith, c .before .before .if1 .left)))
 
 pub edge-spec : {M : Type 1} → statement M
-edge-spec = tie.close (tie.spec returns from-whole-requires from-whole-requires-2 returns-2)
+edge-spec = tie.close (tie.spec returns (λ c κs. search needs) (λ c κs. search needs) returns-2)

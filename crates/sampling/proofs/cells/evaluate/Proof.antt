@@ -1,41 +1,29 @@
 -- `evaluate` meets its contract: GIMP segments, or stops at the place of t. Assumes nothing.
 use denote.Ref.{now}
-use Rattle.sampling.proofs.Tabled.{by-gimp, by-stops}
+use Rattle.sampling.proofs.Nearness.{by-gimp, by-stops}
 use borrow.Author.Needs.{needs}
 use Rattle.sampling.proofs.cells.evaluate.Statement.{statement}
 use Rattle.sampling.proofs.cells.evaluate.Tie as tie
-
-is-gimp-requires : tie.Need-is-gimp-requires
-is-gimp-requires c κs = search needs
-
-colour-at-requires : tie.Need-colour-at-requires
-colour-at-requires c κs = search needs
 
 returns : tie.Need-returns
 returns c =
     let asked = c .before .before in
     let a = asked .before .before .before .before .args in
-    by-gimp (a .kind) (now (a .positions)) (now (a .channels)) (now (a .codes)) (a .base) (now (a .table)) (a .t) (a .guess) (asked .is-gimp .ensures) (c .before .if1 .taken) (c .colour-at .ensures)
-
-find-place-requires : tie.Need-find-place-requires
-find-place-requires c κs = search needs
-
-placed-requires : tie.Need-placed-requires
-placed-requires c κs = search needs
+    by-gimp (a .kind) (now (a .positions)) (now (a .channels)) (now (a .codes)) (a .t) (a .guess) (asked .is-gimp .ensures) (c .before .if1 .taken) (c .colour-at .ensures)
 
 returns-2 : tie.Need-returns-2
 returns-2 c =
     let asked = c .before .before .before in
     let a = asked .before .before .before .before .args in
-    by-stops (a .kind) (now (a .positions)) (now (a .channels)) (now (a .codes)) (a .base) (now (a .table)) (a .t) (a .guess) (asked .is-gimp .ensures) (c .before .before .if1 .left) (c .before .find-place .ensures) (c .placed .ensures)
+    by-stops (a .kind) (now (a .positions)) (now (a .channels)) (now (a .codes)) (a .t) (a .guess) (asked .is-gimp .ensures) (c .before .before .if1 .left) (c .before .find-place .ensures) (c .placed .ensures)
 
 pub evaluate-spec : {M : Type 1} → statement M
 evaluate-spec =
     tie.close
     (tie.spec
-    is-gimp-requires
-    colour-at-requires
+    (λ c κs. search needs)
+    (λ c κs. search needs)
     returns
-    find-place-requires
-    placed-requires
+    (λ c κs. search needs)
+    (λ c κs. search needs)
     returns-2)

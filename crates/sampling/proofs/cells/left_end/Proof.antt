@@ -5,12 +5,12 @@ use Rattle.sampling.proofs.cells.left_end.Tie as tie
 returns : tie.Need-returns
 returns c =
     let at-start = c .before .before .before .before .before in
-    at-start .pre .1 .carries .start (c .before .if1 .taken)
+    (at-start .pre .1 .carries .start (c .if1 .taken), at-start .pre .1 .drawn)
 
 end-at-requires : tie.Need-end-at-requires
 end-at-requires c κs =
-    let at-start = c .before .before .before .before in
-    (at-start .pre .0, at-start .pre .1 .ready)
+    let at-start = c .before .before .before .before .before .before in
+    ((at-start .pre .0, at-start .pre .1 .fine), at-start .pre .1 .drawn)
 
 returns-2 : tie.Need-returns-2
 returns-2 c = c .end-at .ensures

@@ -8,56 +8,8 @@ use borrow.Author.Needs.{needs}
 use Rattle.sampling.proofs.cells.pair_at.Statement.{statement}
 use Rattle.sampling.proofs.cells.pair_at.Tie as tie
 
-less-requires : tie.Need-less-requires
-less-requires c κs = search needs
-
-stop-requires : tie.Need-stop-requires
-stop-requires c κs = search needs
-
-stop-requires-2 : tie.Need-stop-requires-2
-stop-requires-2 c κs = search needs
-
 enum-told : tie.Need-enum-told
 enum-told c = search needs
-
-pair-colour-requires : tie.Need-pair-colour-requires
-pair-colour-requires c κs = search needs
-
-enum-told-2 : tie.Need-enum-told-2
-enum-told-2 c = search needs
-
-pair-colour-requires-2 : tie.Need-pair-colour-requires-2
-pair-colour-requires-2 c κs = search needs
-
-enum-told-3 : tie.Need-enum-told-3
-enum-told-3 c = search needs
-
-pair-colour-requires-3 : tie.Need-pair-colour-requires-3
-pair-colour-requires-3 c κs = search needs
-
-enum-told-4 : tie.Need-enum-told-4
-enum-told-4 c = search needs
-
-left-of-requires : tie.Need-left-of-requires
-left-of-requires c κs = search needs
-
-right-of-requires : tie.Need-right-of-requires
-right-of-requires c κs = search needs
-
-pair-colour-requires-4 : tie.Need-pair-colour-requires-4
-pair-colour-requires-4 c κs = search needs
-
-enum-told-5 : tie.Need-enum-told-5
-enum-told-5 c = search needs
-
-colour-in-requires : tie.Need-colour-in-requires
-colour-in-requires c κs = search needs
-
-enum-told-6 : tie.Need-enum-told-6
-enum-told-6 c = search needs
-
-colour-in-requires-2 : tie.Need-colour-in-requires-2
-colour-in-requires-2 c κs = search needs
 
 returns : tie.Need-returns
 unfolding pairOf
@@ -101,23 +53,23 @@ pub pair-at-spec : {M : Type 1} → statement M
 pair-at-spec =
     tie.close
     (tie.spec
-    less-requires
-    stop-requires
-    stop-requires-2
+    (λ c κs. search needs)
+    (λ c κs. search needs)
+    (λ c κs. search needs)
     enum-told
-    pair-colour-requires
-    enum-told-2
-    pair-colour-requires-2
-    enum-told-3
-    pair-colour-requires-3
-    enum-told-4
-    left-of-requires
-    right-of-requires
-    pair-colour-requires-4
-    enum-told-5
-    colour-in-requires
-    enum-told-6
-    colour-in-requires-2
+    (λ c κs. search needs)
+    (λ c. search needs)
+    (λ c κs. search needs)
+    (λ c. search needs)
+    (λ c κs. search needs)
+    (λ c. search needs)
+    (λ c κs. search needs)
+    (λ c κs. search needs)
+    (λ c κs. search needs)
+    (λ c. search needs)
+    (λ c κs. search needs)
+    (λ c. search needs)
+    (λ c κs. search needs)
     returns
     returns-2
     returns-3

@@ -1,7 +1,7 @@
 -- `halve` meets its contract: the left half's points, the midpoint and the right half's are stored one after the other. The measure is what is left of the depth. Assumes nothing.
 use mathlib.Core.Path.{_∙_}
 use native.Mathlib.Omega.{arith}
-use Rattle.sampling.proofs.Tabled.{prepared-point}
+use Rattle.sampling.proofs.Nearness.{near-point}
 use borrow.Author.Needs.{needs, scaled-fits}
 use borrow.Author.Tests.{not-true, not-false}
 use lib.ListN.{length, length-set}
@@ -19,14 +19,14 @@ use Rattle.difference.proofs.stands_out.Reads as stands-out-reads
 use Rattle.sampling.proofs.halving.+halve.{statement}
 use Rattle.sampling.proofs.halving.+halve.Tie.{close}
 
-abbrev μ-halve : Measures 5 halve-kinds.ps ℕ
+abbrev μ-halve : Measures 4 halve-kinds.ps ℕ
 μ-halve κs a = a .1 .1 .1 .1 .1 .1 .1 .1 .0
 
-abbrev halve-at : ℕ → In 5 halve-kinds.ps
-halve-at t = and 5 halve-kinds.ps (is 5 halve-kinds.ps μ-halve t) halve.Pre
+abbrev halve-at : ℕ → In 4 halve-kinds.ps
+halve-at t = and 4 halve-kinds.ps (is 4 halve-kinds.ps μ-halve t) halve.Pre
 
-abbrev halve-below : ℕ → In 5 halve-kinds.ps
-halve-below t = and 5 halve-kinds.ps (falls 5 halve-kinds.ps _<_ μ-halve t) halve.Pre
+abbrev halve-below : ℕ → In 4 halve-kinds.ps
+halve-below t = and 4 halve-kinds.ps (falls 4 halve-kinds.ps _<_ μ-halve t) halve.Pre
 
 -- what is known of the calls, where every call of itself goes less deep
 abbrev calls : ℕ → halve-lts.Claims
@@ -59,7 +59,7 @@ halve-returns-2 t c =
     let evaluated = c .before .before .before in
     let tested = evaluated .before .before .before in
     let at-start = tested .before .before .before .before .before in
-    let m = prepared-point _ _ _ (at-start .pre .1 .1 .ready) _ _ _ (evaluated .evaluate .ensures) in
+    let m = near-point _ (at-start .pre .1 .1 .fine) _ _ _ (evaluated .evaluate .ensures) in
     none-kept _ _ _ _ _ _ _ (tested .if1 .left) (keeps-is _ _ (at-start .pre .1 .1 .left) (at-start .pre .1 .1 .right) (m .0) (m .1) (c .before .before .interpolate-linear .ensures) (c .before .stands-out .ensures) (not-true _ (c .if2 .taken)))
 
 halve-sub-n : (t : ℕ) → halve-lts.Need-sub-n (calls t) (halve-at t) halve.Post
@@ -71,8 +71,8 @@ halve-halve-requires t c κs =
     let tested = evaluated .before .before .before in
     let at-start = tested .before .before .before .before .before in
     let w = at-start .pre .1 .1 in
-    let m = prepared-point _ _ _ (at-start .pre .1 .1 .ready) _ _ _ (evaluated .evaluate .ensures) in
-    (omega (arith, at-start .pre .0, tested .if1 .left), (omega (arith, pow-left (at-start .args .left) (tested .if1 .left), at-start .pre .1 .0), record { ready = w .ready; left = w .left; right = m .1 }))
+    let m = near-point _ (at-start .pre .1 .1 .fine) _ _ _ (evaluated .evaluate .ensures) in
+    (omega (arith, at-start .pre .0, tested .if1 .left), (omega (arith, pow-left (at-start .args .left) (tested .if1 .left), at-start .pre .1 .0), record { fine = w .fine; left = w .left; right = m .1 }))
 
 halve-mul-row : (t : ℕ) → halve-lts.Need-mul-row (calls t) (halve-at t) halve.Post
 halve-mul-row t c =
@@ -102,19 +102,19 @@ halve-halve-requires-2 t c κs =
     let at-start = tested .before .before .before .before .before in
     let evaluated = halved .before .before .before .before .before in
     let w = at-start .pre .1 .1 in
-    let m = prepared-point _ _ _ (at-start .pre .1 .1 .ready) _ _ _ (evaluated .evaluate .ensures) in
-    (omega (arith, at-start .pre .0, tested .if1 .left), (simp length-set (omega (arith, halved .halve .kept .1 .1 .1 .1 .0, right-fits _ _ _ _ _ (at-start .args .q .t) _ (tested .if1 .left) (at-start .pre .1 .0) _ _ _ (halved .halve .ensures))), record { ready = w .ready; left = m .1; right = w .right }))
+    let m = near-point _ (at-start .pre .1 .1 .fine) _ _ _ (evaluated .evaluate .ensures) in
+    (omega (arith, at-start .pre .0, tested .if1 .left), (simp length-set (omega (arith, halved .halve .kept .1 .1 .1 .1 .0, right-fits _ _ _ _ _ (at-start .args .q .t) _ (tested .if1 .left) (at-start .pre .1 .0) _ _ _ (halved .halve .ensures))), record { fine = w .fine; left = m .1; right = w .right }))
 
-halve-add-t24 : (t : ℕ) → halve-lts.Need-add-t24 (calls t) (halve-at t) halve.Post
-halve-add-t24 t c =
+halve-add-t23 : (t : ℕ) → halve-lts.Need-add-t23 (calls t) (halve-at t) halve.Post
+halve-add-t23 t c =
     let again = c .before .before .before .before in
     let halved = again .before .before .before .before in
     let tested = halved .before .before .before .before .before .before .before .before in
     let at-start = tested .before .before .before .before .before in
     omega (arith, tries-fit _ _ _ _ _ _ _ (tested .if1 .left) (at-start .pre .1 .0) _ _ _ (halved .halve .ensures) _ _ (again .halve2 .ensures), at-start .good .1 .1 .1 .1 .0 .0)
 
-halve-add-t28 : (t : ℕ) → halve-lts.Need-add-t28 (calls t) (halve-at t) halve.Post
-halve-add-t28 t c =
+halve-add-t27 : (t : ℕ) → halve-lts.Need-add-t27 (calls t) (halve-at t) halve.Post
+halve-add-t27 t c =
     let again = c .before .before .before .before in
     let halved = again .before .before .before .before in
     let tested = halved .before .before .before .before .before .before .before .before in
@@ -134,7 +134,7 @@ halve-returns-3 t c =
     let tested = halved .before .before .before .before .before .before .before .before in
     let at-start = tested .before .before .before .before .before in
     let evaluated = halved .before .before .before .before .before in
-    let m = prepared-point _ _ _ (at-start .pre .1 .1 .ready) _ _ _ (evaluated .evaluate .ensures) in
+    let m = near-point _ (at-start .pre .1 .1 .fine) _ _ _ (evaluated .evaluate .ensures) in
     let yes = keeps-is _ _ (at-start .pre .1 .1 .left) (at-start .pre .1 .1 .right) (m .0) (m .1) (halved .before .before .before .before .interpolate-linear .ensures) (halved .before .before .before .stands-out .ensures) (not-false _ (halved .before .before .if2 .left)) in
     both-halves _ _ _ _ _ _ _ (tested .if1 .left) (at-start .pre .1 .0) _ _ _ (halved .halve .ensures) _ _ (again .halve2 .ensures) (m .0) yes
 
@@ -153,7 +153,7 @@ pub +halve-spec : {M : Type 1} → statement M
     (halve-slice-write-row t)
     (halve-add-halve t)
     (halve-halve-requires-2 t)
-    (halve-add-t24 t)
-    (halve-add-t28 t)
+    (halve-add-t23 t)
+    (halve-add-t27 t)
     (halve-same-length t)
     (halve-returns-3 t)

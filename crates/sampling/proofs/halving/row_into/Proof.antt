@@ -7,14 +7,8 @@ use borrow.Author.Needs.{needs}
 use Rattle.sampling.proofs.halving.row_into.Statement.{statement}
 use Rattle.sampling.proofs.halving.row_into.Tie as tie
 
-slice-write-row : tie.Need-slice-write-row
-slice-write-row c = search needs
-
 halve-cell-requires : tie.Need-halve-cell-requires
 halve-cell-requires c κs = (simp length-set (omega arith), c .before .before .before .before .before .pre .1)
-
-zero-from-requires : tie.Need-zero-from-requires
-zero-from-requires c κs = search needs
 
 same-length : tie.Need-same-length
 same-length c =
@@ -32,4 +26,4 @@ returns c =
 
 pub row-into-spec : {M : Type 1} → statement M
 row-into-spec =
-    tie.close (tie.spec slice-write-row halve-cell-requires zero-from-requires same-length returns)
+    tie.close (tie.spec (λ c. search needs) halve-cell-requires (λ c κs. search needs) same-length returns)

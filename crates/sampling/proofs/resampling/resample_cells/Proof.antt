@@ -1,112 +1,70 @@
--- `resample_cells` meets its contract: the cells are sampled anew with the segments of all pairs, with each cell's own, or with none. Assumes nothing.
-use Rattle.stops.proofs.Tables.{empty-window}
-use borrow.Author.Needs.{needs}
+-- `resample_cells` meets its contract: after i turns the first i cells are done, s is carried to the next, and its pair is drawn. Assumes nothing.
+use mathlib.Core.Path.{_≡_, refl, sym, _∙_}
+use Prim.Native.Nat.{_-_}
+use native.Mathlib.Omega.{arith}
+use Rattle.stops.specs.Lent.{rampOf}
+use Rattle.gradient.specs.Ramp.{colourOf}
+use Rattle.difference.specs.Difference.{exceeds}
+use Rattle.sampling.specs.Anew.{keptBy}
+use Rattle.sampling.specs.inner.Steps.{Carrying}
+use Rattle.sampling.proofs.Renewing.{Renewed, renewed-start, renewed-next, renewed}
 use Rattle.sampling.proofs.resampling.resample_cells.Statement.{statement}
 use Rattle.sampling.proofs.resampling.resample_cells.Tie as tie
 
-is-catmull-rom-requires : tie.Need-is-catmull-rom-requires
-is-catmull-rom-requires c κs = search needs
+abbrev Inv-loop : tie.InvT-loop
+Inv-loop task positions channels codes rows₀ counts₀ keep drawn₀ s₀ i₀ rows counts drawn s i =
+    Renewed (colourOf (rampOf (task .kind) positions channels codes)) (exceeds (task .cutoff)) (keptBy keep) (task .min) (task .max) rows₀ counts₀ rows counts s i × Carrying (rampOf (task .kind) positions channels codes) (s .point .pair) drawn
 
-slice-aggregate-resample-each : tie.Need-slice-aggregate-resample-each
-slice-aggregate-resample-each c = search needs
+abbrev μ-loop : tie.MeasureT-loop
+μ-loop task positions channels codes rows₀ counts₀ keep drawn₀ s₀ i₀ rows counts drawn s i = 36 - i
 
-resample-each-requires : tie.Need-resample-each-requires
-resample-each-requires c κs =
-    let at-start = c .before .before .before .before .before .before .before .before .before .before in
-    (at-start .pre .0, (at-start .pre .1, empty-window _ _ _ _))
+-- ---- the places, named once
+abbrev start-of : tie.At-loop Inv-loop μ-loop → tie.Start Inv-loop μ-loop
+start-of c = c .before .before .before .before .before .before .before
 
-same-length : tie.Need-same-length
-same-length c = search needs
+loop-holds : tie.Need-loop-holds Inv-loop μ-loop
+loop-holds c =
+    let w = c .nothing-known .ensures in
+    (renewed-start _ _ _ _ _ _ _ _ (w .0) (w .1 .0), (λ d l. absurd (omega (arith, l, w .1 .1))))
 
-same-length-2 : tie.Need-same-length-2
-same-length-2 c = search needs
+resample-cell-requires : tie.Need-resample-cell-requires Inv-loop μ-loop
+resample-cell-requires c κs =
+    let turn = c .before .before .before in
+    let at-loop = turn .before in
+    let l = at-loop .loop in
+    let at-start = start-of at-loop in
+    ((omega (arith, turn .loop-test .taken), (l .inv .0 .filled .rows-length ∙ at-start .pre .0 .0, l .inv .0 .filled .counts-length ∙ at-start .pre .0 .1)), record { fine = at-start .pre .1; drawn = l .inv .1; carries = l .inv .0 .carried })
 
-returns : tie.Need-returns
-returns c = search needs
+loop-again : tie.Need-loop-again Inv-loop μ-loop
+loop-again c =
+    let done = c .before .before .before .before in
+    let turn = done .before .before .before .before in
+    let at-loop = turn .before in
+    let l = at-loop .loop in
+    let at-start = start-of at-loop in
+    let w = done .resample-cell .ensures in
+    (renewed-next _ _ _ _ _ _ _ (at-start .pre .0 .0) (at-start .pre .0 .1) (l .rows) _ (l .counts) _ (l .s) (done .resample-cell .result) (l .i) _ refl (l .inv .0) (omega (arith, turn .loop-test .taken)) (w .0), w .1)
 
-slice-aggregate-resample-tabled : tie.Need-slice-aggregate-resample-tabled
-slice-aggregate-resample-tabled c = search needs
-
-resample-tabled-requires : tie.Need-resample-tabled-requires
-resample-tabled-requires c κs = search needs
-
-same-length-3 : tie.Need-same-length-3
-same-length-3 c = search needs
-
-same-length-4 : tie.Need-same-length-4
-same-length-4 c = search needs
-
-returns-2 : tie.Need-returns-2
-returns-2 c = search needs
-
-is-tabled-requires : tie.Need-is-tabled-requires
-is-tabled-requires c κs = search needs
-
-slice-aggregate-resample-tabled-2 : tie.Need-slice-aggregate-resample-tabled-2
-slice-aggregate-resample-tabled-2 c = search needs
-
-resample-tabled-requires-2 : tie.Need-resample-tabled-requires-2
-resample-tabled-requires-2 c κs = search needs
-
-same-length-5 : tie.Need-same-length-5
-same-length-5 c = search needs
-
-same-length-6 : tie.Need-same-length-6
-same-length-6 c = search needs
-
-returns-3 : tie.Need-returns-3
-returns-3 c = search needs
-
-slice-aggregate-cover : tie.Need-slice-aggregate-cover
-slice-aggregate-cover c = search needs
-
-cover-requires : tie.Need-cover-requires
-cover-requires c κs = empty-window _ _ _ _
-
-slice-aggregate-resample-each-2 : tie.Need-slice-aggregate-resample-each-2
-slice-aggregate-resample-each-2 c = search needs
-
-resample-each-requires-2 : tie.Need-resample-each-requires-2
-resample-each-requires-2 c κs =
-    let covered = c .before .before .before .before in
-    let asked = covered .before .before .before .before .before .before in
-    let at-start = asked .before .before .before .before .before .before in
-    (at-start .pre .0, (at-start .pre .1, covered .cover .ensures))
-
-same-length-7 : tie.Need-same-length-7
-same-length-7 c = search needs
-
-same-length-8 : tie.Need-same-length-8
-same-length-8 c = search needs
-
-returns-4 : tie.Need-returns-4
-returns-4 c = search needs
+returns : tie.Need-returns Inv-loop μ-loop
+returns c =
+    let at-loop = c .before in
+    let l = at-loop .loop in
+    let at-start = start-of at-loop in
+    renewed _ _ _ _ _ _ _ (at-start .pre .0 .0) (at-start .pre .0 .1) (l .rows) (l .counts) (l .s) (l .i) (l .inv .0) (omega (arith, c .loop-test .left))
 
 pub resample-cells-spec : {M : Type 1} → statement M
 resample-cells-spec =
     tie.close
     (tie.spec
-    is-catmull-rom-requires
-    slice-aggregate-resample-each
-    resample-each-requires
-    same-length
-    same-length-2
-    returns
-    slice-aggregate-resample-tabled
-    resample-tabled-requires
-    same-length-3
-    same-length-4
-    returns-2
-    is-tabled-requires
-    slice-aggregate-resample-tabled-2
-    resample-tabled-requires-2
-    same-length-5
-    same-length-6
-    returns-3
-    slice-aggregate-cover
-    cover-requires
-    slice-aggregate-resample-each-2
-    resample-each-requires-2
-    same-length-7
-    same-length-8
-    returns-4)
+    Inv-loop
+    μ-loop
+    (λ c κs. tt)
+    loop-holds
+    (λ c. omega arith)
+    resample-cell-requires
+    (λ c. omega arith)
+    (λ c. omega arith)
+    loop-again
+    (λ c. c .before .loop .inv .0 .filled .rows-length)
+    (λ c. c .before .loop .inv .0 .filled .counts-length)
+    returns)

@@ -8,21 +8,6 @@ use borrow.Author.Needs.{needs}
 use Rattle.segment.proofs.store.put_channels.Statement.{statement}
 use Rattle.segment.proofs.store.put_channels.Tie as tie
 
-mul-at : tie.Need-mul-at
-mul-at c = search needs
-
-put-colour-requires : tie.Need-put-colour-requires
-put-colour-requires c κs = search needs
-
-add-put-colour : tie.Need-add-put-colour
-add-put-colour c = search needs
-
-put-colour-requires-2 : tie.Need-put-colour-requires-2
-put-colour-requires-2 c κs = search needs
-
-same-length : tie.Need-same-length
-same-length c = search needs
-
 returns : tie.Need-returns
 returns c =
     let second = c .before .before in
@@ -37,10 +22,10 @@ pub put-channels-spec : {M : Type 1} → statement M
 put-channels-spec =
     tie.close
     (tie.spec
-    mul-at
-    put-colour-requires
-    add-put-colour
-    put-colour-requires-2
-    same-length
+    (λ c. search needs)
+    (λ c κs. search needs)
+    (λ c. search needs)
+    (λ c κs. search needs)
+    (λ c. search needs)
     returns
     returns-2)

@@ -8,21 +8,6 @@ use borrow.Author.Needs.{needs}
 use Rattle.segment.proofs.store.put_codes.Statement.{statement}
 use Rattle.segment.proofs.store.put_codes.Tie as tie
 
-mul-at : tie.Need-mul-at
-mul-at c = search needs
-
-put-byte-requires : tie.Need-put-byte-requires
-put-byte-requires c κs = search needs
-
-add-put-byte : tie.Need-add-put-byte
-add-put-byte c = search needs
-
-put-byte-requires-2 : tie.Need-put-byte-requires-2
-put-byte-requires-2 c κs = search needs
-
-same-length : tie.Need-same-length
-same-length c = search needs
-
 returns : tie.Need-returns
 returns c =
     let second = c .before .before in
@@ -37,10 +22,10 @@ pub put-codes-spec : {M : Type 1} → statement M
 put-codes-spec =
     tie.close
     (tie.spec
-    mul-at
-    put-byte-requires
-    add-put-byte
-    put-byte-requires-2
-    same-length
+    (λ c. search needs)
+    (λ c κs. search needs)
+    (λ c. search needs)
+    (λ c κs. search needs)
+    (λ c. search needs)
     returns
     returns-2)

@@ -8,27 +8,6 @@ use borrow.Author.Needs.{needs}
 use Rattle.segment.proofs.store.put_positions.Statement.{statement}
 use Rattle.segment.proofs.store.put_positions.Tie as tie
 
-mul-at : tie.Need-mul-at
-mul-at c = search needs
-
-put-requires : tie.Need-put-requires
-put-requires c κs = search needs
-
-add-put : tie.Need-add-put
-add-put c = search needs
-
-put-requires-2 : tie.Need-put-requires-2
-put-requires-2 c κs = search needs
-
-add-put-2 : tie.Need-add-put-2
-add-put-2 c = search needs
-
-put-requires-3 : tie.Need-put-requires-3
-put-requires-3 c κs = search needs
-
-same-length : tie.Need-same-length
-same-length c = search needs
-
 returns : tie.Need-returns
 returns c =
     let third = c .before .before in
@@ -44,12 +23,12 @@ pub put-positions-spec : {M : Type 1} → statement M
 put-positions-spec =
     tie.close
     (tie.spec
-    mul-at
-    put-requires
-    add-put
-    put-requires-2
-    add-put-2
-    put-requires-3
-    same-length
+    (λ c. search needs)
+    (λ c κs. search needs)
+    (λ c. search needs)
+    (λ c κs. search needs)
+    (λ c. search needs)
+    (λ c κs. search needs)
+    (λ c. search needs)
     returns
     returns-2)

@@ -24,23 +24,14 @@ above-zero (suc b) t n h = zero-lt-suc b
 positive : (c : tie.Then1 Inv-loop μ-loop) → 0 < c .before .before .loop .b
 positive c = let s = c .before .before in above-zero (s .loop .b) (s .before .args .t) (s .before .pre .1) (it-held (c .before .passes .ensures) (c .if1 .taken))
 
-loop-holds : tie.Need-loop-holds Inv-loop μ-loop
-loop-holds c = omega arith
-
-passes-requires : tie.Need-passes-requires Inv-loop μ-loop
-passes-requires c κs = omega arith
-
 sub-b : tie.Need-sub-b Inv-loop μ-loop
 sub-b c = positive c
 
 loop-less : tie.Need-loop-less Inv-loop μ-loop
 loop-less c = let p = positive c in omega arith
 
-loop-again : tie.Need-loop-again Inv-loop μ-loop
-loop-again c = omega arith
-
 returns : tie.Need-returns Inv-loop μ-loop
 returns c = (c .before .before .loop .inv, it-failed (c .before .passes .ensures) (c .if1 .left))
 
 pub down-to-fail-spec : {M : Type 1} → statement M
-down-to-fail-spec = tie.close (tie.spec Inv-loop μ-loop loop-holds passes-requires sub-b loop-less loop-again returns)
+down-to-fail-spec = tie.close (tie.spec Inv-loop μ-loop (λ c. omega arith) (λ c κs. omega arith) sub-b loop-less (λ c. omega arith) returns)

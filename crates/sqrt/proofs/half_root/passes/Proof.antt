@@ -11,11 +11,8 @@ use Rattle.sqrt.proofs.half_root.passes.Tie as tie
 float-from-bits-root : tie.Need-float-from-bits-root
 float-from-bits-root c = number-pattern (c .args .b) (omega arith)
 
-root-requires : tie.Need-root-requires
-root-requires c κs = search needs
-
 returns : tie.Need-returns
 returns c = ap (λ (r : Float). lt (c .before .args .t) (halved r)) (c .root .ensures)
 
 pub passes-spec : {M : Type 1} → statement M
-passes-spec = tie.close (tie.spec float-from-bits-root root-requires returns)
+passes-spec = tie.close (tie.spec float-from-bits-root (λ c κs. search needs) returns)

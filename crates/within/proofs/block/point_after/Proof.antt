@@ -2,7 +2,7 @@
 use mathlib.Core.Path.{_∙_}
 use native.Mathlib.Omega.{arith}
 use borrow.Author.Needs.{needs}
-use Rattle.sampling.proofs.Tabled.{prepared-point}
+use Rattle.sampling.proofs.Nearness.{near-point}
 use Rattle.within.proofs.Blocks.{entry-is}
 use Rattle.within.proofs.Questions.{after-past, after-in}
 use Rattle.within.proofs.block.point_after.Statement.{statement}
@@ -37,9 +37,9 @@ returns-2 c =
 
 returns-3 : tie.Need-returns-3
 returns-3 c =
-    let at-inside = c .before .before .before .before .before in
+    let at-inside = c .before .before .before .before in
     let s = start-of (at-inside .before) in
-    let p = prepared-point _ _ _ (record { fine = s .pre .0 .0; segments = record { each = λ k l. absurd (omega (arith, l)) } }) _ _ _ (c .evaluate .ensures) in
+    let p = near-point _ (s .pre .0 .0) _ _ _ (c .evaluate .ensures) in
     (p .0 ∙ after-in _ _ _ _ _ _ (s .pre .0 .1 .0) (s .pre .0 .1 .1 .1 .0) (at-inside .if1 .left), p .1)
 
 pub point-after-spec : {M : Type 1} → statement M
@@ -55,8 +55,6 @@ point-after-spec =
     (λ c. search needs)
     (λ c. search needs)
     returns-2
-    (λ c. search needs)
-    (λ c. search needs)
     (λ c. search needs)
     (λ c. search needs)
     (λ c κs. search needs)

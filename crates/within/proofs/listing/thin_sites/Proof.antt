@@ -73,7 +73,7 @@ returns c =
     let a = start-of (here k) .args in
     let e = k .step-from .ensures in
     let b = m .before .before .before .point-after in
-    going-refused (colours (here k)) (nearBy (a .offs)) (a .end .t) (a .room) (a .count) (a .ts .now) (a .marks .now) _ _ _ (l .i) (l .s) (l .w) (l .block) (l .out-positions) (l .out-channels) (l .inv) (test k .loop-test .taken) (points k) (e .points) (b .result) (b .ensures .0) (b .ensures .1) (k .step-from .result .shown) (e .shown) (m .emit .result) (m .emit .last .1 .1 .1 .0) (m .emit .last .1 .1 .1 .1 .0) (m .emit .ensures) (c .if1 .taken)
+    going-refused (colours (here k)) (nearBy (a .offs)) (a .end .t) (a .room) (a .count) (a .ts .now) (a .marks .now) _ _ _ (l .i) (l .s) (l .w) (l .block) (l .places) (l .colours) (l .inv) (test k .loop-test .taken) (points k) (e .points) (b .result) (b .ensures .0) (b .ensures .1) (k .step-from .result .shown) (e .shown) (m .emit .result) (m .emit .last .1 .1 .1 .0) (m .emit .last .1 .1 .1 .1 .0) (m .emit .ensures) (c .if1 .taken)
 
 returns-2 : tie.Need-returns-2 Inv-loop μ-loop
 returns-2 c =
@@ -84,7 +84,7 @@ returns-2 c =
     let a = start-of (here k) .args in
     let e = k .step-from .ensures in
     let b = m .before .before .before .point-after in
-    going-unshown (colours (here k)) (nearBy (a .offs)) (a .end .t) (a .room) (a .count) (a .ts .now) (a .marks .now) _ _ _ (l .i) (l .s) (l .w) (l .block) (l .out-positions) (l .out-channels) (l .inv) (test k .loop-test .taken) (points k) (e .points) (b .result) (b .ensures .0) (b .ensures .1) (k .step-from .result .shown) (e .shown) (m .emit .result) (m .emit .last .1 .1 .1 .0) (m .emit .last .1 .1 .1 .1 .0) (m .emit .ensures) (at-done .if1 .left) (not-true _ (c .if2 .taken)) _
+    going-unshown (colours (here k)) (nearBy (a .offs)) (a .end .t) (a .room) (a .count) (a .ts .now) (a .marks .now) _ _ _ (l .i) (l .s) (l .w) (l .block) (l .places) (l .colours) (l .inv) (test k .loop-test .taken) (points k) (e .points) (b .result) (b .ensures .0) (b .ensures .1) (k .step-from .result .shown) (e .shown) (m .emit .result) (m .emit .last .1 .1 .1 .0) (m .emit .last .1 .1 .1 .1 .0) (m .emit .ensures) (at-done .if1 .left) (not-true _ (c .if2 .taken)) _
 
 loop-less : tie.Need-loop-less Inv-loop μ-loop
 loop-less c = let k = stepped (c .before .before .before .before .before .before .before .before) in omega (arith, some k, few k, test k .loop-test .taken)
@@ -99,13 +99,13 @@ loop-again c =
     let a = start-of (here k) .args in
     let e = k .step-from .ensures in
     let b = m .before .before .before .point-after in
-    going-next (colours (here k)) (nearBy (a .offs)) (a .end .t) (a .room) (a .count) (a .ts .now) (a .marks .now) _ _ _ (l .i) (l .s) (l .w) (l .block) (l .out-positions) (l .out-channels) (l .inv) (test k .loop-test .taken) (points k) (e .points) (b .result) (b .ensures .0) (b .ensures .1) (k .step-from .result .shown) (e .shown) (m .emit .result) (m .emit .last .1 .1 .1 .0) (m .emit .last .1 .1 .1 .1 .0) (m .emit .ensures) _ _ (e .hand) (at-done .if1 .left) (not-false _ (at-shown .if2 .left)) (m .emit .kept .1 .1 .1 .0) (m .emit .kept .1 .1 .1 .1 .0)
+    going-next (colours (here k)) (nearBy (a .offs)) (a .end .t) (a .room) (a .count) (a .ts .now) (a .marks .now) _ _ _ (l .i) (l .s) (l .w) (l .block) (l .places) (l .colours) (l .inv) (test k .loop-test .taken) (points k) (e .points) (b .result) (b .ensures .0) (b .ensures .1) (k .step-from .result .shown) (e .shown) (m .emit .result) (m .emit .last .1 .1 .1 .0) (m .emit .last .1 .1 .1 .1 .0) (m .emit .ensures) _ _ (e .hand) (at-done .if1 .left) (not-false _ (at-shown .if2 .left)) (m .emit .kept .1 .1 .1 .0) (m .emit .kept .1 .1 .1 .1 .0)
 
 returns-3 : tie.Need-returns-3 Inv-loop μ-loop
 returns-3 c =
     let l = c .before .loop in
     let a = start-of (c .before) .args in
-    going-done (colours (c .before)) (nearBy (a .offs)) (a .end .t) (a .room) (a .count) (a .ts .now) (a .marks .now) _ _ _ (l .i) (l .s) (l .w) (l .block) (l .out-positions) (l .out-channels) (l .inv) (c .loop-test .left)
+    going-done (colours (c .before)) (nearBy (a .offs)) (a .end .t) (a .room) (a .count) (a .ts .now) (a .marks .now) _ _ _ (l .i) (l .s) (l .w) (l .block) (l .places) (l .colours) (l .inv) (c .loop-test .left)
 
 pub thin-sites-spec : {M : Type 1} → statement M
 thin-sites-spec =

@@ -1,0 +1,115 @@
+//! What people stumble over, each told by its own words, with file, line and status.
+
+mod common;
+use common::{folder, plume, plume_of};
+
+const GOOD: &str = "kind\tlinear\nstop\t0\t0\t0\t0\t1\nstop\t1\t1\t1\t1\t1\n";
+
+/// A text on standard input is checked.
+#[track_caller]
+fn check(text: &[u8], status: i32, words: &[&str]) {
+    plume_of(&["check", "-"], text).ends(status, words);
+}
+
+#[test]
+fn a_good_text_is_read_with_either_end_of_line() {
+    check(GOOD.as_bytes(), 0, &[]);
+    check(GOOD.replace('\n', "\r\n").as_bytes(), 0, &[]);
+    check(GOOD.trim_end().as_bytes(), 0, &[]);
+}
+
+#[test]
+fn the_tools_text_says_what_is_wrong() {
+    let five = "expected 'stop' and 5 numbers parted by tabs; ";
+    let with = |from: &str, to: &str| GOOD.replacen(from, to, 1).into_bytes();
+    check(
+        &[b"\xef\xbb\xbf", GOOD.as_bytes()].concat(),
+        4,
+        &["standard input:1: ", "a byte-order mark stands before it"],
+    );
+    check(&with("kind", "# sea\nkind"), 4, &[":1: ", "comments are not read: found '# sea'"]);
+    check(&with("stop\t1", "stop\t0,5"), 4, &[":3: ", five, "a number has a point, not a comma: found '0,5'"]);
+    check(&with("stop\t1\t1\t1", "stop 1 1 1"), 4, &[":3: ", five]);
+    check(b"kind\tlinear\nstop 0 0 0 0 1\n", 4, &[":2: ", five, "found spaces where tabs belong: 'stop 0 0 0 0 1'"]);
+    check(b"kind\tlinear\nstop\t0\t0\t0\t0\n", 4, &[":2: ", five, "found 4: the alpha is missing"]);
+    check(GOOD.replace('\n', "\r").as_bytes(), 4, &[":1: ", "carriage return"]);
+    check(&with("\n", "\n\n"), 4, &[":2: ", "found an empty line"]);
+    check(&with("stop\t1\t1", "stop\t1\t97%"), 4, &[":3: ", "without a percent sign: found '97%'"]);
+    check(&with("stop\t1\t1", "stop\t1\t1e-3"), 4, &[":3: ", "a number has no exponent: found '1e-3'"]);
+    check(&with("linear", "round"), 4, &[":1: ", "one of linear, smoothstep, sharp, basis, catmull-rom"]);
+    check(b"", 4, &["the file is empty"]);
+    check(b"\xff\xfek\0i\0n\0d\0", 4, &["this is UTF-16"]);
+    check(b"\x89PNG\r\n", 4, &["standard input:1: expected a GIMP gradient"]);
+}
+
+#[test]
+fn channels_of_bytes_are_warned_of_or_taken() {
+    let text = b"kind\tlinear\nstop\t0\t0\t0\t128\t1\nstop\t1\t255\t255\t255\t1\n";
+    check(text, 0, &["standard input:2: a channel is 128, and counts as 1: if channels run to 255, say --bytes"]);
+    let ran = plume_of(&["flatten", "-", "--bytes", "--to", "gdal"], text);
+    assert_eq!(ran.ends(0, &["alpha is taken as 0..1"]).text(), "0 0 0 128 255\n1 255 255 255 255\n");
+}
+
+#[test]
+fn refusals_have_their_number_and_line() {
+    plume(&["flatten", "examples/refused.tsv"])
+        .ends(3, &["plume: examples/refused.tsv:4: refused 3: ", "0.25 comes after 0.5"]);
+    check(b"kind\tlinear\nstop\t0\t0\t0\t0\t1\n", 3, &["refused 1: ", "the file has 1"]);
+    check(b"GIMP Gradient\nName: x\n1\n0 0.5 1 0 0 0 1 1 1 1 1 1 0\n", 3, &["standard input:4: refused 16: "]);
+    let edited = [GOOD, "edit\t2\t0\t0\t0\t1\n"].concat();
+    plume_of(&["flatten", "-"], edited.as_bytes()).ends(3, &["standard input:4: refused 6: "]);
+    check(b"GIMP Palette\n", 3, &["standard input:1: refused 11: "]);
+}
+
+#[test]
+fn colour_tables_say_what_is_wrong() {
+    check(b"0 0 0 0 1 255 255 255\n1 0 0 0 2 9 9 9\nB 0 0 0\n", 0, &[]);
+    check(b"0 0/0/0 0.5 9/9/9\n0.6 9/9/9 1 255/255/255\n", 4, &[":2: ", "expected a slice from 0.5 on", "found 0.6"]);
+    check(b"# COLOR_MODEL = HSV\n0 0 0 0 1 255 1 1\n", 4, &[":1: ", "expected colours of the model RGB; found 'HSV'"]);
+    check(b"0 chartreuse 1 white\n", 4, &[":1: ", "no such name of a colour is known"]);
+    check(b"0 0 0 300 1 255 255 255\n", 4, &[":1: ", "expected channels from 0 to 255; found 300"]);
+    check(b"0 0.1 0.2 0.3 1\n", 4, &[":1: ", "a stop of the tool's text has 'stop' before it"]);
+}
+
+#[test]
+fn csv_says_what_is_wrong() {
+    check(b"\xef\xbb\xbfposition,r,g,b\r\n0,0,0,0\r\n1,1,1,1\r\n", 0, &[]);
+    check(b"position\tcolor\n0\t#000000\n1\t#ffffff80\n", 0, &[]);
+    check(
+        b"position;r;g;b\n0;0;0;0,5\n1;1;1;1\n",
+        4,
+        &[":2: expected a number; a number has a point, not a comma: found '0,5'"],
+    );
+    check(b"position,r,g,b\n0,0,0,0,5\n", 4, &[":2: expected 4 fields, as in the header; found 5"]);
+    check(b"position,r,g\n0,0,0\n", 4, &[":1: expected a header"]);
+    check(b"r,g,b\n0,0,0\n", 4, &[":1: ", "found no position"]);
+    check(b"position,color\n0,blue\n", 4, &[":2: expected '#rrggbb' or '#rrggbbaa'; found 'blue'"]);
+    check(b"0,0,0,0\n1,1,1,1\n", 4, &[":1: expected a header"]);
+    check(b"position,r,g,b\n0,0,0,0\n# deep\n1,1,1,1\n", 4, &[":3: comments are not read"]);
+}
+
+#[test]
+fn files_and_words_that_are_not_there() {
+    plume(&["check", "nowhere.tsv"]).ends(2, &["plume: nowhere.tsv: "]);
+    plume(&["check", "examples"]).ends(2, &["plume: examples: "]);
+    plume(&["flatten"]).ends(2, &["a file is to be named"]);
+    plume(&["flatten", "examples/depths.tsv", "--step", "1"]).ends(2, &["flatten takes no --step"]);
+    plume(&["flatten", "examples/depths.tsv", "--to", "png"]).ends(2, &["--to wants one of text, bits"]);
+    plume(&["flatten", "examples/depths.tsv", "-t"]).ends(2, &["-t lacks what comes after it"]);
+    plume(&["flatten", "examples/depths.tsv", "-t", "0,007"]).ends(2, &["--threshold wants a number; found '0,007'"]);
+    plume(&["flatten", "examples/depths.tsv", "--domain", "1", "0"])
+        .ends(2, &["--domain wants the lesser number first"]);
+    plume(&["flatten", "examples/depths.tsv", "examples/shelf.tsv"]).ends(2, &["several files need a folder"]);
+    plume(&["flatten", "examples/depths.tsv", "-o", "/nowhere/at/all.cpt"]).ends(2, &["/nowhere/at/all.cpt"]);
+    plume(&["frob"]).ends(2, &["there is no command 'frob'"]);
+    plume(&[]).ends(2, &["plume --help"]);
+}
+
+#[test]
+fn a_file_is_not_written_over_itself() {
+    let file = folder("itself").join("sea.tsv");
+    std::fs::write(&file, GOOD).unwrap();
+    let name = file.to_str().unwrap();
+    plume(&["flatten", name, "-o", name]).ends(2, &["this would be written over itself"]);
+    assert_eq!(std::fs::read_to_string(&file).unwrap(), GOOD);
+}

@@ -1,6 +1,0 @@
-pub mod Filling
-pub mod Guessing
-pub mod Hits
-pub mod Orders
-pub mod Fitting
-pub mod Ends
