@@ -28,7 +28,7 @@ use Rattle.segment.specs.Line.{segmentOnLine}
 use Rattle.header.specs.Head.{counts, fails, orEmpty, textLines, fromCount, counted, fromThird, fromSecond, fromLines, headOf, title, nameTag}
 use Rattle.ggr.specs.File.{found, refused, joins, joinedTo, before, addSegment, segmentLines, fromHead, fitText, fileOf}
 use Rattle.numerals.specs.Written.{writable}
-use Rattle.writing.specs.Printed.{countText}
+use Rattle.text.specs.Output.{countText}
 use Rattle.ggr_writing.specs.File.{segmentBetween, segmentsFrom, segmentsOf, segmentsText, fileText, heading, listName, rises, writableColour, writableSegment, writableFrom, canWrite, Singles}
 use Rattle.ggr_writing.proofs.Parts.{Shown, shown-ascii, lines-line, count-read, count-shown}
 use Rattle.ggr_writing.proofs.Row.{Single, lineOf, line-is, line-shown, line-read, sound-colours}

@@ -19,6 +19,7 @@ pub use crate::channels::item;
 pub use crate::channels::stop;
 pub use crate::rules::check;
 pub use crate::rules::is_finite_colour;
+pub use crate::rules::is_steady;
 pub use crate::search::below;
 pub use crate::search::find_place;
 

@@ -1,14 +1,14 @@
--- `put_all` meets its contract: the first i bytes are put. Assumes nothing.
+-- `output::put_all` meets its contract: the first i bytes are put. Assumes nothing.
 use borrow.Author.Needs.{needs}
 use native.Mathlib.Omega.{arith}
 use mathlib.Core.Path.{_≡_, refl, _∙_}
 use Prim.Native.Nat.{_-_}
 use denote.Ref.{now}
 use lib.ListN.{length, take}
-use Rattle.writing.specs.Printed.{PutsFrom}
-use Rattle.writing.proofs.Texts.{from-nil, from-size, bytes-next, bytes-done}
-use Rattle.writing.proofs.put_all.Statement.{statement}
-use Rattle.writing.proofs.put_all.Tie as tie
+use Rattle.text.specs.Output.{PutsFrom}
+use Rattle.text.proofs.Putting.{from-nil, from-size, bytes-next, bytes-done}
+use Rattle.text.proofs.output.put_all.Statement.{statement}
+use Rattle.text.proofs.output.put_all.Tie as tie
 
 abbrev Inv-loop : tie.InvT-loop
 Inv-loop out₀ at text next₀ i₀ out next i = (length out ≡ length out₀) × PutsFrom out₀ out at (take i text) next

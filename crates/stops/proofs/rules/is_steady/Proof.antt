@@ -1,4 +1,4 @@
--- `sharp::is_steady` meets its contract. The loop's invariant: what is asked of the positions left is what is asked of all. Assumes nothing.
+-- `rules::is_steady` meets its contract. The loop's invariant: what is asked of the positions left is what is asked of all. Assumes nothing.
 use borrow.Author.Needs.{needs}
 use mathlib.Core.Path.{_≡_, refl, sym, _∙_}
 use mathlib.Core.Bool.{true}
@@ -8,10 +8,10 @@ use lib.ListN.{length, drop}
 use lib.Ieee.{inf, div, neg, ofBits}
 use denote.Ref.{now}
 use Rattle.float.proofs.Flags.{failed, passed}
-use Rattle.sharp_ramp.specs.Sharp.{steady}
-use Rattle.sharp_ramp.proofs.Laws.{steady-infinite, steady-falls, steady-next, steady-end}
-use Rattle.sharp_ramp.proofs.is_steady.Statement.{statement}
-use Rattle.sharp_ramp.proofs.is_steady.Tie as tie
+use Rattle.stops.specs.Stops.{steady}
+use Rattle.stops.proofs.Steady.{steady-infinite, steady-falls, steady-next, steady-end}
+use Rattle.stops.proofs.rules.is_steady.Statement.{statement}
+use Rattle.stops.proofs.rules.is_steady.Tie as tie
 
 abbrev Inv-loop : tie.InvT-loop
 Inv-loop positions max prev₀ j₀ prev j = (j ≤ length positions) × (steady max prev (drop j positions) ≡ steady max (inf true) positions)

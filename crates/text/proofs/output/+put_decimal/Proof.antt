@@ -2,16 +2,16 @@
 use borrow.Author.Needs.{needs}
 use native.Mathlib.Omega.{arith}
 use denote.Ref.{now}
-use Rattle.writing.proofs.Texts.{decimal-none, decimal-last, decimal-more}
+use Rattle.text.proofs.Putting.{decimal-none, decimal-last, decimal-more}
 use Prim.Native.Nat.{ℕ, _<_}
 use borrow.Fn.Kinds.{In}
 use borrow.Fn.PlainCycle.{Measures, is, falls, and}
-use Rattle.writing.proofs.put_decimal.Reads as put-decimal
-use Rattle.writing.proofs.put_decimal.Kinds as put-decimal-kinds
-use Rattle.writing.proofs.+put_decimal.Lts-put_decimal as put-decimal-lts
-use Rattle.writing.proofs.put.Reads as put-reads
-use Rattle.writing.proofs.+put_decimal.{statement}
-use Rattle.writing.proofs.+put_decimal.Tie.{close}
+use Rattle.text.proofs.output.put_decimal.Reads as put-decimal
+use Rattle.text.proofs.output.put_decimal.Kinds as put-decimal-kinds
+use Rattle.text.proofs.output.+put_decimal.Lts-put_decimal as put-decimal-lts
+use Rattle.text.proofs.output.put.Reads as put-reads
+use Rattle.text.proofs.output.+put_decimal.{statement}
+use Rattle.text.proofs.output.+put_decimal.Tie.{close}
 
 abbrev μ-put-decimal : Measures 1 put-decimal-kinds.ps ℕ
 μ-put-decimal κs a = a .1 .1 .1 .0

@@ -1,9 +1,9 @@
--- `put` meets its contract: a store past the end is none. Assumes nothing.
+-- `output::put` meets its contract: a store past the end is none. Assumes nothing.
 use borrow.Author.Needs.{needs}
 use native.Mathlib.Omega.{arith}
-use Rattle.writing.proofs.Texts.{put-out}
-use Rattle.writing.proofs.put.Statement.{statement}
-use Rattle.writing.proofs.put.Tie as tie
+use Rattle.text.proofs.Putting.{put-out}
+use Rattle.text.proofs.output.put.Statement.{statement}
+use Rattle.text.proofs.output.put.Tie as tie
 
 slice-write-out : tie.Need-slice-write-out
 slice-write-out c = search needs
