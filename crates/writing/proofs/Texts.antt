@@ -11,7 +11,7 @@ use lib.Ieee.{Float, binary32, toBits}
 use Rattle.blend.specs.declared.Stop.{Stop}
 use Rattle.stops.specs.Stops.{stopAt}
 use Rattle.text.specs.Output.{mostPlace, PutsFrom, countText, Puts}
-use Rattle.text.proofs.Putting.{from-nil, from-as, puts-then, length-decimal}
+use Rattle.text.proofs.Putting.{from-nil, from-as, puts-then, length-decimal, whole, puts-as}
 use Rattle.writing.specs.Printed.{hexDigit, hexOf, fieldText, stopText, rowsText, stopsWord, evaluationsWord, listText, replyText}
 use Rattle.writing.specs.declared.Reply.{Reply}
 use Rattle.writing.proofs.Lengths.{length-list}
