@@ -1,3 +1,4 @@
 -- Laws that belong to no one function.
 pub mod Bytes
 pub mod Lines
+pub mod Characters

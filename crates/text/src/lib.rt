@@ -5,6 +5,8 @@ ghost use lib.ListN.{length, take, drop};
 ghost use Rattle.text.specs.Text.{every, ascii, unmark, white, same, starts, trim, trimEnd};
 ghost use Rattle.text.specs.Places.{inClass, span, LineAt};
 
+pub mod utf8;
+
 const TAB: u8 = 9;
 
 const LF: u8 = 10;
