@@ -9,15 +9,15 @@ use Rattle.segment.proofs.built.Tie as tie
 
 returns : tie.Need-returns
 returns c = let v = c .before in let a = v .before .before .before .before .before .args in
-    build-invalid (a .fg) (a .bg) _ _ _ _ _ (v .before .before .before .before .code .ensures) (v .before .before .before .code2 .ensures) (v .before .before .code3 .ensures) (v .before .code4 .ensures) (failed (c .if1 .taken) (v .valid-codes .ensures))
+    build-invalid (a .rules) (a .fg) (a .bg) _ _ _ _ _ (v .before .before .before .before .code .ensures) (v .before .before .before .code2 .ensures) (v .before .before .code3 .ensures) (v .before .code4 .ensures) (failed (c .if1 .taken) (v .valid-codes .ensures))
 
 returns-2 : tie.Need-returns-2
 returns-2 c = let k = c .before in let e = k .before .before .before in let v = e .before in let a = v .before .before .before .before .before .args in
-    build-valid (a .fg) (a .bg) _ _ _ _ _ (v .before .before .before .before .code .ensures) (v .before .before .before .code2 .ensures) (v .before .before .code3 .ensures) (v .before .code4 .ensures) (passed (e .if1 .left) (v .valid-codes .ensures)) _ _ (k .before .before .colour .ensures) (k .before .colour2 .ensures) (sym (k .is-carried .ensures) ∙ c .if2 .taken)
+    build-valid (a .rules) (a .fg) (a .bg) _ _ _ _ _ (v .before .before .before .before .code .ensures) (v .before .before .before .code2 .ensures) (v .before .before .code3 .ensures) (v .before .code4 .ensures) (passed (e .if1 .left) (v .valid-codes .ensures)) _ _ (k .before .before .colour .ensures) (k .before .colour2 .ensures) (sym (k .is-carried-by .ensures) ∙ c .if2 .taken)
 
 returns-3 : tie.Need-returns-3
 returns-3 c = let k = c .before in let e = k .before .before .before in let v = e .before in let a = v .before .before .before .before .before .args in
-    build-not (a .fg) (a .bg) _ _ _ _ _ (v .before .before .before .before .code .ensures) (v .before .before .before .code2 .ensures) (v .before .before .code3 .ensures) (v .before .code4 .ensures) (passed (e .if1 .left) (v .valid-codes .ensures)) _ _ (k .before .before .colour .ensures) (k .before .colour2 .ensures) (sym (k .is-carried .ensures) ∙ c .if2 .left)
+    build-not (a .rules) (a .fg) (a .bg) _ _ _ _ _ (v .before .before .before .before .code .ensures) (v .before .before .before .code2 .ensures) (v .before .before .code3 .ensures) (v .before .code4 .ensures) (passed (e .if1 .left) (v .valid-codes .ensures)) _ _ (k .before .before .colour .ensures) (k .before .colour2 .ensures) (sym (k .is-carried-by .ensures) ∙ c .if2 .left)
 
 pub built-spec : {M : Type 1} → statement M
 built-spec =
