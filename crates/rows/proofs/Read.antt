@@ -1,7 +1,7 @@
--- The numbers of words or fields: how many, the first of them, and that each is finite. Assumes nothing.
+-- The numbers of words or fields: how many, the first of them, that each is finite, and that those read short are read long. Assumes nothing.
 use Prim.Native.Nat.{ℕ, zero, suc, _<_}
 use native.Mathlib.Omega.{arith}
-use mathlib.Core.Path.{_≡_, refl, sym, ap, _∙_}
+use mathlib.Core.Path.{_≡_, refl, sym, ap, ap₂, _∙_}
 use mathlib.Core.Bool.{Bool, true, false, cond, true≢false}
 use mathlib.Core.List.{List, [], _∷_}
 use lib.ListN.{length, getD}
@@ -75,6 +75,28 @@ formed-finite : (form : Form) (w : List ℕ) → tokenFinite (tokenOf form w) �
 unfolding tokenOf
 formed-finite Short w = token-finite w
 formed-finite Long w = only-finite (readOf w)
+
+-- ---- what is read short is read long, and the same
+only-same : (x : Float) → finite x ≡ true → finiteOnly (Number x) ≡ Number x
+unfolding finiteOnly
+only-same x h = rw h
+
+token-same : (w : List ℕ) (x : Float) → tokenOf Short w ≡ Number x → tokenOf Long w ≡ Number x
+unfolding tokenOf
+token-same w x e = ap finiteOnly e ∙ only-same x (sym (ap tokenFinite e) ∙ token-finite w)
+
+add-same : (t : Token) (u : Token) (ns ms : Numbers) (xs : List Float) → ((x : Float) → t ≡ Number x → u ≡ Number x) → ((ys : List Float) → ns ≡ all ys → ms ≡ all ys)
+    → addNumber t ns ≡ all xs → addNumber u ms ≡ all xs
+unfolding addNumber
+add-same (Number x) u (all ys) ms xs f g h = ap₂ addNumber (f x refl) (g ys refl) ∙ h
+add-same (Number x) u none ms xs f g h = absurd (true≢false (sym (ap isAll h)))
+add-same NoNumber u (all ys) ms xs f g h = absurd (true≢false (sym (ap isAll h)))
+add-same NoNumber u none ms xs f g h = absurd (true≢false (sym (ap isAll h)))
+
+pub numbers-same : (ws : List (List ℕ)) (xs : List Float) → numbers Short ws ≡ all xs → numbers Long ws ≡ all xs
+unfolding numbers
+numbers-same [] xs h = h
+numbers-same (w ∷ ws) xs h = add-same (tokenOf Short w) (tokenOf Long w) (numbers Short ws) (numbers Long ws) xs (token-same w) (numbers-same ws) h
 
 pub numbers-finite : (form : Form) (ws : List (List ℕ)) → Finite (numbers form ws)
 unfolding Finite numbers

@@ -16,7 +16,7 @@ use Rattle.segment.specs.declared.SegmentRead.{SegmentRead}
 use Rattle.segment.specs.declared.SegmentRead.the-variants.{Valid, Fault}
 use Rattle.segment.specs.Line.{carriedBy, codeOf, validCodes, endColour, judge, build, fromNumbers, segmentOnLine}
 
-no-segment : {X : Type 0} {g : Segment} {o : SegmentRead} {a : ℕ} → o ≡ Valid g → o ≡ Fault a → X
+pub no-segment : {X : Type 0} {g : Segment} {o : SegmentRead} {a : ℕ} → o ≡ Valid g → o ≡ Fault a → X
 no-segment e f = absurd (let z : _≡_ {A = ℕ} 0 1 = cc in omega arith)
 
 judged : (rules : Rules) (h g : Segment) → judge rules h ≡ Valid g → carriedBy rules g ≡ true
