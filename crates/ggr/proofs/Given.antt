@@ -40,11 +40,11 @@ pub record Given (rules : Rules) (room : ℕ) (gs : List Segment) : Type 0 where
   pub kinds : allCarried rules gs ≡ true
   pub order : orderly f0 gs ≡ true
 
-no-file : {X : Type 0} {gs : List Segment} {o : FileRead} {a b : ℕ} → o ≡ found gs → o ≡ refused a b → X
+pub no-file : {X : Type 0} {gs : List Segment} {o : FileRead} {a b : ℕ} → o ≡ found gs → o ≡ refused a b → X
 no-file e f = absurd (let z : _≡_ {A = ℕ} 0 1 = cc in omega arith)
 
 -- a test that leads on, or to a refusal
-passed-test : (t : Bool) (o : FileRead) (a b : ℕ) (gs : List Segment) → cond t o (refused a b) ≡ found gs → (t ≡ true) × (o ≡ found gs)
+pub passed-test : (t : Bool) (o : FileRead) (a b : ℕ) (gs : List Segment) → cond t o (refused a b) ≡ found gs → (t ≡ true) × (o ≡ found gs)
 passed-test true o a b gs e = (refl, e)
 passed-test false o a b gs e = no-file e refl
 
