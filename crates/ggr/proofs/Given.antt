@@ -15,6 +15,7 @@ use Rattle.gradient.specs.declared.gimp.Segment.{Segment}
 use Rattle.segment.specs.declared.SegmentRead.{SegmentRead}
 use Rattle.segment.specs.declared.SegmentRead.the-variants.{Valid, Fault}
 use Rattle.segment.specs.Line.{segmentOnLine}
+use Rattle.stops.specs.declared.Kind.the-variants.{Gimp}
 use Rattle.gradient.specs.Gimp.{carriedOf}
 use Rattle.segment.proofs.Carried.{line-carried}
 use Rattle.header.specs.Head.{Head, counts, fails, headOf}
@@ -26,7 +27,7 @@ use Rattle.ggr.proofs.Weighing.{weighs}
 -- each segment is of a kind carried
 unfoldable pub allCarried : List Segment → Bool
 allCarried [] = true
-allCarried (g ∷ gs) = carriedOf g && allCarried gs
+allCarried (g ∷ gs) = carriedOf Gimp g && allCarried gs
 
 -- each segment joins the one before, which ends at `end`, and the last ends at 1
 unfoldable pub orderly : Float → List Segment → Bool
@@ -55,7 +56,7 @@ record Run (end : Float) (n : ℕ) (gs : List Segment) : Type 0 where
   kinds : allCarried gs ≡ true
   order : orderly end gs ≡ true
 
-ahead : (end : Float) (n : ℕ) (g : Segment) (o : FileRead) → carriedOf g ≡ true → joins end g ≡ true
+ahead : (end : Float) (n : ℕ) (g : Segment) (o : FileRead) → carriedOf Gimp g ≡ true → joins end g ≡ true
     → ((hs : List Segment) → o ≡ found hs → Run (g .right) n hs) → (gs : List Segment) → before g o ≡ found gs → Run end (suc n) gs
 unfolding before allCarried orderly
 ahead end n g (found hs) c j ih gs e =
@@ -68,7 +69,7 @@ ahead end n g (found hs) c j ih gs e =
     }
 ahead end n g (refused a b) c j ih gs e = no-file e refl
 
-module _ (end : Float) (n line : ℕ) (l : SegmentRead) (rest : Segment → FileRead) (c : (g : Segment) → l ≡ Valid g → carriedOf g ≡ true)
+module _ (end : Float) (n line : ℕ) (l : SegmentRead) (rest : Segment → FileRead) (c : (g : Segment) → l ≡ Valid g → carriedOf Gimp g ≡ true)
     (ih : (g : Segment) (hs : List Segment) → rest g ≡ found hs → Run (g .right) n hs) where
   added : (r : SegmentRead) → r ≡ joinedTo end l → (gs : List Segment) → addSegment line r rest ≡ found gs → Run end (suc n) gs
   unfolding addSegment

@@ -14,7 +14,7 @@ use Rattle.refusals.specs.Limits.{mostSegments}
 use Rattle.float.proofs.Flags.{both-l, both-r}
 use Rattle.float.specs.F32.{_⊖_, f1, epsilon}
 use Rattle.sine.specs.Wave.{waveOf}
-use Rattle.curve.specs.Curve.{factorOf}
+use Rattle.curve.specs.Factor.{factorOf}
 use Rattle.hsv.specs.Mix.{thereAndBack, counterClockwise, clockwise}
 use Rattle.blend.specs.Blend.{linear, black}
 use Rattle.blend.specs.Finite.{allFinite}
@@ -120,6 +120,16 @@ pub bent-not : (k : ℕ) (f : Float) → (k ≡ increasingCode → ⊥) → (k �
 unfolding bent
 bent-not k f a b = simp (ne-eqb k increasingCode a, ne-eqb k decreasingCode b)
 
+either-one : (h c : Bool) → (h || c) ≡ true → (x y w : Rgba) → cond h x y ≡ cond h x (cond c y w)
+either-one true c e x y w = refl
+either-one false true e x y w = refl
+either-one false false e x y w = absurd (true≢false (sym e))
+
+neither-one : (h c : Bool) → (h || c) ≡ false → (x y w : Rgba) → w ≡ cond h x (cond c y w)
+neither-one true c e x y w = absurd (true≢false e)
+neither-one false true e x y w = absurd (true≢false e)
+neither-one false false e x y w = refl
+
 module _ (g : Segment) (pivot place : Float) where
   pub step-right : g .blending ≡ stepCode → le pivot place ≡ true → g .rcolor ≡ unwaved g pivot place
   unfolding unwaved
@@ -182,21 +192,11 @@ module _ (g : Segment) (pivot place : Float) where
   module _ {b : Bool} {z : Rgba} (a : b ≡ isCostly (g .blending) (g .colouring)) where
     pub by-cost : b ≡ true → z ≡ costly g pivot place → z ≡ blended g pivot place
     unfolding costly blended
-    by-cost e z = z ∙ go (isHued (g .colouring)) (eqb (g .blending) curvedCode) (sym a ∙ e)
-      where
-        go : (h c : Bool) → (h || c) ≡ true → {x y w : Rgba} → cond h x y ≡ cond h x (cond c y w)
-        go true c e = refl
-        go false true e = refl
-        go false false e = absurd (true≢false (sym e))
+    by-cost e z = z ∙ either-one (isHued (g .colouring)) (eqb (g .blending) curvedCode) (sym a ∙ e) _ _ _
 
-    plain : b ≡ false → {w : Rgba} → w ≡ cond (eqb (g .blending) sinusoidalCode) (waved g pivot place) (unwaved g pivot place) → w ≡ blended g pivot place
+    plain : b ≡ false → z ≡ cond (eqb (g .blending) sinusoidalCode) (waved g pivot place) (unwaved g pivot place) → z ≡ blended g pivot place
     unfolding blended
-    plain e q = q ∙ go (isHued (g .colouring)) (eqb (g .blending) curvedCode) (sym a ∙ e)
-      where
-        go : (h c : Bool) → (h || c) ≡ false → {x y w : Rgba} → w ≡ cond h x (cond c y w)
-        go true c e = absurd (true≢false e)
-        go false true e = absurd (true≢false e)
-        go false false e = refl
+    plain e q = q ∙ neither-one (isHued (g .colouring)) (eqb (g .blending) curvedCode) (sym a ∙ e) _ _ _
 
     pub by-wave : b ≡ false → g .blending ≡ sinusoidalCode → z ≡ waved g pivot place → z ≡ blended g pivot place
     by-wave e d z = plain e (z ∙ simp (eq-eqb (g .blending) sinusoidalCode d))

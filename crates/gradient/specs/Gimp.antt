@@ -12,7 +12,7 @@ use Rattle.refusals.specs.Limits.{mostSegments}
 use Rattle.float.specs.F32.{_⊕_, _⊖_, _⊗_, _⊘_, f0, f1, half, epsilon}
 use Rattle.sqrt.specs.Root.{rootOf}
 use Rattle.sine.specs.Wave.{waveOf}
-use Rattle.curve.specs.Curve.{factorOf}
+use Rattle.curve.specs.Factor.{factorOf}
 use Rattle.hsv.specs.Mix.{thereAndBack, counterClockwise, clockwise}
 use Rattle.blend.specs.Blend.{linear, black}
 use Rattle.blend.specs.Finite.{allFinite}

@@ -18,6 +18,7 @@ use Rattle.float.specs.Number.{wholeOf}
 use Rattle.blend.specs.declared.Rgba.{Rgba}
 use Rattle.gradient.specs.declared.gimp.Segment.{Segment}
 use Rattle.segment.specs.declared.SegmentRead.the-variants.{Valid, Fault}
+use Rattle.stops.specs.declared.Kind.the-variants.{Gimp}
 use Rattle.gradient.specs.Gimp.{carriedOf}
 use Rattle.segment.specs.Line.{cut, codeOf, validCodes, endColour, judge, build}
 
@@ -53,10 +54,10 @@ module _ (fg bg : Rgba) (d : List Float) (b k l r : ℕ)
     unfolding build
     by = rw (← eb, ← ek, ← el, ← er, h, ← ep, ← eq)
 
-    pub build-valid : carriedOf (segmentBy p q) ≡ true → Valid (segmentBy p q) ≡ build fg bg d
+    pub build-valid : carriedOf Gimp (segmentBy p q) ≡ true → Valid (segmentBy p q) ≡ build fg bg d
     unfolding judge
     build-valid c = sym (ap (λ (t : Bool). cond t (Valid (segmentBy p q)) (Fault notCarried)) c) ∙ by
 
-    pub build-not : carriedOf (segmentBy p q) ≡ false → Fault notCarried ≡ build fg bg d
+    pub build-not : carriedOf Gimp (segmentBy p q) ≡ false → Fault notCarried ≡ build fg bg d
     unfolding judge
     build-not c = sym (ap (λ (t : Bool). cond t (Valid (segmentBy p q)) (Fault notCarried)) c) ∙ by

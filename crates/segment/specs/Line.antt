@@ -11,6 +11,7 @@ use Rattle.refusals.specs.Refusals.{badSegment, notCarried}
 use Rattle.float.specs.F32.{f0}
 use Rattle.float.specs.Number.{wholeOf}
 use Rattle.blend.specs.declared.Rgba.{Rgba}
+use Rattle.stops.specs.declared.Kind.the-variants.{Gimp}
 use Rattle.gradient.specs.Gimp.{carriedOf}
 use Rattle.gradient.specs.declared.gimp.Segment.{Segment}
 use Rattle.segment.specs.declared.SegmentRead.{SegmentRead}
@@ -45,7 +46,7 @@ endColour code own fg bg =
 
 -- of a kind that is carried: not curved, and if sinusoidal with a middle that is not outside its ends; or 16
 unfoldable pub judge : Segment → SegmentRead
-judge g = cond (carriedOf g) (Valid g) (Fault notCarried)
+judge g = cond (carriedOf Gimp g) (Valid g) (Fault notCarried)
 
 -- of 15 numbers: left, middle and right position; four left channels; four right; blending; colouring; left and right colour code
 unfoldable pub build : Rgba → Rgba → List Float → SegmentRead

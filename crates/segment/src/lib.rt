@@ -6,6 +6,7 @@ use refusals::BAD_SEGMENT;
 use refusals::NOT_CARRIED;
 use rows::Parting;
 use rows::row_at;
+use stops::Kind;
 ghost use mathlib.Core.Path.{_≡_};
 ghost use Rattle.segment.specs.Line.{codeOf, validCodes, withoutAlpha, endColour, build, SegmentAt};
 ghost use Rattle.segment.specs.inner.Steps.{segmentLength};
@@ -113,7 +114,7 @@ fn built(d: [f32; 15], fg: Rgba, bg: Rgba) -> SegmentRead
         blending,
         colouring,
     };
-    if gimp::is_carried(blending, colouring, g.left, g.middle, g.right) {
+    if gimp::is_carried(Kind::Gimp, blending, colouring, g.left, g.middle, g.right) {
         return SegmentRead::Valid(g);
     }
     SegmentRead::Fault(NOT_CARRIED)
