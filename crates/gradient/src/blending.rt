@@ -90,7 +90,7 @@ pub fn blend_wave(g: Segment, pivot: f32, place: f32) -> Rgba
 }
 
 // The same of a curved segment, for the same reason. A middle too near an end leaves no curve.
-pub fn blend_curve(g: Segment, pivot: f32, place: f32) -> Rgba
+pub(crate) fn blend_curve(g: Segment, pivot: f32, place: f32) -> Rgba
     ensures { λ r. ⌜ r ≡ curved g pivot place ⌝ }
 {
     if pivot < EPSILON {

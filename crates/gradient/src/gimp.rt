@@ -15,13 +15,10 @@ ghost use Rattle.refusals.specs.Limits.{mostSegments};
 ghost use Rattle.stops.specs.Answers.{Checks};
 ghost use Rattle.gradient.specs.Gimp.{segments, inOrder, takesCurved, asksMiddle, carried, carriedAt, allCarried, gimpShaped, gimpCheck, segmentFound, gimpSegment, offDomain, gimpColour};
 pub use crate::blending::blend;
-pub use crate::blending::blend_curve;
 pub use crate::blending::blend_wave;
 pub use crate::blending::place_along;
 pub use crate::hued::blend_costly;
-pub use crate::hued::blend_hued;
 pub use crate::hued::is_costly;
-pub use crate::hued::is_hued;
 
 // The codes carried: of blending, and of colouring.
 pub const LINEAR: u8 = 0;

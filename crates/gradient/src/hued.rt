@@ -15,7 +15,7 @@ ghost use mathlib.Core.Path.{_≡_};
 ghost use Rattle.hsv.specs.Mix.{thereAndBack};
 ghost use Rattle.gradient.specs.Gimp.{isHued, uncurved, turned, curvedBy, hued, isCostly, costly};
 
-pub fn is_hued(colouring: u8) -> bool
+fn is_hued(colouring: u8) -> bool
     ensures { λ r. ⌜ r ≡ isHued colouring ⌝ }
 {
     if colouring == HSV_COUNTER_CLOCKWISE {
@@ -57,7 +57,7 @@ fn curve_hued(g: Segment, pivot: f32, place: f32) -> Rgba
     turn(g.colouring, g.lcolor, g.rcolor, f)
 }
 
-pub fn blend_hued(g: Segment, pivot: f32, place: f32) -> Rgba
+fn blend_hued(g: Segment, pivot: f32, place: f32) -> Rgba
     ensures { λ r. ⌜ r ≡ hued g pivot place ⌝ }
 {
     if g.blending == STEP {
