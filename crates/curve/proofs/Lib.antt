@@ -1,0 +1,5 @@
+pub mod Sums
+pub mod Inside
+pub mod Deeper
+pub mod Falling
+pub mod Tested
