@@ -3,3 +3,4 @@ pub mod Inside
 pub mod Deeper
 pub mod Falling
 pub mod Tested
+pub mod Rising
