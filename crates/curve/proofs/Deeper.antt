@@ -1,5 +1,5 @@
 -- The depth lies from above zero on, and never grows as the number does: within a power of two by its part, and from one to the next since the part is at most 1. Assumes nothing.
-use mathlib.Core.Path.{_≡_, refl, sym, ap, _∙_, subst}
+use mathlib.Core.Path.{_≡_, refl, sym, subst}
 use mathlib.Core.Logic.{inl, inr}
 use Prim.Native.Nat.{ℕ, suc, _+_, _-_, _/_, _%_, _^_, _≤_, _<_}
 use native.Mathlib.Nat.{lt-of-not-le, eq-or-lt-of-le}
@@ -12,7 +12,7 @@ use lib.Ieee.Scale.{finite}
 use borrow.Author.Tests.{lt-ltb, le-ltb}
 use Rattle.float.specs.F32.{_⊕_, _⊗_, f0, f1}
 use Rattle.float.specs.Number.{countOf}
-use Rattle.float.proofs.Order.{le-trans, le-refl, no-nan-l, finite-between}
+use Rattle.float.proofs.Order.{le-trans, finite-between}
 use Rattle.float.proofs.PatternOrder.{at, pattern-mono}
 use Rattle.float.proofs.Rounding.{add-mono}
 use Rattle.float.proofs.Wholes.{count-held, count-mono, count-sum}

@@ -7,17 +7,17 @@ use native.Mathlib.Nat.{eq-or-lt-of-le, not-suc-le-zero}
 use native.Mathlib.Omega.{arith}
 use lib.Dec.{T}
 use lib.IntN.{pos, natAbs}
-use lib.Ieee.{Float, binary32, isNan, ofBits, ofInt, toSigned, le, add, sub, mul}
+use lib.Ieee.{Float, isNan, ofBits, ofInt, toSigned, le, add, sub, mul}
 use lib.Ieee.Bits.{is-true}
 use lib.Ieee.Fits.{and-l, and-r}
 use lib.Ieee.Scale.{finite}
-use Rattle.float.specs.F32.{_⊕_, _⊖_, _⊗_, f0, f1, f2, half}
+use Rattle.float.specs.F32.{_⊖_, _⊗_, f0, f1, f2, half}
 use Rattle.float.specs.Number.{countOf, wholeOf}
-use Rattle.float.proofs.Order.{le-trans, le-refl, le-total, no-nan-r, finite-between}
+use Rattle.float.proofs.Order.{le-trans, le-total, no-nan-r, finite-between}
 use Rattle.float.proofs.PatternOrder.{at, pattern-le}
 use Rattle.float.proofs.Rounding.{sub-mono, sub-rising}
 use Rattle.float.proofs.Wholes.{count-held, count-mono, whole-is, whole-mono, at-least, left-least, left-most}
-use Rattle.float.proofs.Chains.{Chain, first-finite, second-finite, chain-same, chain-product}
+use Rattle.float.proofs.Chains.{Chain, chain-product}
 use Rattle.curve.specs.Factor.{powerOf, loweredOf, bottom, fallOf}
 use Rattle.curve.proofs.Sums.{power-chain, power-whole, power-none}
 

@@ -1,6 +1,6 @@
 -- A number strictly between 0 and 1 by its pattern, and the 2^24th multiple of a subnormal one. Assumes nothing.
 use mathlib.Core.Path.{_≡_, refl, sym, ap, _∙_, subst}
-use mathlib.Core.Bool.{true, false, true≢false}
+use mathlib.Core.Bool.{true≢false}
 use Prim.Native.Nat.{ℕ, zero, suc, _/_, _^_, _≤_, _<_}
 use native.Mathlib.Nat.{lt-of-not-le, zero-lt-suc}
 use native.Mathlib.Decide.{decLe}
@@ -9,12 +9,10 @@ use lib.Dec.{T, lit<}
 use lib.Ieee.{Float, binary32, fits, ofBits, toBits, lt, le, mul}
 use lib.Ieee.Bits.{is-true}
 use lib.Ieee.Fits.{mul-fits}
-use lib.Ieee.Scale.{finite}
 use Rattle.float.specs.F32.{_⊗_, f0, f1}
 use Rattle.float.specs.Units.{plain}
 use Rattle.float.proofs.Order.{lt→le, le→not-lt, lt-irrefl, finite-between}
 use Rattle.float.proofs.PatternOrder.{at, pattern-le, pattern-back, pattern-under, pattern-mono}
-use Rattle.float.proofs.SignedRound.{pro}
 use Rattle.float.proofs.Quotients.{above-some, some-plain, some-more}
 use Rattle.float.proofs.Chains.{Chain, first-finite, second-finite, chain-same, chain-product}
 use Rattle.curve.specs.Depth.{lift}

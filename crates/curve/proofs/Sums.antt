@@ -1,11 +1,11 @@
 -- The two sums of powers keep the order: every coefficient is above zero. At 1/2 the first is exactly 1, and at 1 the second is exactly 2. Assumes nothing.
 use mathlib.Core.Path.{_≡_, refl, subst}
-use Prim.Native.Nat.{ℕ, _+_, _≤_, _<_}
+use Prim.Native.Nat.{ℕ, _≤_, _<_}
 use native.Mathlib.Omega.{arith}
 use lib.Dec.{T, lit<}
 use lib.Ieee.{Float, binary32, ofBits, le, add, sub, mul, div}
 use lib.Ieee.Scale.{finite}
-use Rattle.float.specs.F32.{_⊕_, _⊖_, _⊗_, _⊘_, f0, f1, f2, half}
+use Rattle.float.specs.F32.{_⊕_, _⊖_, _⊘_, f0, f1, f2, half}
 use Rattle.float.proofs.Order.{le-trans}
 use Rattle.float.proofs.PatternOrder.{at, pattern-le}
 use Rattle.float.proofs.Rounding.{sub-mono, sub-rising}

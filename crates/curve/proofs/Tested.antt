@@ -1,10 +1,10 @@
 -- The factor by the tests that the code makes, and the quotient of two depths. Assumes nothing.
 use mathlib.Core.Path.{_≡_, refl, sym, ap, _∙_, subst}
-use mathlib.Core.Bool.{Bool, true, false, not}
+use mathlib.Core.Bool.{true, false, not}
 use Prim.Native.Nat.{_<_}
 use native.Mathlib.Omega.{arith}
 use lib.Dec.{T}
-use lib.IntN.{ℤ, pos, natAbs}
+use lib.IntN.{ℤ, natAbs}
 use lib.Signed.{nonNeg}
 use lib.Ieee.{Float, nan, binary32, fits, ofBits, isNan, le, lt, ne}
 use lib.Ieee.Scale.{finite}
@@ -19,7 +19,7 @@ use Rattle.float.proofs.Quotients.{some-more}
 use Rattle.float.proofs.Chains.{Chain, first-finite}
 use Rattle.curve.specs.Depth.{depthOf}
 use Rattle.curve.specs.Factor.{bottom, fallOf, factorAt, factorOf}
-use Rattle.curve.proofs.Sums.{first, last, least, least-some, part-falls}
+use Rattle.curve.proofs.Sums.{last, least, least-some, part-falls}
 use Rattle.curve.proofs.Inside.{Inside, inside}
 use Rattle.curve.proofs.Deeper.{depth-least}
 use Rattle.curve.proofs.Falling.{stepped}

@@ -1,9 +1,8 @@
 -- `depth` meets its contract: a pattern below that of 1 has a field of at most 126, and a lifted subnormal one of at most 24. Assumes nothing.
-use mathlib.Core.Path.{sym, ap, _∙_, subst}
+use mathlib.Core.Path.{sym, _∙_, subst}
 use mathlib.Core.Bool.{not}
 use native.Mathlib.Omega.{arith}
 use lib.Dec.{T}
-use lib.Ieee.{binary32, fits, isNan}
 use Rattle.float.specs.F32.{_⊗_}
 use Rattle.float.proofs.UnitsOrder.{plain-number}
 use Rattle.curve.specs.Depth.{lift}
