@@ -1,9 +1,11 @@
 -- The factor of a curved segment: 0 at place 0, 1/2 at the middle, 1 at place 1. It is one half to the power depth(place) / depth(middle).
 use Prim.Native.Nat.{ℕ, _-_, _*_, _^_}
-use mathlib.Core.Bool.{cond}
+use mathlib.Core.Path.{_≡_}
+use mathlib.Core.Bool.{false, cond}
 use lib.IntN.{natAbs}
-use lib.Ieee.{Float, nan, binary32, ofBits, isNan, le}
-use Rattle.float.specs.F32.{_⊕_, _⊖_, _⊗_, _⊘_, f0, f1}
+use lib.Dec.{T}
+use lib.Ieee.{Float, nan, binary32, fits, ofBits, isNan, le, lt}
+use Rattle.float.specs.F32.{_⊕_, _⊖_, _⊗_, _⊘_, f0, f1, half}
 use Rattle.float.specs.Number.{countOf, wholeOf}
 use Rattle.curve.specs.Depth.{depthOf}
 
@@ -46,3 +48,18 @@ factorAt place middle = cond (isNan middle) nan (cond (le middle f0) f1 (cond (l
 -- 0 up to place 0, 1 from place 1 on; not-a-number stays so
 unfoldable pub factorOf : Float → Float → Float
 factorOf place middle = cond (isNan place) nan (cond (le place f0) f0 (cond (le f1 place) f1 (factorAt place middle)))
+
+-- What is proved of these definitions (`curved`, in proofs/Rising). The places and the middle are f32s.
+pub record Curved : Type 0 where
+  -- one halving leads from 1 to 1/2
+  pub half-deep : depthOf half ≡ f1
+  -- the factor lies from 0 to 1
+  pub within : (place middle : Float) → T (fits binary32 place) → T (fits binary32 middle) → isNan place ≡ false → isNan middle ≡ false
+      → T (le f0 (factorOf place middle)) × T (le (factorOf place middle) f1)
+  -- it never falls as the place grows
+  pub rises : (place next middle : Float) → T (fits binary32 place) → T (fits binary32 next) → T (fits binary32 middle) → isNan middle ≡ false
+      → T (le place next) → T (le (factorOf place middle) (factorOf next middle))
+  -- it is 0 at 0, 1 at 1, and exactly 1/2 at a middle that is inside
+  pub starts : (middle : Float) → factorOf f0 middle ≡ f0
+  pub ends : (middle : Float) → factorOf f1 middle ≡ f1
+  pub halves : (middle : Float) → T (fits binary32 middle) → T (lt f0 middle) → T (lt middle f1) → factorOf middle middle ≡ half
