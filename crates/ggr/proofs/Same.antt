@@ -136,7 +136,7 @@ module _ (fg bg : Rgba) (s : List ℕ) (one two : Change Store) (n : ℕ) (r : A
   reads-same p q e =
       let f = found-by (fileOf Published (roomIn (one .entry)) fg bg s) n (p .answer) in
       let m : fileOf Saved (roomIn (two .entry)) fg bg s ≡ fileOf Published (roomIn (one .entry)) fg bg s =
-          ap (λ (x : Store). fileOf Saved (roomIn x) fg bg s) (sym e) ∙ file-same fg bg (roomIn (one .entry)) s (f .0) (f .1) ∙ sym (f .1) in (
+      ap (λ (x : Store). fileOf Saved (roomIn x) fg bg s) (sym e) ∙ file-same fg bg (roomIn (one .entry)) s (f .0) (f .1) ∙ sym (f .1) in (
         q .answer ∙ ap answerOf m ∙ sym (p .answer),
         q .left ∙ ap₂ storeLeft m (sym e) ∙ sym (p .left),
       )

@@ -17,9 +17,11 @@ use Rattle.refusals.specs.Refusals.{badSegment, notCarried}
 use Rattle.float.specs.Number.{wholeOf}
 use Rattle.blend.specs.declared.Rgba.{Rgba}
 use Rattle.gradient.specs.declared.gimp.Segment.{Segment}
+use Rattle.stops.specs.declared.Kind.{Kind}
+use Rattle.gradient.specs.Gimp.{carriedOf}
 use Rattle.segment.specs.declared.Rules.{Rules}
 use Rattle.segment.specs.declared.SegmentRead.the-variants.{Valid, Fault}
-use Rattle.segment.specs.Line.{carriedBy, cut, codeOf, validCodes, endColour, judge, build}
+use Rattle.segment.specs.Line.{kindBy, cut, codeOf, validCodes, endColour, judge, build}
 
 -- a key of a `match` on an i64 is its bits
 pub code-key : (x : Float) (z : ℤ) (n : ℕ) → mag z < 2 ^ 63 → z ≡ wholeOf x → ofZ w64 z ≡ n → cut (toZ w64 n) ≡ codeOf x
@@ -53,10 +55,13 @@ module _ (rules : Rules) (fg bg : Rgba) (d : List Float) (b k l r : ℕ)
     unfolding build
     by = rw (← eb, ← ek, ← el, ← er, h, ← ep, ← eq)
 
-    pub build-valid : carriedBy rules (segmentBy p q) ≡ true → Valid (segmentBy p q) ≡ build rules fg bg d
-    unfolding judge
-    build-valid c = sym (ap (λ (t : Bool). cond t (Valid (segmentBy p q)) (Fault notCarried)) c) ∙ by
+    module _ {kind : Kind} (w : kind ≡ kindBy rules) {t : Bool} (z : t ≡ carriedOf kind (segmentBy p q)) where
+      by-kind : cond t (Valid (segmentBy p q)) (Fault notCarried) ≡ build rules fg bg d
+      unfolding judge
+      by-kind = ap (λ (u : Bool). cond u (Valid (segmentBy p q)) (Fault notCarried)) (z ∙ ap (λ (k : Kind). carriedOf k (segmentBy p q)) w) ∙ by
 
-    pub build-not : carriedBy rules (segmentBy p q) ≡ false → Fault notCarried ≡ build rules fg bg d
-    unfolding judge
-    build-not c = sym (ap (λ (t : Bool). cond t (Valid (segmentBy p q)) (Fault notCarried)) c) ∙ by
+      pub build-valid : t ≡ true → Valid (segmentBy p q) ≡ build rules fg bg d
+      build-valid c = rw c at by-kind
+
+      pub build-not : t ≡ false → Fault notCarried ≡ build rules fg bg d
+      build-not c = rw c at by-kind

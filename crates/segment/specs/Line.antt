@@ -11,6 +11,8 @@ use Rattle.refusals.specs.Refusals.{badSegment, notCarried}
 use Rattle.float.specs.F32.{f0}
 use Rattle.float.specs.Number.{wholeOf}
 use Rattle.blend.specs.declared.Rgba.{Rgba}
+use Rattle.stops.specs.declared.Kind.{Kind}
+use Rattle.stops.specs.declared.Kind.the-variants.{Gimp, GimpSaved}
 use Rattle.gradient.specs.Gimp.{carriedOf}
 use Rattle.gradient.specs.declared.gimp.Segment.{Segment}
 use Rattle.segment.specs.declared.Rules.{Rules}
@@ -26,14 +28,17 @@ use Rattle.rows.specs.Rows.{Numbers, all, none, numbers, rowAt, rowEnd}
 -- ---- the rules that a file is read by: document 01's, or those for what GIMP saves
 
 -- the form of its numbers
-abbrev pub formOf : Rules → Form
-formOf Published = Short
-formOf Saved = Long
+abbrev pub formBy : Rules → Form
+formBy Published = Short
+formBy Saved = Long
 
--- the segments carried
+-- the kind of ramp that its segments make, which says what is carried
+abbrev pub kindBy : Rules → Kind
+kindBy Published = Gimp
+kindBy Saved = GimpSaved
+
 abbrev pub carriedBy : Rules → Segment → Bool
-carriedBy Published g = carriedOf g
-carriedBy Saved g = carriedOf g
+carriedBy rules g = carriedOf (kindBy rules) g
 
 -- ---- codes
 
@@ -59,7 +64,7 @@ endColour code own fg bg =
 
 -- ---- the segment
 
--- of a kind that is carried: not curved, and if sinusoidal with a middle that is not outside its ends; or 16
+-- carried: not curved but by the rules for what GIMP saves, and if curved or sinusoidal with a middle that is not outside its ends; or 16
 unfoldable pub judge : Rules → Segment → SegmentRead
 judge rules g = cond (carriedBy rules g) (Valid g) (Fault notCarried)
 
@@ -92,7 +97,7 @@ fromNumbers rules fg bg (all xs) =
 
 -- the numbers are the words of the line
 unfoldable pub segmentOnLine : Rules → Rgba → Rgba → List ℕ → SegmentRead
-segmentOnLine rules fg bg l = fromNumbers rules fg bg (numbers (formOf rules) (words l))
+segmentOnLine rules fg bg l = fromNumbers rules fg bg (numbers (formBy rules) (words l))
 
 -- document 01's number of what a line holds, 0 for a segment; its line is the reader's to tell
 abbrev pub numberOfSegment : SegmentRead → ℕ
@@ -103,5 +108,5 @@ numberOfSegment (Fault number) = number
 pub record SegmentAt (rules : Rules) (fg bg : Rgba) (s : List ℕ) (at : ℕ) (o : SegmentRead) (next : ℕ) : Type 0 where
   pub is : o ≡ segmentOnLine rules fg bg (firstOf (lines (drop at s)))
   pub number : numberOfSegment o ≡ numberOfSegment (segmentOnLine rules fg bg (firstOf (lines (drop at s))))
-  pub goes-on : next ≡ cond (eqb (length (rowAt (formOf rules) Spaces s at)) 0) at (rowEnd Spaces s at)
+  pub goes-on : next ≡ cond (eqb (length (rowAt (formBy rules) Spaces s at)) 0) at (rowEnd Spaces s at)
   pub rest : (g : Segment) → o ≡ Valid g → lines (drop next s) ≡ restOf (lines (drop at s))

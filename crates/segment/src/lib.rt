@@ -7,8 +7,9 @@ use refusals::NOT_CARRIED;
 use rows::Form;
 use rows::Parting;
 use rows::row_at;
+use stops::Kind;
 ghost use mathlib.Core.Path.{_≡_};
-ghost use Rattle.segment.specs.Line.{formOf, carriedBy, codeOf, validCodes, withoutAlpha, endColour, build, SegmentAt};
+ghost use Rattle.segment.specs.Line.{formBy, kindBy, codeOf, validCodes, withoutAlpha, endColour, build, SegmentAt};
 ghost use Rattle.segment.specs.inner.Steps.{segmentLength};
 
 pub mod store;
@@ -25,8 +26,8 @@ pub enum SegmentRead {
     Fault(u8),
 }
 
-fn form_of(rules: Rules) -> Form
-    ensures { λ r. ⌜ r ≡ formOf rules ⌝ }
+fn form_by(rules: Rules) -> Form
+    ensures { λ r. ⌜ r ≡ formBy rules ⌝ }
 {
     match rules {
         Rules::Published => Form::Short,
@@ -34,12 +35,12 @@ fn form_of(rules: Rules) -> Form
     }
 }
 
-fn is_carried_by(rules: Rules, g: Segment) -> bool
-    ensures { λ r. ⌜ r ≡ carriedBy rules g ⌝ }
+fn kind_by(rules: Rules) -> Kind
+    ensures { λ r. ⌜ r ≡ kindBy rules ⌝ }
 {
     match rules {
-        Rules::Published => gimp::is_carried(g.blending, g.colouring, g.left, g.middle, g.right),
-        Rules::Saved => gimp::is_carried(g.blending, g.colouring, g.left, g.middle, g.right),
+        Rules::Published => Kind::Gimp,
+        Rules::Saved => Kind::GimpSaved,
     }
 }
 
@@ -138,7 +139,8 @@ fn built(rules: Rules, d: [f32; 15], fg: Rgba, bg: Rgba) -> SegmentRead
         blending,
         colouring,
     };
-    if is_carried_by(rules, g) {
+    let kind = kind_by(rules);
+    if gimp::is_carried(kind, blending, colouring, g.left, g.middle, g.right) {
         return SegmentRead::Valid(g);
     }
     SegmentRead::Fault(NOT_CARRIED)
@@ -163,7 +165,7 @@ pub struct SegmentLine {
 pub fn segment_at(s: &[u8], at: usize, rules: Rules, fg: Rgba, bg: Rgba) -> SegmentLine
     ensures { λ r. ⌜ SegmentAt rules fg bg (now (s .entry)) at (r .read) (r .next) ⌝ }
 {
-    let row = row_at(s, at, Parting::Spaces, form_of(rules));
+    let row = row_at(s, at, Parting::Spaces, form_by(rules));
     let n = row.n;
     let next = row.next;
     if !makes_segment(n) {
