@@ -38,14 +38,16 @@ extern "C" {
 #define COLORGRAD_VERSION (1000u * (1000u * COLORGRAD_VERSION_MAJOR + COLORGRAD_VERSION_MINOR) + COLORGRAD_VERSION_PATCH)
 #define COLORGRAD_VERSION_TEXT "0.2.0"
 
-/* ---- kinds of ramp; any other number is refused with 1 */
+/* ---- kinds of ramp; any other number is refused with 1. COLORGRAD_GIMP_SAVED takes every segment that COLORGRAD_GIMP takes, with
+ * the same colours, and curved ones (blending 1) too */
 typedef enum {
     COLORGRAD_LINEAR = 0,
     COLORGRAD_SMOOTHSTEP = 1,
     COLORGRAD_SHARP = 2,
     COLORGRAD_BASIS = 3,
     COLORGRAD_CATMULL_ROM = 4,
-    COLORGRAD_GIMP = 5
+    COLORGRAD_GIMP = 5,
+    COLORGRAD_GIMP_SAVED = 6
 } ColorgradKind;
 
 /* ---- sorts of edit; any other number is refused with 6 */
@@ -305,14 +307,24 @@ static inline ColorgradStops colorgrad_list_stops(ColorgradList list, size_t sto
     return colorgrad_stops(list.places, list.colours, is_room ? stops : 0);
 }
 
-/* The ramp of the first segments: those that a call read. */
-static inline ColorgradRamp colorgrad_segments_ramp(ColorgradSegments room, size_t segments)
+/* The ramp of the first segments: those that a call read. The kind says whether they may be curved. */
+static inline ColorgradRamp colorgrad_segments_of_kind(ColorgradKind kind, ColorgradSegments room, size_t segments)
 {
     bool is_room = segments <= room.positions_length / 3 && segments <= room.channels_length / 8 &&
                    segments <= room.codes_length / 2;
     size_t n = is_room ? segments : 0;
-    ColorgradRamp made = {COLORGRAD_GIMP, room.positions, 3 * n, room.channels, 8 * n, room.codes, 2 * n};
+    ColorgradRamp made = {kind, room.positions, 3 * n, room.channels, 8 * n, room.codes, 2 * n};
     return made;
+}
+
+static inline ColorgradRamp colorgrad_segments_ramp(ColorgradSegments room, size_t segments)
+{
+    return colorgrad_segments_of_kind(COLORGRAD_GIMP, room, segments);
+}
+
+static inline ColorgradRamp colorgrad_saved_ramp(ColorgradSegments room, size_t segments)
+{
+    return colorgrad_segments_of_kind(COLORGRAD_GIMP_SAVED, room, segments);
 }
 
 /* ---- what a call answers: the refusal, or 0 and what is named here; what is not answered is 0 */

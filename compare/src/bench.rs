@@ -212,7 +212,7 @@ fn paint_beside(name: &str, ramp: &Ramp, points: &[(&str, Vec<f32>)]) {
 }
 
 fn items(ramp: &Ramp) -> usize {
-    if ramp.kind == Kind::Gimp {
+    if ramp.kind.is_gimp() {
         ramp.positions.len() / 3
     } else {
         ramp.positions.len()

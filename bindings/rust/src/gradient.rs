@@ -376,6 +376,7 @@ refreshed!(CatmullRomGradient);
 #[derive(Clone, PartialEq, Debug)]
 pub struct GimpGradient {
     parts: Parts,
+    kind: Kind,
     name: String,
 }
 
@@ -391,7 +392,8 @@ impl GimpGradient {
         positions.truncate(3 * segments);
         channels.truncate(8 * segments);
         codes.truncate(2 * segments);
-        Ok(GimpGradient { parts: Parts { positions, channels, codes }, name: name_of(text) })
+        let kind = segments_kind(&codes);
+        Ok(GimpGradient { parts: Parts { positions, channels, codes }, kind, name: name_of(text) })
     }
 
     /// The name that the file gives itself.
@@ -405,6 +407,15 @@ impl GimpGradient {
     }
 }
 
+/// Segments of which one is curved are lent as [`Kind::GimpSaved`], others as [`Kind::Gimp`].
+fn segments_kind(codes: &[u8]) -> Kind {
+    const CURVED: u8 = 1;
+    if codes.iter().step_by(2).any(|blending| *blending == CURVED) {
+        return Kind::GimpSaved;
+    }
+    Kind::Gimp
+}
+
 /// A text that was read is ASCII, and its name no longer than it.
 fn name_of(text: &[u8]) -> String {
     let mut name = vec![0; text.len()];
@@ -414,6 +425,6 @@ fn name_of(text: &[u8]) -> String {
 
 impl Gradient for GimpGradient {
     fn lent(&self) -> lent::Ramp<'_> {
-        self.parts.lent(Kind::Gimp)
+        self.parts.lent(self.kind)
     }
 }

@@ -62,8 +62,10 @@ pub enum Kind {
     Basis = 3,
     /// A Catmull-Rom spline.
     CatmullRom = 4,
-    /// The segments of a GIMP gradient.
+    /// The segments of a GIMP gradient, none of them curved.
     Gimp = 5,
+    /// The same with the same colours, and curved segments too: all that GIMP saves.
+    GimpSaved = 6,
 }
 
 /// A ramp as it is lent.

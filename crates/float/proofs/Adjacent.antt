@@ -1,21 +1,18 @@
 -- The f32 just above, and just below, rise with the number. Assumes nothing.
-use mathlib.Core.Path.{_≡_, refl, sym, ap, _∙_, subst}
+use mathlib.Core.Path.{_≡_, refl, sym, _∙_}
 use mathlib.Core.Bool.{Bool, true, false, cond, _&&_, true≢false}
 use Prim.Native.Nat.{ℕ, zero, suc, _+_, _-_, _*_, _≤_, _<_}
-use native.Mathlib.Nat.{lt-of-not-le}
-use native.Mathlib.Decide.{decLe}
 use native.Mathlib.Omega.{arith}
 use borrow.Author.Tests.{ltb-true, ltb-false, eq-eqb}
 use lib.Dec.{T, ltb, eqb}
 use lib.IntN.{ℤ}
 use lib.Ieee.{Float, nan, inf, fin, binary32, up, down, fits, toBits, ofBits, neg, lt, le, eq, isNan}
-use lib.Ieee.Bits.{ofBits-toBits, toBits-lt, is-true}
 use lib.Ieee.Scale.{finite}
 use Rattle.float.specs.F32.{f0}
 use Rattle.float.specs.Number.{magnitudeOf, aboveOf, belowOf}
 use Rattle.float.specs.Units.{plain}
 use Rattle.float.proofs.Order.{as-T, le-trans, lt→le, le-lt-trans, lt-le-trans, le→not-lt, not-lt→le, eq→le, eq→ge, le-refl}
-use Rattle.float.proofs.PatternOrder.{at, pattern-le, pattern-lt, plain-pattern, number-at}
+use Rattle.float.proofs.PatternOrder.{at, pattern-le, pattern-under, pattern-mono, number-at}
 use Rattle.float.proofs.SignedRound.{neg-le}
 use Rattle.float.proofs.Signs.{fits-signed}
 
@@ -64,21 +61,11 @@ plain-magnitude nan w = absurd (true≢false (sym (w .1)))
 plain-magnitude (inf s) w = absurd (true≢false (sym (w .1)))
 plain-magnitude (fin s m e) w = tt
 
-back : (x : Float) → One x → at (M x) ≡ magnitudeOf x
-back x w = ofBits-toBits binary32 (magnitudeOf x) (fits-magnitude x w)
-
 under : (x : Float) → One x → M x < 2139095040
-under x w = plain-pattern (M x) (toBits-lt binary32 (magnitudeOf x) (fits-magnitude x w)) (subst (λ (y : Float). T (plain y)) (sym (back x w)) (plain-magnitude x w))
+under x w = pattern-under (magnitudeOf x) (fits-magnitude x w) (plain-magnitude x w)
 
 in-order : (x y : Float) → One x → One y → T (le (magnitudeOf x) (magnitudeOf y)) → M x ≤ M y
-in-order x y v w h = go (decLe (M x) (M y))
-  where
-    go : Dec (M x ≤ M y) → M x ≤ M y
-    go (yes l) = l
-    go (no f) =
-        let u = under x v in
-        let k : T (lt (magnitudeOf y) (magnitudeOf x)) = rw (back y w, back x v) at (pattern-lt (M y) (M x) (lt-of-not-le f) (omega arith)) in
-        absurd (true≢false (sym (is-true _ k) ∙ le→not-lt (magnitudeOf y) (magnitudeOf x) h))
+in-order x y v w h = pattern-mono (magnitudeOf x) (magnitudeOf y) (fits-magnitude x v) (plain-magnitude x v) (fits-magnitude y w) (plain-magnitude y w) h
 
 -- ---- what lies below zero, and above
 zero-one : T (le (neg f0) (at 1))

@@ -25,7 +25,9 @@ use Rattle.colorgrad_c.proofs.ramps.colorgrad_at_told.Reads as of-at
 use Rattle.colorgrad_c.proofs.ramps.colorgrad_paint.Reads as of-paint
 use Rattle.colorgrad_c.proofs.ramps.colorgrad_sharp_told.Reads as of-sharp
 use Rattle.colorgrad_c.proofs.gimp.colorgrad_read_told.Reads as of-read
+use Rattle.colorgrad_c.proofs.gimp.colorgrad_read_saved_told.Reads as of-read-saved
 use Rattle.colorgrad_c.proofs.gimp.colorgrad_name.Reads as of-name
+use Rattle.colorgrad_c.proofs.gimp.colorgrad_name_saved.Reads as of-name-saved
 use Rattle.colorgrad_c.proofs.tool.colorgrad_desk.Reads as of-desk
 use Rattle.colorgrad_c.proofs.lists.colorgrad_sample_told.Reads as of-sample
 use Rattle.colorgrad_c.proofs.lists.colorgrad_thin_told.Reads as of-thin
@@ -65,8 +67,14 @@ verdict-message κs a = coincide (λ r e w. both (w .0) (w .1))
 pub read : (κs : Lfts 5) (a : _) → Coincide (of-read.Learnt κs a) (λ r e. r with now (e .1 .1 .1 .1 .1 .1 .1 .1 .1 .1 .1 .1 .0) with now (e .1 .1 .1 .1 .1 .1 .1 .1 .1 .0) with now (e .1 .1 .1 .1 .1 .1 .1 .1 .1 .1 .0) with now (e .1 .1 .1 .1 .1 .1 .1 .1 .1 .1 .1 .0))
 read κs a = coincide (λ r e w. both (w .number) (both (w .told) (both (stored.positions-of (w .left)) (both (stored.channels-of (w .left)) (stored.codes-of (w .left))))))
 
+pub read-saved : (κs : Lfts 5) (a : _) → Coincide (of-read-saved.Learnt κs a) (λ r e. r with now (e .1 .1 .1 .1 .1 .1 .1 .1 .1 .1 .1 .1 .0) with now (e .1 .1 .1 .1 .1 .1 .1 .1 .1 .0) with now (e .1 .1 .1 .1 .1 .1 .1 .1 .1 .1 .0) with now (e .1 .1 .1 .1 .1 .1 .1 .1 .1 .1 .1 .0))
+read-saved κs a = coincide (λ r e w. both (w .number) (both (w .told) (both (stored.positions-of (w .left)) (both (stored.channels-of (w .left)) (stored.codes-of (w .left))))))
+
 pub name : (κs : Lfts 2) (a : _) → Coincide (of-name.Learnt κs a) (λ r e. r with now (e .1 .0))
 name κs a = coincide (λ r e w. both (w .0) (w .1))
+
+pub name-saved : (κs : Lfts 2) (a : _) → Coincide (of-name-saved.Learnt κs a) (λ r e. r with now (e .1 .0))
+name-saved κs a = coincide (λ r e w. both (w .0) (w .1))
 
 pub desk : (κs : Lfts 2) (a : _) → Coincide (of-desk.Learnt κs a) (λ r e. r with now (e .1 .0))
 desk κs a = coincide (λ r e w. both (w .0) (w .1))

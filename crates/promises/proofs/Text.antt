@@ -17,6 +17,7 @@ use Rattle.text.proofs.trimmed.Reads as of-trimmed
 use Rattle.text.proofs.output.put.Reads as of-put
 use Rattle.text.proofs.output.put_all.Reads as of-put-all
 use Rattle.text.proofs.output.put_decimal.Reads as of-put-decimal
+use Rattle.text.proofs.utf8.is_utf8.Reads as of-is-utf8
 
 place : (s u : List ℕ) (r : ℕ) → r ≤ length s → drop r s ≡ u → r ≡ length s - length u
 place s u r h e = omega (arith, length-drop r s, ap (λ (l : List ℕ). length l) e)
@@ -30,6 +31,9 @@ line-at κs a = coincide (λ r e w. both (w .ends) (w .goes-on))
 
 pub is-ascii : (κs : Lfts 1) (a : _) → Coincide (of-is-ascii.Learnt κs a) answer
 is-ascii κs a = coincide (λ r e w. w)
+
+pub is-utf8 : (κs : Lfts 1) (a : _) → Coincide (of-is-utf8.Learnt κs a) answer
+is-utf8 κs a = coincide (λ r e w. w)
 
 pub starts-with : (κs : Lfts 2) (a : _) → Coincide (of-starts-with.Learnt κs a) answer
 starts-with κs a = coincide (λ r e w. w)

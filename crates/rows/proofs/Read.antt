@@ -1,8 +1,8 @@
--- The numbers of words or fields: how many, the first of them, and that each is finite. Assumes nothing.
+-- The numbers of words or fields: how many, the first of them, that each is finite, and that those read short are read long. Assumes nothing.
 use Prim.Native.Nat.{ℕ, zero, suc, _<_}
 use native.Mathlib.Omega.{arith}
-use mathlib.Core.Path.{_≡_, refl, sym, ap, _∙_}
-use mathlib.Core.Bool.{Bool, true, false, true≢false}
+use mathlib.Core.Path.{_≡_, refl, sym, ap, ap₂, _∙_}
+use mathlib.Core.Bool.{Bool, true, false, cond, true≢false}
 use mathlib.Core.List.{List, [], _∷_}
 use lib.ListN.{length, getD}
 use lib.Ieee.{Float, nan}
@@ -12,7 +12,9 @@ use Rattle.decimal.specs.declared.Token.{Token}
 use Rattle.decimal.specs.declared.Token.the-variants.{Number, NoNumber}
 use Rattle.decimal.proofs.Finite.{tokenFinite, token-finite}
 use Rattle.text.specs.Text.{firstOf}
-use Rattle.rows.specs.Rows.{Numbers, all, none, addNumber, numbers}
+use Rattle.rows.specs.declared.Form.{Form}
+use Rattle.rows.specs.declared.Form.the-variants.{Short, Long}
+use Rattle.rows.specs.Rows.{Numbers, all, none, finiteOnly, tokenOf, addNumber, numbers}
 
 abbrev listIn : Numbers → List Float
 listIn (all xs) = xs
@@ -36,15 +38,15 @@ added-first (Number x) none xs h = absurd (true≢false (sym (ap isAll h)))
 added-first NoNumber (all ys) xs h = absurd (true≢false (sym (ap isAll h)))
 added-first NoNumber none xs h = absurd (true≢false (sym (ap isAll h)))
 
-pub numbers-long : (ws : List (List ℕ)) (xs : List Float) → numbers ws ≡ all xs → length xs ≡ length ws
+pub numbers-long : (form : Form) (ws : List (List ℕ)) (xs : List Float) → numbers form ws ≡ all xs → length xs ≡ length ws
 unfolding numbers
-numbers-long [] xs h = ap length (sym (ap listIn h))
-numbers-long (w ∷ ws) xs h = added (readOf w) (numbers ws) xs (length ws) h (numbers-long ws)
+numbers-long form [] xs h = ap length (sym (ap listIn h))
+numbers-long form (w ∷ ws) xs h = added (tokenOf form w) (numbers form ws) xs (length ws) h (numbers-long form ws)
 
-pub head-number : (ws : List (List ℕ)) (xs : List Float) → numbers ws ≡ all xs → 0 < length xs → readOf (firstOf ws) ≡ Number (getD xs 0 nan)
+pub head-number : (form : Form) (ws : List (List ℕ)) (xs : List Float) → numbers form ws ≡ all xs → 0 < length xs → tokenOf form (firstOf ws) ≡ Number (getD xs 0 nan)
 unfolding numbers firstOf
-head-number [] xs h l = absurd (omega (arith, ap (λ (ns : Numbers). length (listIn ns)) h))
-head-number (w ∷ ws) xs h l = added-first (readOf w) (numbers ws) xs h
+head-number form [] xs h l = absurd (omega (arith, ap (λ (ns : Numbers). length (listIn ns)) h))
+head-number form (w ∷ ws) xs h l = added-first (tokenOf form w) (numbers form ws) xs h
 
 -- ---- each number that is read is finite
 unfoldable pub Finite : Numbers → Type 0
@@ -61,7 +63,42 @@ added-finite (Number x) none h k = tt
 added-finite NoNumber (all xs) h k = tt
 added-finite NoNumber none h k = tt
 
-pub numbers-finite : (ws : List (List ℕ)) → Finite (numbers ws)
+only-finite : (t : Token) → tokenFinite (finiteOnly t) ≡ true
+unfolding finiteOnly
+only-finite NoNumber = refl
+only-finite (Number x) = go (finite x) refl where
+  go : (b : Bool) → finite x ≡ b → tokenFinite (cond b (Number x) NoNumber) ≡ true
+  go true e = e
+  go false e = refl
+
+formed-finite : (form : Form) (w : List ℕ) → tokenFinite (tokenOf form w) ≡ true
+unfolding tokenOf
+formed-finite Short w = token-finite w
+formed-finite Long w = only-finite (readOf w)
+
+-- ---- what is read short is read long, and the same
+only-same : (x : Float) → finite x ≡ true → finiteOnly (Number x) ≡ Number x
+unfolding finiteOnly
+only-same x h = rw h
+
+token-same : (w : List ℕ) (x : Float) → tokenOf Short w ≡ Number x → tokenOf Long w ≡ Number x
+unfolding tokenOf
+token-same w x e = ap finiteOnly e ∙ only-same x (sym (ap tokenFinite e) ∙ token-finite w)
+
+add-same : (t : Token) (u : Token) (ns ms : Numbers) (xs : List Float) → ((x : Float) → t ≡ Number x → u ≡ Number x) → ((ys : List Float) → ns ≡ all ys → ms ≡ all ys)
+    → addNumber t ns ≡ all xs → addNumber u ms ≡ all xs
+unfolding addNumber
+add-same (Number x) u (all ys) ms xs f g h = ap₂ addNumber (f x refl) (g ys refl) ∙ h
+add-same (Number x) u none ms xs f g h = absurd (true≢false (sym (ap isAll h)))
+add-same NoNumber u (all ys) ms xs f g h = absurd (true≢false (sym (ap isAll h)))
+add-same NoNumber u none ms xs f g h = absurd (true≢false (sym (ap isAll h)))
+
+pub numbers-same : (ws : List (List ℕ)) (xs : List Float) → numbers Short ws ≡ all xs → numbers Long ws ≡ all xs
+unfolding numbers
+numbers-same [] xs h = h
+numbers-same (w ∷ ws) xs h = add-same (tokenOf Short w) (tokenOf Long w) (numbers Short ws) (numbers Long ws) xs (token-same w) (numbers-same ws) h
+
+pub numbers-finite : (form : Form) (ws : List (List ℕ)) → Finite (numbers form ws)
 unfolding Finite numbers
-numbers-finite [] = λ i l. absurd (omega arith)
-numbers-finite (w ∷ ws) = added-finite (readOf w) (numbers ws) (token-finite w) (numbers-finite ws)
+numbers-finite form [] = λ i l. absurd (omega arith)
+numbers-finite form (w ∷ ws) = added-finite (tokenOf form w) (numbers form ws) (formed-finite form w) (numbers-finite form ws)

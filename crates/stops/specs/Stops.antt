@@ -12,7 +12,7 @@ use Rattle.blend.specs.declared.Rgba.{Rgba}
 use Rattle.blend.specs.declared.Stop.{Stop}
 use Rattle.stops.specs.Lent.{Ramp}
 use Rattle.stops.specs.declared.Kind.{Kind}
-use Rattle.stops.specs.declared.Kind.the-variants.{Linear, Smoothstep, Sharp, Basis, CatmullRom, Gimp}
+use Rattle.stops.specs.declared.Kind.the-variants.{Linear, Smoothstep, Sharp, Basis, CatmullRom, Gimp, GimpSaved}
 use Rattle.stops.specs.declared.Checked.{Checked}
 use Rattle.stops.specs.declared.Checked.the-variants.{Fine, Refused}
 
@@ -36,6 +36,7 @@ isSharp Sharp = true
 isSharp Basis = false
 isSharp CatmullRom = false
 isSharp Gimp = false
+isSharp GimpSaved = false
 
 -- n positions, m channels and c codes: 2 stops to the most, four channels each, no code, and for sharp an even number of stops
 unfoldable pub shaped : Kind → ℕ → ℕ → ℕ → Bool

@@ -39,6 +39,7 @@ fn is_sharp(kind: Kind) -> bool
         Kind::Basis => false,
         Kind::CatmullRom => false,
         Kind::Gimp => false,
+        Kind::GimpSaved => false,
     }
 }
 

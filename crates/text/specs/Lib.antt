@@ -2,3 +2,4 @@
 pub mod Text
 pub mod Places
 pub mod Output
+pub mod Utf8

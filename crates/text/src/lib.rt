@@ -6,6 +6,7 @@ ghost use Rattle.text.specs.Text.{every, ascii, unmark, white, same, sta
 ghost use Rattle.text.specs.Places.{inClass, span, LineAt};
 
 pub mod output;
+pub mod utf8;
 
 const TAB: u8 = 9;
 

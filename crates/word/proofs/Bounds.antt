@@ -90,7 +90,7 @@ few-positions ramp passes = go (isGimp (ramp .kind)) refl
   where
     go : (b : Bool) → isGimp (ramp .kind) ≡ b → length (ramp .positions) ≤ 2048
     go true e =
-        let s = fine-shape (ramp .positions) (ramp .channels) (ramp .codes) (segments-pass ramp passes e) in
+        let s = fine-shape (ramp .kind) (ramp .positions) (ramp .channels) (ramp .codes) (segments-pass ramp passes e) in
         omega (arith, s .most, s .positions)
     go false e = valid ramp e passes .sized .most
 

@@ -23,7 +23,7 @@ use Rattle.stops.specs.Lent.{Ramp, Change}
 use Rattle.stops.specs.Stops.{colourAt}
 use Rattle.stops.specs.Pair.{pairOf, between}
 use Rattle.stops.specs.declared.Kind.{Kind}
-use Rattle.stops.specs.declared.Kind.the-variants.{Linear, Smoothstep, Sharp, Basis, CatmullRom, Gimp}
+use Rattle.stops.specs.declared.Kind.the-variants.{Linear, Smoothstep, Sharp, Basis, CatmullRom, Gimp, GimpSaved}
 use Rattle.stops.specs.declared.Checked.the-variants as checked
 use Rattle.stops.proofs.Valid.{Valid}
 use Rattle.gradient.specs.Ramp.{isGimp, minOf, maxOf, colourOf}
@@ -91,6 +91,7 @@ pair-single Sharp cs n k p q t w = pick (eqb ((k - 1) % 2) 0) _ _ w (smooth-sing
 pair-single Basis cs n k p q t w = basis-single _ _ _ _ _
 pair-single CatmullRom cs n k p q t w = cubic-single _ _
 pair-single Gimp cs n k p q t w = black-single
+pair-single GimpSaved cs n k p q t w = black-single
 
 module _ (ramp : Ramp) (of-stops : isGimp (ramp .kind) ≡ false) (ok : Valid ramp) (channels : Singles (ramp .channels)) where
   stop-single : (i : ℕ) → i < length (ramp .positions) → SingleColour (colourAt (ramp .channels) i)

@@ -29,6 +29,12 @@ class Kind(IntEnum):
     BASIS = 3
     CATMULL_ROM = 4
     GIMP = 5
+    GIMP_SAVED = 6
+
+    @property
+    def is_gimp(self) -> bool:
+        """Segments, not stops; of GIMP_SAVED they may be curved."""
+        return self in (Kind.GIMP, Kind.GIMP_SAVED)
 
 
 class Ramp(Gradient):
@@ -68,7 +74,7 @@ class Ramp(Gradient):
     @property
     def _depths(self) -> array[float]:
         """Its own positions; of GIMP segments their ends."""
-        return self._positions if self.kind != Kind.GIMP else self._positions[:1] + self._positions[2::3]
+        return self._positions[:1] + self._positions[2::3] if self.kind.is_gimp else self._positions
 
     # ---- making one
 
@@ -176,7 +182,7 @@ class Ramp(Gradient):
 
     def __len__(self) -> int:
         """How many stops or segments it has."""
-        return len(self._codes) // 2 if self.kind == Kind.GIMP else len(self._positions)
+        return len(self._codes) // 2 if self.kind.is_gimp else len(self._positions)
 
     def __eq__(self, other: object) -> bool:
         return isinstance(other, Ramp) and self._lent == other._lent
@@ -184,7 +190,7 @@ class Ramp(Gradient):
     __hash__ = None  # type: ignore[assignment]
 
     def __repr__(self) -> str:
-        what = 'segments' if self.kind == Kind.GIMP else 'stops'
+        what = 'segments' if self.kind.is_gimp else 'stops'
         return f'<{self.kind.name.lower()} ramp of {len(self)} {what} from {self.domain[0]:g} to {self.domain[1]:g}>'
 
     # ---- edits

@@ -66,6 +66,9 @@ def ramp_of_rows(kind: Kind, rows: List[Row]) -> Ramp:
 
 # ---- GIMP gradients
 
+# the blending that only ramps of kind GIMP_SAVED have
+CURVED = 1
+
 
 def ramp_of_ggr(source: Source, foreground: Colour, background: Colour) -> Ramp:
     text = array('B', bytes_of(source))
@@ -76,7 +79,8 @@ def ramp_of_ggr(source: Source, foreground: Colour, background: Colour) -> Ramp:
     if refusal:
         raise Refusal(refusal, line)
     name = text_of('name', text)
-    return Ramp(Kind.GIMP, positions[: 3 * segments], channels[: 8 * segments], codes[: 2 * segments], name)
+    kind = Kind.GIMP_SAVED if CURVED in codes[: 2 * segments : 2] else Kind.GIMP
+    return Ramp(kind, positions[: 3 * segments], channels[: 8 * segments], codes[: 2 * segments], name)
 
 
 # ---- the tool's text

@@ -1,5 +1,5 @@
-// Segments coloured by hue, painted as the others are, by a loop of their own: their colour is asked for by a call, for which
-// the other loop would keep the whole segment in memory.
+// Segments that are by hue or curved, painted as the others are, by a loop of their own: their colour is asked for by a call,
+// for which the other loop would keep the whole segment in memory.
 use crate::gimp::hold;
 use crate::gimp::is_strictly_inside;
 use crate::gimp::point_or;
@@ -8,11 +8,11 @@ use gradient::gimp;
 ghost use mathlib.Core.Path.{_≡_};
 ghost use mathlib.Core.Bool.{true};
 ghost use Rattle.stops.specs.Lent.{old, new};
-ghost use Rattle.gradient.specs.Gimp.{colouringAt, isHued, gimpColour};
+ghost use Rattle.gradient.specs.Gimp.{blendingAt, colouringAt, isCostly, gimpColour};
 ghost use Rattle.paint.specs.inner.Segments.{Fits, Starts, Written};
 
 // Paints from point `start`, whose segment is s, as far as the points before `end` lie in it. Gives the first that is left.
-pub(crate) fn paint_hued(
+pub(crate) fn paint_costly(
     positions: &[f32],
     channels: &[f32],
     codes: &[u8],
@@ -23,7 +23,7 @@ pub(crate) fn paint_hued(
     end: usize,
 ) -> usize
     requires { ⌜ Fits (now positions) (now channels) (now codes) (now ts) (now out) ⌝ }
-    requires { ⌜ Starts (now positions) (now ts) s start end × (isHued (colouringAt (now codes) s) ≡ true) ⌝ }
+    requires { ⌜ Starts (now positions) (now ts) s start end × (isCostly (blendingAt (now codes) s) (colouringAt (now codes) s) ≡ true) ⌝ }
     ensures { λ r. ⌜ Written (gimpColour (old positions) (old channels) (old codes)) (old ts) start r (old out) (new out) ⌝ }
 {
     let g = hold(positions, channels, codes, s);
@@ -33,7 +33,7 @@ pub(crate) fn paint_hued(
     let mut on = true;
     while on {
         let t = point_or(ts, i + 1, end, g.left);
-        let c = gimp::blend_hued(g, pivot, place);
+        let c = gimp::blend_costly(g, pivot, place);
         put_colour(out, 4 * i, c);
         i += 1;
         place = gimp::place_along(g.left, g.right, t);

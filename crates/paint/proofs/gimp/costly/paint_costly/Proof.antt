@@ -1,4 +1,4 @@
--- `paint_hued` meets its contract. The invariant: where it goes on, point i lies in the segment and its place is known; and an output that had the colours up to the start now has those up to i. Assumes nothing.
+-- `paint_costly` meets its contract. The invariant: where it goes on, point i lies in the segment and its place is known; and an output that had the colours up to the start now has those up to i. Assumes nothing.
 use borrow.Author.Needs.{needs}
 use mathlib.Core.Path.{_≡_, refl, _∙_, ap}
 use mathlib.Core.Bool.{true, false, true≢false}
@@ -12,10 +12,10 @@ use lib.Ieee.{Float, nan}
 use Rattle.gradient.specs.Gimp.{along, gimpColour}
 use Rattle.blend.specs.Channels.{channelsOf, coloursOf}
 use Rattle.paint.proofs.gimp.Filling.{colours-next}
-use Rattle.gradient.proofs.GimpLaws.{by-hue}
-use Rattle.paint.proofs.gimp.Hits.{found-here, Lies, shaded, hued-so, before-end, lies-on}
-use Rattle.paint.proofs.gimp.hued.paint_hued.Statement.{statement}
-use Rattle.paint.proofs.gimp.hued.paint_hued.Tie as tie
+use Rattle.gradient.proofs.GimpLaws.{by-cost}
+use Rattle.paint.proofs.gimp.Hits.{found-here, Lies, shaded, costly-so, before-end, lies-on}
+use Rattle.paint.proofs.gimp.costly.paint_costly.Statement.{statement}
+use Rattle.paint.proofs.gimp.costly.paint_costly.Tie as tie
 
 abbrev Inv-loop : tie.InvT-loop
 Inv-loop positions channels codes ts out₀ s start end g pivot i₀ place₀ on₀ out i place on =
@@ -106,8 +106,8 @@ loop-again c =
       λ e. omega arith,
       λ o room e.
           p .put-colour .ensures
-          ∙ ap (λ (r : List Float). sets r (4 * i) (channelsOf (d .blend-hued .result))) (inv .6 o room e)
-          ∙ colours-next (gimpColour ps cs ks) ts o room i here (shaded ps cs ks (s .args .s) (a .hold .ensures) ts i lies (m .place-along .ensures) (inv .4 (l .loop-test .taken)) (by-hue _ _ _ refl (hued-so ps cs ks (s .args .s) (a .hold .ensures) (s .pre .1 .1)) (d .blend-hued .ensures))),
+          ∙ ap (λ (r : List Float). sets r (4 * i) (channelsOf (d .blend-costly .result))) (inv .6 o room e)
+          ∙ colours-next (gimpColour ps cs ks) ts o room i here (shaded ps cs ks (s .args .s) (a .hold .ensures) ts i lies (m .place-along .ensures) (inv .4 (l .loop-test .taken)) (by-cost _ _ _ refl (costly-so ps cs ks (s .args .s) (a .hold .ensures) (s .pre .1 .1)) (d .blend-costly .ensures))),
     )
 
 same-length : tie.Need-same-length Inv-loop μ-loop
@@ -116,8 +116,8 @@ same-length c = c .before .loop .inv .1
 returns : tie.Need-returns Inv-loop μ-loop
 returns c = let l = c .before .loop in record { on = l .inv .5 (c .loop-test .left); within = l .inv .0; sized = l .inv .1; is = l .inv .6 }
 
-pub paint-hued-spec : {M : Type 1} → statement M
-paint-hued-spec =
+pub paint-costly-spec : {M : Type 1} → statement M
+paint-costly-spec =
     tie.close
     (tie.spec
     Inv-loop

@@ -1,8 +1,8 @@
--- `read` meets its contract: what was read is right, or every output is zero. Assumes nothing.
+-- `read_by` meets its contract: what was read is right, or every output is zero. Assumes nothing.
 use Rattle.ggr.proofs.Finish.{done-read, done-refused}
 use borrow.Author.Needs.{needs}
-use Rattle.ggr.proofs.read.Statement.{statement}
-use Rattle.ggr.proofs.read.Tie as tie
+use Rattle.ggr.proofs.read_by.Statement.{statement}
+use Rattle.ggr.proofs.read_by.Tie as tie
 
 read-into-requires : tie.Need-read-into-requires
 read-into-requires c κs = search needs
@@ -39,7 +39,7 @@ returns c =
     let told = first .before .before in
     let into = told .before .before .before .before .before .before .before .before in
     let kept = into .read-into .kept in
-    done-refused _ _ _ (into .read-into .ensures) (kept .1 .1 .1 .0) (kept .1 .1 .1 .1 .0) (kept .1 .1 .1 .1 .1 .0) _ _ (told .enum-told2 .given .1) _ _ _ (first .zero-from .ensures) (second .zero-from2 .ensures) (bytes .zero-bytes .ensures)
+    done-refused _ _ _ (into .read-into .ensures) (kept .1 .1 .1 .1 .0) (kept .1 .1 .1 .1 .1 .0) (kept .1 .1 .1 .1 .1 .1 .0) _ _ (told .enum-told2 .given .1) _ _ _ (first .zero-from .ensures) (second .zero-from2 .ensures) (bytes .zero-bytes .ensures)
 
 same-length-4 : tie.Need-same-length-4
 same-length-4 c = search needs
@@ -53,8 +53,8 @@ same-length-6 c = search needs
 returns-2 : tie.Need-returns-2
 returns-2 c = done-read _ _ _ (c .before .before .before .before .before .before .before .before .read-into .ensures) _ (c .enum-told .given .1)
 
-pub read-spec : {M : Type 1} → statement M
-read-spec =
+pub read-by-spec : {M : Type 1} → statement M
+read-by-spec =
     tie.close
     (tie.spec
     read-into-requires

@@ -1,0 +1,6 @@
+pub mod Sums
+pub mod Inside
+pub mod Deeper
+pub mod Falling
+pub mod Tested
+pub mod Rising

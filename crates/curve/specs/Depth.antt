@@ -1,0 +1,41 @@
+-- The depth of a number strictly between 0 and 1: how many halvings lead from 1 down to it, which is its logarithm to base 2 with the sign turned. In f32, each operation rounded once.
+use Prim.Native.Nat.{ℕ, _+_, _-_, _/_, _%_, _^_}
+use mathlib.Core.Bool.{cond}
+use lib.Dec.{ltb}
+use lib.Ieee.{Float, binary32, ofBits, toBits}
+use Rattle.float.specs.F32.{_⊕_, _⊖_, _⊗_, _⊘_, f1}
+use Rattle.float.specs.Number.{countOf}
+
+-- 2.88539, 0.96193, 0.5707, 0.498
+abbrev pub a0 : Float
+a0 = ofBits binary32 0x4038_aa3b
+
+abbrev pub a1 : Float
+a1 = ofBits binary32 0x3f76_410b
+
+abbrev pub a2 : Float
+a2 = ofBits binary32 0x3f12_1965
+
+abbrev pub a3 : Float
+a3 = ofBits binary32 0x3efe_f9db
+
+-- with z = s·s: s·(2.88539 + z·(0.96193 + z·(0.5707 + z·0.498)))
+unfoldable pub seriesOf : Float → Float
+seriesOf s = s ⊗ (a0 ⊕ s ⊗ s ⊗ (a1 ⊕ s ⊗ s ⊗ (a2 ⊕ s ⊗ s ⊗ a3)))
+
+-- of m from 1/2 to below 1, with s = (1 - m) / (1 + m)
+unfoldable pub partOf : Float → Float
+partOf m = seriesOf ((f1 ⊖ m) ⊘ (f1 ⊕ m))
+
+-- The pattern b has an exponent's field e and digits below it. The digits after the field of 1/2 are m, from 1/2 to below 1; and what b stands for is m·2^-(126 - e).
+-- So with `most` = 126 this is k + the depth of m, where k = 126 - e.
+unfoldable pub levelOf : ℕ → ℕ → Float
+levelOf b most = countOf (most - b / 2 ^ 23) ⊕ partOf (ofBits binary32 (0x3f00_0000 + b % 2 ^ 23))
+
+-- 2^24
+abbrev pub lift : Float
+lift = ofBits binary32 0x4b80_0000
+
+-- A subnormal, whose pattern is below 2^23, has a field of 0. Its 2^24th multiple has none of 0, the same m, and a k that is 24 less: 126 + 24 = 150.
+unfoldable pub depthOf : Float → Float
+depthOf x = cond (ltb (toBits binary32 x) (2 ^ 23)) (levelOf (toBits binary32 (x ⊗ lift)) 150) (levelOf (toBits binary32 x) 126)
