@@ -7,10 +7,10 @@ ghost use lib.Ieee.{binary32};
 ghost use Rattle.decimal.specs.Decimal.{mostDigits, readOf, unsignedOf, numberOf};
 ghost use Rattle.decimal.specs.inner.Steps.{RunsTo, DoublesTo, ScalesTo, DividesTo, BitsOf};
 
-mod long;
+
 mod wide;
 
-pub use crate::long::read_long;
+
 
 pub enum Token {
     Number(f32),

@@ -1,4 +1,10 @@
 // The nearest f32 to a number of up to 64 binary digits times a power of ten: a long division of whole numbers below 2 ^ 180.
+ghost use mathlib.Core.Path.{_≡_};
+ghost use Prim.Native.Nat.{_+_, _*_, _^_, _<_, _≤_, compare};
+ghost use lib.Dec.{ltb};
+ghost use lib.Ieee as Ieee;
+ghost use Rattle.decimal.specs.inner.Steps.{BitsOf};
+ghost use Rattle.decimal.specs.inner.Wide.{word, wide, IsWide, Roomy, RaisesTo, LongDivides, OneMore};
 
 const WORD: u64 = 1152921504606846976;
 
@@ -9,83 +15,52 @@ struct Wide {
     lo: u64,
 }
 
-// d * 10 ^ up / 10 ^ down to the nearest f32, a tie to even, negative where neg.
-pub fn nearest_long(neg: bool, d: u64, up: u64, down: u64) -> f32 {
-    let bits = magnitude_long(d, up, down);
-    if neg {
-        f32::from_bits(2147483648 + bits)
-    } else {
-        f32::from_bits(bits)
-    }
-}
-
-// The bits of the f32 nearest to d * 10 ^ up / 10 ^ down, but for the sign's. 39 places up even 1 is beyond every f32,
-// and 65 down even 19 digits are nothing.
-fn magnitude_long(d: u64, up: u64, down: u64) -> u32 {
-    if d == 0 {
-        return 0;
-    }
-    if down <= up {
-        let by = up - down;
-        if 38 < by {
-            return 2139095040;
-        }
-        return bits_of(d, by, 0);
-    }
-    let by = down - up;
-    if 64 < by {
-        return 0;
-    }
-    bits_of(d, 0, by)
-}
-
-// The twos of the tens go into the exponent: the division is of d * 5 ^ up by 5 ^ down.
-fn bits_of(d: u64, up: u64, down: u64) -> u32 {
-    let num = fives(
-        Wide {
-            hi: 0,
-            mid: d / WORD,
-            lo: d % WORD,
-        },
-        up,
-    );
-    let by = above(
-        num,
-        fives(
-            Wide {
-                hi: 0,
-                mid: 0,
-                lo: 1,
-            },
-            down,
-        ),
-    );
+// The bits of the f32 nearest to d * 10 ^ up / 10 ^ down, but for the sign's. The twos of the tens go into the exponent:
+// the division is of d * 5 ^ up by 5 ^ down.
+pub fn long_magnitude(d: u64, up: u64, down: u64) -> u32
+    requires { ⌜ (0 < d) × ((up ≤ 38) × (down ≤ 64)) ⌝ }
+    ensures { λ r. ⌜ BitsOf (d * 10 ^ up) (10 ^ down) r ⌝ }
+{
+    let num = fives(d, up);
+    let by = raised(num, fives(1, down));
     let den = by.den;
     let most = 149 + up + by.up - down;
-    let f = divided(num, den, most);
+    let f = long_divided(num, den, most);
     let unit = most - f.down;
     if 253 < unit {
         return 2139095040;
     }
     let rest = f.rest;
-    (unit * 8388608 + rounded(f.m, rest, den)) as u32
+    let q = long_rounded(f.m, rest, den);
+    (unit * 8388608 + q) as u32
 }
 
-// w times 5 ^ n.
-fn fives(w: Wide, n: u64) -> Wide {
-    let mut r = w;
+// d times 5 ^ n.
+fn fives(d: u64, n: u64) -> Wide
+    requires { ⌜ Roomy (d * 5 ^ n) ⌝ }
+    ensures { λ r. ⌜ IsWide (d * 5 ^ n) (r .hi) (r .mid) (r .lo) ⌝ }
+{
+    let mut w = Wide {
+        hi: 0,
+        mid: d / WORD,
+        lo: d % WORD,
+    };
     let mut i: u64 = 0;
     while i < n {
-        r = five_times(r);
+        w = times(w, 5);
         i += 1;
     }
-    r
+    w
 }
 
-fn five_times(w: Wide) -> Wide {
-    let lo = w.lo * 5;
-    let mid = w.mid * 5 + lo / WORD;
-    let hi = w.hi * 5 + mid / WORD;
+// Each word takes what the one below it is over.
+fn times(w: Wide, k: u64) -> Wide
+    requires { ⌜ (w .hi < 2 * word) × ((w .mid < word) × ((w .lo < word) × (k ≤ 5))) ⌝ }
+    ensures { λ r. ⌜ IsWide (wide (w .hi) (w .mid) (w .lo) * k) (r .hi) (r .mid) (r .lo) ⌝ }
+{
+    let lo = w.lo * k;
+    let mid = w.mid * k + lo / WORD;
+    let hi = w.hi * k + mid / WORD;
     Wide {
         hi,
         mid: mid % WORD,
@@ -93,18 +68,10 @@ fn five_times(w: Wide) -> Wide {
     }
 }
 
-fn twice(w: Wide) -> Wide {
-    let lo = w.lo * 2;
-    let mid = w.mid * 2 + lo / WORD;
-    let hi = w.hi * 2 + mid / WORD;
-    Wide {
-        hi,
-        mid: mid % WORD,
-        lo: lo % WORD,
-    }
-}
-
-fn is_less(a: Wide, b: Wide) -> bool {
+fn is_less(a: Wide, b: Wide) -> bool
+    requires { ⌜ (a .mid < word) × ((a .lo < word) × ((b .mid < word) × (b .lo < word))) ⌝ }
+    ensures { λ r. ⌜ r ≡ ltb (wide (a .hi) (a .mid) (a .lo)) (wide (b .hi) (b .mid) (b .lo)) ⌝ }
+{
     if a.hi != b.hi {
         return a.hi < b.hi;
     }
@@ -114,8 +81,13 @@ fn is_less(a: Wide, b: Wide) -> bool {
     a.lo < b.lo
 }
 
-// a without b, which is no more.
-fn without(a: Wide, b: Wide) -> Wide {
+// The difference of a and b, which is no more: each word borrows one of the word above it, and gives it back where it is over.
+fn without(a: Wide, b: Wide) -> Wide
+    requires { ⌜ (a .hi < 4 * word) × ((a .mid < word) × ((a .lo < word) × ((b .mid < word) × (b .lo < word)))) ⌝ }
+    requires { ⌜ wide (b .hi) (b .mid) (b .lo) ≤ wide (a .hi) (a .mid) (a .lo) ⌝ }
+    ensures { λ r. ⌜ (r .mid < word) × (r .lo < word) ⌝ }
+    ensures { λ r. ⌜ wide (r .hi) (r .mid) (r .lo) + wide (b .hi) (b .mid) (b .lo) ≡ wide (a .hi) (a .mid) (a .lo) ⌝ }
+{
     let lo = a.lo + WORD - b.lo;
     let mid = a.mid + WORD - b.mid - (1 - lo / WORD);
     let hi = a.hi - b.hi - (1 - mid / WORD);
@@ -133,46 +105,81 @@ struct Above {
 }
 
 // den doubled until it is more than num.
-fn above(num: Wide, den: Wide) -> Above {
+fn raised(num: Wide, den: Wide) -> Above
+    requires { ⌜ (num .mid < word) × ((num .lo < word) × ((den .mid < word) × (den .lo < word))) ⌝ }
+    requires { ⌜ (0 < wide (den .hi) (den .mid) (den .lo)) × ((den .hi < word) × Roomy (wide (num .hi) (num .mid) (num .lo))) ⌝ }
+    ensures { λ r. ⌜ RaisesTo (wide (num .hi) (num .mid) (num .lo)) (wide (den .hi) (den .mid) (den .lo)) (r .den .hi) (r .den .mid) (r .den .lo) (r .up) ⌝ }
+{
     let mut d = den;
     let mut up: u64 = 0;
     while !is_less(num, d) {
-        d = twice(d);
+        d = times(d, 2);
         up += 1;
     }
     Above { den: d, up }
 }
 
 // num divided by den in binary, to down places past the point.
-struct Parts {
+struct Divided {
     m: u64,
     rest: Wide,
     down: u64,
 }
 
 // Until the quotient has 24 digits, or most places were taken.
-fn divided(num: Wide, den: Wide, most: u64) -> Parts {
+fn long_divided(num: Wide, den: Wide, most: u64) -> Divided
+    requires { ⌜ (num .mid < word) × ((num .lo < word) × ((den .mid < word) × (den .lo < word))) ⌝ }
+    requires { ⌜ (wide (num .hi) (num .mid) (num .lo) < wide (den .hi) (den .mid) (den .lo)) × (den .hi < 2 * word) ⌝ }
+    ensures { λ r. ⌜ (r .rest .hi < 2 * word) × ((r .rest .mid < word) × (r .rest .lo < word)) ⌝ }
+    ensures { λ r. ⌜ LongDivides (wide (num .hi) (num .mid) (num .lo)) (wide (den .hi) (den .mid) (den .lo)) most (r .m) (wide (r .rest .hi) (r .rest .mid) (r .rest .lo)) (r .down) ⌝ }
+{
     let mut m: u64 = 0;
     let mut rest = num;
     let mut down: u64 = 0;
     while m < 8388608 {
         if down == most {
-            return Parts { m, rest, down };
+            return Divided { m, rest, down };
         }
-        rest = twice(rest);
-        m = m * 2;
-        if !is_less(rest, den) {
-            rest = without(rest, den);
-            m = m + 1;
-        }
+        let next = next_digit(m, rest, den);
+        m = next.m;
+        rest = next.rest;
         down += 1;
     }
-    Parts { m, rest, down }
+    Divided { m, rest, down }
+}
+
+// A quotient with one more digit, and what is left.
+struct Longer {
+    m: u64,
+    rest: Wide,
+}
+
+fn next_digit(m: u64, rest: Wide, den: Wide) -> Longer
+    requires { ⌜ (rest .mid < word) × ((rest .lo < word) × ((den .mid < word) × (den .lo < word))) ⌝ }
+    requires { ⌜ (wide (rest .hi) (rest .mid) (rest .lo) < wide (den .hi) (den .mid) (den .lo)) × ((den .hi < 2 * word) × (m < 8388608)) ⌝ }
+    ensures { λ r. ⌜ (r .rest .mid < word) × (r .rest .lo < word) ⌝ }
+    ensures { λ r. ⌜ OneMore m (wide (rest .hi) (rest .mid) (rest .lo)) (wide (den .hi) (den .mid) (den .lo)) (r .m) (wide (r .rest .hi) (r .rest .mid) (r .rest .lo)) ⌝ }
+{
+    let two = times(rest, 2);
+    if is_less(two, den) {
+        return Longer {
+            m: m * 2,
+            rest: two,
+        };
+    }
+    Longer {
+        m: m * 2 + 1,
+        rest: without(two, den),
+    }
 }
 
 // m, or the next number up where the rest is more than half of den, or half of it and m is odd.
-fn rounded(m: u64, rest: Wide, den: Wide) -> u64 {
-    let two = twice(rest);
+fn long_rounded(m: u64, rest: Wide, den: Wide) -> u64
+    requires { ⌜ (rest .hi < 2 * word) × ((rest .mid < word) × ((rest .lo < word) × ((den .mid < word) × (den .lo < word)))) ⌝ }
+    requires { ⌜ m < 16777216 ⌝ }
+    ensures { λ r. ⌜ r ≡ Ieee.nearest m (compare (wide (rest .hi) (rest .mid) (rest .lo) * 2) (wide (den .hi) (den .mid) (den .lo))) ⌝ }
+{
+    let two = times(rest, 2);
     if is_less(two, den) {
         return m;
     }
