@@ -10,13 +10,14 @@ use native.Mathlib.Omega.{arith}
 use lib.Arith.{digits-div, digits-mod}
 use lib.Dec.{lit<, lit≤}
 use lib.Pow.{pow-add, pow-pos, pow-mono, pow-lt}
-use lib.Ieee.{Float, inf, binary32, size, nearest, odd, units, round, toBits}
+use lib.Ieee.{Float, inf, binary32, size, nearest, odd, units, round, toBits, ofBits}
 use lib.Ieee.Digits.{size-le, size-reaches}
 use lib.Ieee.Exact.{units-val}
 use lib.Ieee.Fits.{kept-lt, nearest-le, core, round-is}
 use lib.Ieee.Nearest.{closest, closest-same, div-same, nearest-ge}
 use borrow.Author.Tests.{le-ltb}
-use Rattle.float.proofs.Fraction.{size-is, bits-of}
+use Rattle.decimal.specs.inner.Steps.{BitsOf}
+use Rattle.float.proofs.Fraction.{size-is, bits-of, bits-back}
 use Rattle.float.proofs.Nearest.{stays}
 use Rattle.float.proofs.Units.{Full}
 use Rattle.decimal.proofs.LastDigit.{fields-at}
@@ -161,3 +162,7 @@ module _ (s : Bool) (d p x den m r k : ℕ) (P : 0 < p) (cross : d * 2 ^ 149 * d
 
   pub bits-beyond : 254 ≤ k → toBits binary32 (round binary32 s d p) ≡ cond s (2 ^ 31) 0 + 2139095040
   bits-beyond h = ap (toBits binary32) (round-beyond s d p k full-is few-is h) ∙ bits-infinite s
+
+-- ---- bits back to a value
+pub bits-value : (s : Bool) (d p b : ℕ) → BitsOf d p b → ofBits binary32 (cond s (2 ^ 31) 0 + b) ≡ round binary32 s d p
+bits-value s d p b h = ap (ofBits binary32) (h .signed s) ∙ bits-back s d p
