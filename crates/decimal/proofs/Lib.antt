@@ -9,6 +9,9 @@ pub mod Neighbours
 pub mod OneForm
 pub mod Parts
 pub mod Place
+pub mod Rounds
 pub mod Scale
 pub mod Quick
+pub mod Tens
 pub mod Theorems
+pub mod Words
