@@ -6,6 +6,7 @@ import { History } from './history.mjs';
 import { call, copy, lend, meanwhile } from './library.mjs';
 import { plural, short } from './numbers.mjs';
 import { asList, counted, depthsOf, KINDS, LINEAR, ofStops, stopsOf } from './ramp.mjs';
+import { plainName } from './read/read.mjs';
 import { line } from './report.mjs';
 import { ADD, COLOUR, MOVE, REMOVE, Sheet } from './sheet.mjs';
 import { written } from './write/write.mjs';
@@ -15,6 +16,7 @@ export const DEFAULTS = { threshold: Math.fround(0.007), hold: Math.fround(0.001
 const STEP = Math.fround(0.02);
 const [BLACK, WHITE] = [[0, 0, 0, 1], [1, 1, 1, 1]];
 const MOST_PRINTED = 50029;
+const [FALLING, BAD_EDIT] = [3, 6];
 
 /** The edit of a file; where it is refused, its line is told. */
 function editOfFile(sheet, file, edit) {
@@ -67,22 +69,40 @@ export class Editor {
         Object.assign(this, { name, text, sheet });
     }
 
-    /** Another kind, threshold, hold or sort of list, of the ramp as it is. */
+    /** Another name, kind, threshold, hold or sort of list, of the ramp as it is. */
     set(changes, words) {
         const now = this.snapshot;
-        const { kind = now.ramp.kind, ...settings } = changes;
+        const { kind = now.ramp.kind, name = now.name, ...settings } = changes;
         // the tool would read another ramp or threshold in the file
         const text = kind === now.ramp.kind && !('threshold' in changes) ? now.text : null;
-        this.reopen({ ...now, ramp: { ...now.ramp, kind }, settings: { ...now.settings, ...settings }, text }, words);
+        this.reopen({ ...now, name: plainName(name), ramp: { ...now.ramp, kind }, settings: { ...now.settings, ...settings }, text }, words);
     }
 
     /** One edit. Those with the same key, such as the steps of a drag, are taken back as one. */
     edit(edit, key = '') {
         const words = this.describe(edit);
-        const back = this.sheet.edit(edit);
+        const back = this.tried(edit);
         this.text = null;
         this.history.add({ words, back, forth: edit, key });
         this.words = words;
+    }
+
+    /** The edit that takes it back; where it is refused, what helps is said too. */
+    tried(edit) {
+        try {
+            return this.sheet.edit(edit);
+        } catch (error) {
+            throw error instanceof Refused ? new Refused(error.refusal, { more: this.advice(edit, error.refusal) }) : error;
+        }
+    }
+
+    advice({ sort, stop }, refusal) {
+        const { positions } = this.sheet.ramp;
+        const isEnd = stop === 0 || stop === positions.length - 1;
+        if (refusal === BAD_EDIT && isEnd && (sort === MOVE || sort === REMOVE)) return '; the first stop and the last hold the ends of the ramp';
+        if (refusal !== FALLING) return '';
+        const [low, high] = [positions[stop - 1], positions[sort === ADD ? stop : stop + 1]];
+        return `; here that is from ${short(low)} to ${short(high)}`;
     }
 
     describe({ sort, stop, position }) {

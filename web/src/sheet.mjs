@@ -86,6 +86,15 @@ export class Sheet {
         return back;
     }
 
+    /** Which sorts of edit the ramp's kind has, by asking: edits that would leave it as it is are tried on the strange record. */
+    get allowed() {
+        const [position, color] = [this.room.positions[0], colorAt(this.room.channels, 0)];
+        const tried = [{ sort: COLOUR, stop: 0, color }, { sort: ADD, stop: 1, position, color }];
+        strange[1].set(this.room.record[1]);
+        strange[2].set(this.room.record[2]);
+        return new Set(tried.filter(edit => this.asked('edit_told', edit, strange) !== BAD_EDIT).map(edit => edit.sort));
+    }
+
     inverse({ sort, stop }) {
         const position = this.room.positions[stop];
         const color = colorAt(this.room.channels, stop);

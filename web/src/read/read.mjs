@@ -33,9 +33,11 @@ function readerOf(marked) {
     return /[,;\t]/.test(first) ? readCsv : null;
 }
 
-/** A file's name without its ending, for what is written of it. */
+/** A name for what is written, of what somebody wrote. */
+export const plainName = text => text.replace(/\p{Cc}/gu, '').trim() || 'ramp';
+
+/** That of a file, without its ending. */
 function stem(name) {
     const at = name.lastIndexOf('.');
-    const bare = (at > 0 ? name.slice(0, at) : name).replace(/\p{Cc}/gu, '').trim();
-    return bare || 'ramp';
+    return plainName(at > 0 ? name.slice(0, at) : name);
 }

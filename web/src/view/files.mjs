@@ -1,0 +1,108 @@
+// Files opened, dropped and saved.
+import { Editor } from '../editor.mjs';
+import { Fault } from '../fault.mjs';
+import { readFile } from '../read/read.mjs';
+import { FORMATS } from '../write/write.mjs';
+import { $, make, setText } from './dom.mjs';
+import { field, showIn } from './field.mjs';
+
+/** A preview is made when nothing happens for so many milliseconds. */
+const PAUSE = 200;
+
+export function files(page) {
+    $('format').append(...Object.entries(FORMATS).map(([name, { reader }]) => make('option', { value: name }, `${name}: ${reader}`)));
+    $('new').addEventListener('click', () => openSource(page, Editor.fresh()));
+    $('file').addEventListener('change', event => {
+        openFile(page, event.target.files[0]);
+        // the same file may be chosen again
+        event.target.value = '';
+    });
+    $('save').addEventListener('click', () => save(page));
+    dropping(page);
+    field($('name'), text => page.attempt(() => page.editor.set({ name: text }, 'another name')));
+    for (const id of ['format', 'what-list', 'what-ramp', 'domain-min', 'domain-max', 'preview']) {
+        $(id).addEventListener(id === 'preview' ? 'toggle' : 'change', () => preview(page));
+    }
+    let pause = 0;
+    page.parts.push(() => {
+        showIn($('name'), page.editor.name);
+        setText($('title'), page.editor.name);
+        clearTimeout(pause);
+        pause = setTimeout(() => preview(page), PAUSE);
+    });
+}
+
+async function openFile(page, file) {
+    if (!file) return;
+    const bytes = new Uint8Array(await file.arrayBuffer());
+    try {
+        openSource(page, readFile(file.name, bytes, $('bytes').checked));
+    } catch (error) {
+        if (!(error instanceof Fault)) throw error;
+        page.refuse(error.message);
+    }
+}
+
+function openSource(page, source) {
+    page.chosen = 0;
+    // depths of another ramp mean nothing here
+    const { named } = page.editor;
+    page.editor.named = null;
+    if (!page.attempt(() => page.editor.open(source))) {
+        page.editor.named = named;
+        return;
+    }
+    $('depths-own').checked = true;
+    $('naming').hidden = true;
+    if (source.notes.length) page.say(`${$('status').textContent} ${source.notes.join('. ')}`);
+}
+
+function dropping(page) {
+    const over = isOver => event => {
+        event.preventDefault();
+        document.body.classList.toggle('dropping', isOver);
+    };
+    document.addEventListener('dragover', over(true));
+    document.addEventListener('dragleave', over(false));
+    document.addEventListener('drop', event => {
+        over(false)(event);
+        openFile(page, event.dataTransfer.files[0]);
+    });
+}
+
+/** The text of the file as it would be saved now. */
+function made(page) {
+    const [min, max] = ['domain-min', 'domain-max'].map(id => $(id).value.trim());
+    const domain = min || max ? [page.number(min, 'the domain'), page.number(max, 'the domain')] : null;
+    if (domain && domain[0] >= domain[1]) throw new Fault('', 0, 'the domain wants the lesser number first, and two that differ');
+    if (page.sheet.listRefusal && !$('what-ramp').checked) throw new Fault('', 0, page.said.line);
+    return page.editor.saved($('format').value, { isRamp: $('what-ramp').checked, domain });
+}
+
+function preview(page) {
+    const isSeen = $('preview').open;
+    try {
+        const { text, notes } = isSeen ? made(page) : { text: '', notes: [] };
+        $('preview-text').value = text;
+        setText($('save-words'), notes.join('. '));
+    } catch (error) {
+        if (!(error instanceof Fault)) throw error;
+        $('preview-text').value = '';
+        setText($('save-words'), error.message);
+    }
+}
+
+export function save(page) {
+    try {
+        const { text, notes } = made(page);
+        const file = `${page.editor.name}.${FORMATS[$('format').value].ending}`;
+        const url = URL.createObjectURL(new Blob([text]));
+        make('a', { href: url, download: file }).click();
+        URL.revokeObjectURL(url);
+        const faults = page.said.isYes ? '' : ' Judged: no.';
+        page.say([`Saved as ${file}.${faults}`, ...notes].join(' '));
+    } catch (error) {
+        if (!(error instanceof Fault)) throw error;
+        page.refuse(`Not saved: ${error.message}`);
+    }
+}
