@@ -6,7 +6,7 @@ const MOST_MESSAGE = 256;
 /** Of a file, a line of it, or an edit. */
 export class Fault extends Error {
     constructor(file, line, words) {
-        super(`${file ? `${file}${line ? `:${line}` : ''}: ` : ''}${words}`);
+        super(file ? `${file}${line ? `:${line}` : ''}: ${words}` : words.charAt(0).toUpperCase() + words.slice(1));
     }
 }
 

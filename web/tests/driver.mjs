@@ -84,6 +84,8 @@ export class Browser {
     }
 
     async click(selector) {
+        // messages stand over the page's lower edge
+        await this.run(s => document.querySelector(s).scrollIntoView({ block: 'center', behavior: 'instant' }), selector);
         return this.ask('POST', `/element/${await this.element(selector)}/click`, {});
     }
 
@@ -96,18 +98,16 @@ export class Browser {
     }
 
     /** Moves of a mouse: each { type, x, y } as the protocol has them. */
-    async mouse(...actions) {
+    mouse(...actions) {
         const all = actions.map(action => ({ duration: 20, ...action }));
-        await this.ask('POST', '/actions', { actions: [{ type: 'pointer', id: 'mouse', parameters: { pointerType: 'mouse' }, actions: all }] });
-        return this.ask('DELETE', '/actions');
+        return this.ask('POST', '/actions', { actions: [{ type: 'pointer', id: 'mouse', parameters: { pointerType: 'mouse' }, actions: all }] });
     }
 
     /** Keys pressed where the focus is; `held` stays down meanwhile. */
-    async press(keys, held = '') {
+    press(keys, held = '') {
         const step = type => value => ({ type, value });
         const actions = [...[...held].map(step('keyDown')), ...[...keys].flatMap(key => [step('keyDown')(key), step('keyUp')(key)]), ...[...held].map(step('keyUp'))];
-        await this.ask('POST', '/actions', { actions: [{ type: 'key', id: 'keys', actions }] });
-        return this.ask('DELETE', '/actions');
+        return this.ask('POST', '/actions', { actions: [{ type: 'key', id: 'keys', actions }] });
     }
 
     /** A command of the browser's own. */

@@ -91,7 +91,7 @@ export class Page {
     refuse(words) {
         // the same words twice are news twice
         $('alert').textContent = '';
-        setText($('alert'), words.charAt(0).toUpperCase() + words.slice(1));
+        setText($('alert'), words);
         setText($('status'), '');
     }
 
