@@ -1,8 +1,7 @@
 // What is asked of the library about a ramp and its list: colours, a verdict, and which depths became one.
-import { distance } from './color.mjs';
+import { distanceAt } from './color.mjs';
 import { Refused } from './fault.mjs';
 import { call, copy, lend, meanwhile } from './library.mjs';
-import { colorAt } from './ramp.mjs';
 
 export const YES = 1;
 const [MOVED, CLOSE, MERGED] = [1, 2, 4];
@@ -22,10 +21,12 @@ export function mixed({ places, colours }, ts) {
     const last = places.length - 1;
     for (let i = 0; i < ts.length; i++) {
         const right = Math.min(Math.max(firstFrom(places, ts[i]), 1), last);
-        const [from, to] = [places[right - 1], places[right]];
+        const from = places[right - 1];
+        const to = places[right];
         const share = ts[i] >= to ? 1 : ts[i] <= from ? 0 : (ts[i] - from) / (to - from);
         for (let k = 0; k < 4; k++) {
-            const [a, b] = [colours[4 * right - 4 + k], colours[4 * right + k]];
+            const a = colours[4 * right - 4 + k];
+            const b = colours[4 * right + k];
             out[4 * i + k] = share === 1 ? b : a + (b - a) * share;
         }
     }
@@ -59,7 +60,7 @@ export function apart(sheet, step, depths) {
     const threshold = call('threshold', sheet.settings.threshold);
     const all = Array.from(depths, (position, i) => ({
         position,
-        distance: distance(colorAt(shown, i), colorAt(listed, i)),
+        distance: distanceAt(shown, listed, 4 * i),
         isMoved: (faults[i] & MOVED) !== 0,
         isClose: (faults[i] & CLOSE) !== 0,
         isMerged: (faults[i] & MERGED) !== 0,

@@ -23,9 +23,12 @@ export const hexWithAlpha = color => hex(color) + (byte(color[3]) === 255 ? '' :
 
 /** How far apart two colours are, by the library's measure: half the root of the sum of the squared differences of clamped
  * channels. What is told by it is for people; what is decided is asked of the library. */
-export function distance(x, y) {
+export const distance = (x, y) => distanceAt(x, y, 0);
+
+/** The same of the colours that start at an index of channels. */
+export function distanceAt(x, y, from) {
     let sum = 0;
-    for (let i = 0; i < 4; i++) {
+    for (let i = from; i < from + 4; i++) {
         const gap = fround(clamped(x[i]) - clamped(y[i]));
         sum = fround(sum + fround(gap * gap));
     }

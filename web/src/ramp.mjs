@@ -23,7 +23,7 @@ export const lent = ({ kind, positions, channels, codes }) =>
 export const check = ramp => meanwhile(() => call('check', ...lent(ramp)));
 
 /** The colour of four channels at an index. */
-export const colorAt = (channels, i) => Array.from(channels.subarray(4 * i, 4 * i + 4));
+export const colorAt = (channels, i) => [channels[4 * i], channels[4 * i + 1], channels[4 * i + 2], channels[4 * i + 3]];
 
 export const stopsOf = (positions, channels) =>
     Array.from(positions, (position, i) => ({ position, color: colorAt(channels, i) }));

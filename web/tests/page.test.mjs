@@ -10,7 +10,7 @@ import { Opened, ROOT } from './opened.mjs';
 
 const DEPTHS = 'examples/depths.tsv';
 const RAMPS = ['examples/shelf.tsv', 'examples/golden/in/sea.ggr', 'examples/golden/in/land.cpt', 'examples/golden/in/tints.csv'];
-const PLUME = process.env.PLUME ?? join(ROOT, 'bindings/rust/target/debug/plume');
+const PLUME = process.env.PLUME ?? join(ROOT, 'target/bindings/debug/plume');
 
 let page;
 let browser;

@@ -47,21 +47,14 @@ function drawMarks(page, canvas, ink) {
     const context = canvas.getContext('2d');
     context.scale(pixels[0] / width, pixels[1] / height);
     context.translate(OUT, 0);
-    Object.assign(context, { strokeStyle: ink, lineWidth: 1.5, font: '600 11px system-ui, sans-serif', textAlign: 'center' });
+    Object.assign(context, { strokeStyle: ink, fillStyle: ink, lineWidth: 1.5, font: '600 11px system-ui, sans-serif', textAlign: 'center' });
     if (page.count > MOST_MARKS) drawLines(page, context, width - 2 * OUT, height);
     else drawPoints(page, context, width - 2 * OUT, height, ink);
 }
 
 function drawLines(page, context, width, height) {
-    context.beginPath();
-    const { positions } = page.sheet.ramp;
-    for (const position of positions) {
-        const x = page.share(position) * width;
-        context.moveTo(x, height - 10);
-        context.lineTo(x, height);
-    }
-    context.lineWidth = 1;
-    context.stroke();
+    const columns = new Set(Array.from(page.sheet.ramp.positions, position => Math.round(page.share(position) * width)));
+    for (const x of columns) context.fillRect(x - 0.5, height - 10, 1, 10);
 }
 
 function drawPoints(page, context, width, height, ink) {

@@ -57,7 +57,7 @@ function line(page, ts, values, [low, high]) {
     let d = '';
     for (let i = 0; i < ts.length; i++) {
         const y = HEIGHT * (1 - (Math.min(high, Math.max(low, values[i])) - low) / (high - low));
-        d += `${i ? 'L' : 'M'}${(page.share(ts[i]) * WIDTH).toFixed(1)} ${y.toFixed(2)}`;
+        d += `${i ? 'L' : 'M'}${Math.round(page.share(ts[i]) * 10 * WIDTH) / 10} ${Math.round(10 * y) / 10}`;
     }
     return d;
 }

@@ -72,8 +72,9 @@ function chooseAndDraw(page, stop) {
 
 /** The stop that stands nearest, or -1. Of those at one place the left one is taken from the left, the right one from the right. */
 function nearest(page, share, near) {
+    const { count } = page;
     let [best, least] = [-1, near];
-    for (let i = 0; i < page.count; i++) {
+    for (let i = 0; i < count; i++) {
         const gap = share - page.share(page.stop(i).position);
         if (Math.abs(gap) < least || (Math.abs(gap) === least && gap > 0)) [best, least] = [i, Math.abs(gap)];
     }

@@ -3,7 +3,7 @@ import { mixed, painted } from '../asked.mjs';
 import { Editor } from '../editor.mjs';
 import { Fault } from '../fault.mjs';
 import { read, short } from '../numbers.mjs';
-import { GIMP } from '../ramp.mjs';
+import { colorAt, GIMP } from '../ramp.mjs';
 import { merged } from '../report.mjs';
 import { $, setText } from './dom.mjs';
 
@@ -13,6 +13,7 @@ export class Page {
     isInverted = false;
     /** Drawn one after the other at each change. */
     parts = [];
+    #ends = null;
 
     get sheet() {
         return this.editor.sheet;
@@ -32,12 +33,14 @@ export class Page {
     stop(i) {
         const { positions, channels } = this.sheet.ramp;
         const position = this.isGimp ? positions[3 * (i >> 1) + 2 * (i & 1)] : positions[i];
-        return { position, color: Array.from(channels.subarray(4 * i, 4 * i + 4)) };
+        return { position, color: colorAt(channels, i) };
     }
 
+    /** Min and max, looked up once for each drawing: thousands of points ask for them. */
     get ends() {
+        if (this.#ends) return this.#ends;
         const { positions } = this.sheet.ramp;
-        return [positions[0], positions[positions.length - 1]];
+        return (this.#ends = [positions[0], positions[positions.length - 1]]);
     }
 
     /** Where a position stands, 0 to 1. */
@@ -105,6 +108,7 @@ export class Page {
     }
 
     redraw() {
+        this.#ends = null;
         this.choose(this.chosen);
         this.said = this.editor.said();
         for (const draw of this.parts) draw();
