@@ -2,7 +2,7 @@
 // that GMT's own tables use.
 import { read as readNumber, short } from '../numbers.mjs';
 import { LINEAR } from '../ramp.mjs';
-import { lines, withoutMark, words } from './lines.mjs';
+import { lines, trimmed, withoutMark, words } from './lines.mjs';
 import { ofNumber, quoted } from './stumble.mjs';
 
 const EXPECTED = "expected 'z r g b z r g b' or 'z r/g/b z r/g/b'";
@@ -35,8 +35,8 @@ export function readCpt(file) {
 /** A line `# COLOR_MODEL = ..` says which numbers the colours are. */
 function checkModel(file, line, comment) {
     const at = comment.indexOf('=');
-    const value = comment.slice(at + 1).trim().replace(/^\++/, '');
-    if (at >= 0 && comment.slice(0, at).trim() === 'COLOR_MODEL' && value.toLowerCase() !== 'rgb') {
+    const value = trimmed(comment.slice(at + 1)).replace(/^\++/, '');
+    if (at >= 0 && trimmed(comment.slice(0, at)) === 'COLOR_MODEL' && value.toLowerCase() !== 'rgb') {
         throw file.unread(line, `expected colours of the model RGB; found ${quoted(value)}`);
     }
 }

@@ -3,7 +3,7 @@
 import { ofHex } from '../color.mjs';
 import { read as readNumber } from '../numbers.mjs';
 import { LINEAR } from '../ramp.mjs';
-import { lines, withoutMark } from './lines.mjs';
+import { lines, trimmed, withoutMark } from './lines.mjs';
 import { ofNumber, quoted } from './stumble.mjs';
 
 const EXPECTED = 'expected a header that names a position and r, g, b, perhaps a, or a color';
@@ -23,7 +23,7 @@ export function readCsv(file) {
     const header = headerOf(file, first.line, first.said);
     const rows = [];
     for (const { line, said } of rest) {
-        if (said.trim() === '') continue;
+        if (trimmed(said) === '') continue;
         if (said.startsWith('#') && header.hex !== 0) throw file.unread(line, `comments are not read: found ${quoted(said)}`);
         rows.push(rowOf(file, line, said, header));
     }
@@ -76,6 +76,6 @@ function channelsOf(file, { channels, isBytes }, at) {
 
 /** Without spaces and quotes around it. */
 function bare(field) {
-    const inner = field.trim();
+    const inner = trimmed(field);
     return inner.length > 1 && inner.startsWith('"') && inner.endsWith('"') ? inner.slice(1, -1) : inner;
 }

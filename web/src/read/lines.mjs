@@ -18,8 +18,10 @@ export function lines(text) {
 
 export const withoutMark = text => (text.startsWith(MARK) ? text.slice(1) : text);
 
+/** White space is Unicode's, as Rust has it: a byte-order mark is none, though JavaScript takes it for some. */
+export const trimmed = said => said.replace(/^\p{White_Space}+|\p{White_Space}+$/gu, '');
 /** The fields between white space. */
-export const words = said => said.split(/\s+/).filter(Boolean);
+export const words = said => said.split(/\p{White_Space}+/u).filter(Boolean);
 
 export class File {
     /** `isBytes`: channels run to 255. */

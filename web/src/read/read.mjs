@@ -3,7 +3,7 @@ import { Fault } from '../fault.mjs';
 import { readCpt } from './cpt.mjs';
 import { readCsv } from './csv.mjs';
 import { readGimp } from './gimp.mjs';
-import { File, withoutMark } from './lines.mjs';
+import { File, trimmed, withoutMark } from './lines.mjs';
 import { readPrinted } from './printed.mjs';
 import { unknown } from './stumble.mjs';
 import { readText } from './text.mjs';
@@ -25,16 +25,16 @@ function readerOf(marked) {
     if (text.startsWith('GIMP')) return readGimp;
     const found = text.split('\n').find(line => /[^ \t\n\f\r]/.test(line) && !line.startsWith('#')) ?? '';
     const first = found.toLowerCase();
-    const [word] = first.split(/[\s,;]/);
+    const [word] = first.split(/[\p{White_Space},;]/u);
     if (word === 'stops' && first.includes('evaluations')) return readPrinted;
     if (['kind', 'threshold', 'edit'].includes(word) || (word === 'stop' && /\p{N}/u.test(first))) return readText;
-    if (['b', 'f', 'n'].includes(word) && first.trim().length > 1 && !first.includes(',')) return readCpt;
+    if (['b', 'f', 'n'].includes(word) && trimmed(first).length > 1 && !first.includes(',')) return readCpt;
     if (/^[0-9+\-.]/.test(word) && !/[,;]/.test(first)) return readCpt;
     return /[,;\t]/.test(first) ? readCsv : null;
 }
 
 /** A name for what is written, of what somebody wrote. */
-export const plainName = text => text.replace(/\p{Cc}/gu, '').trim() || 'ramp';
+export const plainName = text => trimmed(text.replace(/\p{Cc}/gu, '')) || 'ramp';
 
 /** That of a file, without its ending. */
 function stem(name) {

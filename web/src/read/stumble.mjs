@@ -1,6 +1,6 @@
 // What people stumble over, each in its own words.
 import { read as readNumber } from '../numbers.mjs';
-import { MARK } from './lines.mjs';
+import { MARK, trimmed, words } from './lines.mjs';
 
 const MOST_QUOTED = 40;
 const FORMS = "expected a GIMP gradient, the tool's text (its first line is 'kind'), a GMT colour table, or CSV with a header";
@@ -13,10 +13,10 @@ function hint(file, line, said, expected) {
     const [first, ...numbers] = said.split('\t');
     const found = numbers.find(field => readNumber(field) === null);
     if (line === 1 && file.text.startsWith(MARK)) return 'a byte-order mark stands before it: save the file as UTF-8 without one';
-    if (/^\s*[#;%]|^\/\//.test(said)) return `comments are not read: found ${quoted(said)}`;
-    if (said.trim() === '') return 'found an empty line';
+    if (/^\p{White_Space}*[#;%]|^\/\//u.test(said)) return `comments are not read: found ${quoted(said)}`;
+    if (trimmed(said) === '') return 'found an empty line';
     if (said.endsWith('\r')) return 'found a carriage return at its end with no line feed after it: end every line alike';
-    if (numbers.length === 0 && /\S\s+\S/.test(said)) return `found spaces where tabs belong: ${quoted(said)}`;
+    if (numbers.length === 0 && words(said).length > 1) return `found spaces where tabs belong: ${quoted(said)}`;
     if (first !== expected.first) return `found ${quoted(said)}`;
     if (expected.numbers === 5 && numbers.length === 4 && found === undefined) {
         return 'found 4: the alpha is missing, 1 where nothing shines through';
@@ -27,7 +27,7 @@ function hint(file, line, said, expected) {
 /** Why a field is not a number. */
 export function ofNumber(field) {
     const shown = quoted(field);
-    const inner = field.trim();
+    const inner = trimmed(field);
     if (inner === '') return 'found an empty field';
     if (inner.includes(',') && readNumber(inner.replace(',', '.')) !== null) return `a number has a point, not a comma: found ${shown}`;
     if (inner !== field && readNumber(inner) !== null) return `found spaces around a number: ${shown}`;

@@ -12,7 +12,7 @@ export function field(input, take) {
         input.dataset.shown = input.value;
         if (take(input.value)) return;
         input.dataset.shown = before;
-        setAttributes(input, { 'aria-invalid': 'true' });
+        setAttributes(input, { 'aria-invalid': 'true', 'aria-errormessage': 'alert' });
     });
     input.addEventListener('keydown', event => {
         if (event.key !== 'Escape' || !isTyped(input)) return;
@@ -23,7 +23,7 @@ export function field(input, take) {
 
 function restore(input) {
     input.value = input.dataset.shown ?? '';
-    setAttributes(input, { 'aria-invalid': null });
+    setAttributes(input, { 'aria-invalid': null, 'aria-errormessage': null });
 }
 
 /** Shows a value, unless somebody is typing. */
