@@ -10,6 +10,7 @@ import { $, setText } from './view/dom.mjs';
 import { dragging } from './view/dragging.mjs';
 import { files } from './view/files.mjs';
 import { keys } from './view/keys.mjs';
+import { listening } from './view/listening.mjs';
 import { making } from './view/making.mjs';
 import { marks } from './view/marks.mjs';
 import { Page } from './view/page.mjs';
@@ -21,9 +22,14 @@ function version() {
     return ` ${Math.floor(number / 1e6)}.${Math.floor(number / 1000) % 1000}.${number % 1000}`;
 }
 
-await start(Uint8Array.from(atob($('library').textContent), c => c.charCodeAt(0)));
 const page = new Page();
-for (const part of [bands, marks, charts, cells, dragging, chosen, table, depths, making, files, keys, reading]) part(page);
+try {
+    await start(Uint8Array.from(atob($('library').textContent), c => c.charCodeAt(0)));
+} catch (error) {
+    page.refuse('This browser does not run WebAssembly: nothing can be worked out here.');
+    throw error;
+}
+for (const part of [bands, marks, charts, cells, dragging, chosen, table, depths, making, files, keys, reading, listening]) part(page);
 setText($('version'), version());
 page.editor.open(Editor.fresh());
 page.redraw();

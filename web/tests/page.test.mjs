@@ -171,12 +171,26 @@ test('kinds, thresholds and holds are steps of their own; a GIMP ramp can be tak
 
 test('the swell profile is read in words, and inverted', async () => {
     await page.load(DEPTHS);
-    assert.equal(await browser.text('#profile-words'), 'Height of 100, where the dark rises: starts at 95, falls to 7 at 1.');
+    assert.equal(await browser.text('#profile-words'), 'Height of 100, where the dark rises: starts at 95, falls to 6.7 at 1. The list has the same heights.');
     await browser.click('#invert');
-    assert.equal(await browser.text('#profile-words'), 'Height of 100, where the light rises: starts at 5, rises to 93 at 1.');
+    assert.equal(await browser.text('#profile-words'), 'Height of 100, where the light rises: starts at 4.6, rises to 93 at 1. The list has the same heights.');
     await browser.run(() => document.getElementById('reader').focus());
     await browser.press(KEYS.home);
     assert.equal(await browser.run(() => document.getElementById('reader').getAttribute('aria-valuetext')), '0: ramp #080d2b, list #080d2b, 0 off; height 5');
+});
+
+test('the profile is listened to; what is not saved is told', async () => {
+    await page.load(DEPTHS);
+    const isPlaying = () => browser.run(() => document.getElementById('listen').getAttribute('aria-pressed'));
+    await browser.click('#listen');
+    assert.equal(await isPlaying(), 'true');
+    await browser.click('#listen');
+    assert.equal(await isPlaying(), 'false');
+    assert.equal(await browser.text('#changed'), '');
+    await browser.enter('#hex', '#101010');
+    assert.equal(await browser.text('#changed'), 'not saved yet');
+    await page.save('json', 'json');
+    assert.equal(await browser.text('#changed'), '');
 });
 
 test('after edits every format is byte for byte what plume writes of the ramp, flattened anew', { skip: !existsSync(PLUME) && `plume is not at hand: ${PLUME}` }, async () => {
@@ -186,13 +200,12 @@ test('after edits every format is byte for byte what plume writes of the ramp, f
     await browser.enter('#stop', '1');
     await browser.click('#add');
     await browser.click('#what-ramp');
-    const ramp = join(page.folder, 'shelf.tsv.kept');
-    const named = join(page.folder, 'shelf.plume');
+    // another ending, since the browser saves to this folder too; plume looks at the bytes
+    const ramp = join(page.folder, 'shelf.ramp');
     writeFileSync(ramp, await page.save('text', 'tsv'));
-    writeFileSync(named, readFileSync(ramp));
     await browser.click('#what-list');
     for (const [format, { ending }] of Object.entries(FORMATS)) {
-        const written = execFileSync(PLUME, ['flatten', named, '-t', '0.01', '--to', format], { stdio: ['ignore', 'pipe', 'ignore'] });
+        const written = execFileSync(PLUME, ['flatten', ramp, '-t', '0.01', '--to', format], { stdio: ['ignore', 'pipe', 'ignore'] });
         assert.deepEqual(await page.save(format, ending), written, format);
     }
 });

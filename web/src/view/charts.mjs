@@ -3,7 +3,7 @@ import { distance, height } from '../color.mjs';
 import { about, short } from '../numbers.mjs';
 import { colorAt, depthsOf } from '../ramp.mjs';
 import { $, make, makeSvg, setAttributes, setText } from './dom.mjs';
-import { profileWords } from './profile.mjs';
+import { gapWords, profileWords } from './profile.mjs';
 
 const [WIDTH, HEIGHT, GRID] = [1000, 100, 400];
 /** Of more stops the grid shows as much as there are pixels. */
@@ -71,14 +71,14 @@ function draw(page, part, ts, [ramp, list], of, [low, high]) {
     part.list.setAttribute('d', listValues ? line(page, ts, listValues, ends) : '');
     setText(part.words[0], part.name);
     setText(part.words[1], `${short(ends[0])} below, ${short(ends[1])} above`);
-    return rampValues;
+    return [rampValues, listValues];
 }
 
 function drawHeight(page, part, ts, colours) {
-    const heights = draw(page, part, ts, colours, color => height(color, page.isInverted), [0, 100]);
+    const [ramp, list] = draw(page, part, ts, colours, color => height(color, page.isInverted), [0, 100]);
     part.rule.setAttribute('d', `M0 ${HEIGHT / 2}H${WIDTH}`);
-    const words = profileWords(ts, heights, page.isInverted);
-    setText($('profile-words'), words);
+    const words = profileWords(ts, ramp, page.isInverted);
+    setText($('profile-words'), list ? `${words} ${gapWords(ts, ramp, list)}` : words);
     setAttributes(part.svg, { 'aria-label': words });
 }
 
@@ -86,7 +86,7 @@ function drawChannel(page, part, ts, colours, k) {
     const isUsed = k < 3 || colours.some(all => all?.some(color => color[3] !== 1));
     part.whole.hidden = !isUsed;
     if (!isUsed) return;
-    const values = draw(page, part, ts, colours, color => color[k], [0, 1]);
+    const [values] = draw(page, part, ts, colours, color => color[k], [0, 1]);
     const [low, high] = [values.reduce((x, y) => Math.min(x, y)), values.reduce((x, y) => Math.max(x, y))];
     setAttributes(part.svg, { 'aria-label': `${part.name}: from ${about(low)} to ${about(high)}; the table of stops has its numbers` });
 }

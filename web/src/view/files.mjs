@@ -23,14 +23,19 @@ export function files(page) {
     for (const id of ['format', 'what-list', 'what-ramp', 'domain-min', 'domain-max', 'preview']) {
         $(id).addEventListener(id === 'preview' ? 'toggle' : 'change', () => preview(page));
     }
+    addEventListener('beforeunload', event => isChanged(page) && event.preventDefault());
     let pause = 0;
     page.parts.push(() => {
         showIn($('name'), page.editor.name);
         setText($('title'), page.editor.name);
+        setText($('changed'), isChanged(page) ? 'not saved yet' : '');
         clearTimeout(pause);
         pause = setTimeout(() => preview(page), PAUSE);
     });
 }
+
+/** Whether something was done since it was opened or saved. */
+const isChanged = page => page.editor.history.before !== page.kept;
 
 async function openFile(page, file) {
     if (!file) return;
@@ -54,6 +59,8 @@ function openSource(page, source) {
     }
     $('depths-own').checked = true;
     $('naming').hidden = true;
+    page.kept = page.editor.history.before;
+    page.redraw();
     if (source.notes.length) page.say(`${$('status').textContent} ${source.notes.join('. ')}`);
 }
 
@@ -100,6 +107,8 @@ export function save(page) {
         make('a', { href: url, download: file }).click();
         URL.revokeObjectURL(url);
         const faults = page.said.isYes ? '' : ' Judged: no.';
+        page.kept = page.editor.history.before;
+        page.redraw();
         page.say([`Saved as ${file}.${faults}`, ...notes].join(' '));
     } catch (error) {
         if (!(error instanceof Fault)) throw error;

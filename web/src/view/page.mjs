@@ -11,6 +11,8 @@ export class Page {
     editor = new Editor();
     chosen = 0;
     isInverted = false;
+    /** The last step that a file has. */
+    kept = undefined;
     /** Drawn one after the other at each change. */
     parts = [];
     #ends = null;

@@ -26,7 +26,8 @@ export function turnsOf(ts, heights) {
     return turns;
 }
 
-const rounded = height => String(Math.round(height));
+/** Below 10 with a tenth. */
+const rounded = height => String(height < 10 ? Math.round(10 * height) / 10 : Math.round(height));
 const VERBS = { 1: 'rises to', '-1': 'falls to', 0: 'stays at' };
 
 export function profileWords(ts, heights, isInverted) {
@@ -35,4 +36,12 @@ export function profileWords(ts, heights, isInverted) {
     const more = turns.length > MOST_TURNS ? `, and turns ${turns.length - MOST_TURNS} times more` : '';
     const which = isInverted ? 'the light rises' : 'the dark rises';
     return `Height of 100, where ${which}: starts at ${rounded(heights[0])}, ${said.join(', ')}${more}.`;
+}
+
+/** How far the list's heights are from the ramp's. */
+export function gapWords(ts, ramp, list) {
+    const gaps = ramp.map((height, i) => Math.abs(height - list[i]));
+    const most = gaps.reduce((far, gap, i) => (gap > gaps[far] ? i : far), 0);
+    if (gaps[most] < 0.5) return 'The list has the same heights.';
+    return `The list is off by ${rounded(gaps[most])} at most, at ${short(Number(ts[most].toPrecision(3)))}.`;
 }
