@@ -3,19 +3,16 @@
 import { apart, firstFrom, judged, painted, YES } from './asked.mjs';
 import { message, Refused } from './fault.mjs';
 import { History } from './history.mjs';
-import { call, copy, lend, meanwhile } from './library.mjs';
 import { plural, short } from './numbers.mjs';
-import { asList, counted, depthsOf, KINDS, LINEAR, ofStops, stopsOf } from './ramp.mjs';
+import { asList, counted, depthsOf, LINEAR, ofStops, stopsOf } from './ramp.mjs';
 import { plainName } from './read/read.mjs';
 import { line } from './report.mjs';
 import { ADD, COLOUR, MOVE, REMOVE, Sheet } from './sheet.mjs';
-import { written } from './write/write.mjs';
 
 /** plume's, where nothing is named. */
 export const DEFAULTS = { threshold: Math.fround(0.007), hold: Math.fround(0.001), isPublished: false };
 const STEP = Math.fround(0.02);
 const [BLACK, WHITE] = [[0, 0, 0, 1], [1, 1, 1, 1]];
-const MOST_PRINTED = 50029;
 const [FALLING, BAD_EDIT] = [3, 6];
 
 /** The edit of a file; where it is refused, its line is told. */
@@ -179,43 +176,5 @@ export class Editor {
             own,
             isYes,
         };
-    }
-
-    /** The text of a file, byte for byte plume's: of the list as `plume flatten` writes it, or of the ramp's own stops as
-     * `plume convert` does where it is mixed linearly or the format keeps its kind. */
-    saved(format, { isRamp = false, domain = null } = {}) {
-        const { ramp } = this.sheet;
-        const keepsKind = format === 'text' && KINDS[ramp.kind] !== 'GIMP';
-        const own = isRamp ? (keepsKind ? stopsOf(ramp.positions, ramp.channels) : asList(ramp)) : null;
-        if (own) return written({ name: this.name, kind: keepsKind ? ramp.kind : LINEAR, stops: own, evaluations: 0, domain }, format);
-        const printed = format === 'bits' && !domain && this.printed();
-        if (printed) return { text: printed, notes: [] };
-        const evaluations = format === 'bits' ? this.evaluations() : 0;
-        return written({ name: this.name, kind: LINEAR, stops: this.listStops(), evaluations, domain }, format);
-    }
-
-    /** How many colours a fresh flattening of the ramp asks for: a file does not tell by which edits a list came about. */
-    evaluations() {
-        const { ramp, settings } = this.sheet;
-        return meanwhile(() => {
-            const told = lend(BigUint64Array, 2);
-            const record = [lend(Float32Array, 4608), lend(Uint8Array, 36), lend(Uint32Array, 3)];
-            const out = [lend(Float32Array, 4609), lend(Float32Array, 4 * 4609)];
-            const given = [ramp.kind, ramp.positions, ramp.channels, ramp.codes, settings.threshold];
-            if (settings.isPublished) call('flatten_told', ...given, ...record, ...out, told);
-            else call('flatten_within_told', ...given, settings.hold, ...record, ...out, told);
-            return Number(told[1]);
-        });
-    }
-
-    /** What the tool prints of a file that nobody changed, where the same is asked of it. */
-    printed() {
-        if (!this.text || !this.sheet.settings.isPublished) return null;
-        return meanwhile(() => {
-            const out = lend(Uint8Array, MOST_PRINTED);
-            const length = Number(call('desk', copy(Uint8Array, this.text), out));
-            const printed = new TextDecoder().decode(out.slice(0, length));
-            return printed.startsWith('stops\t') ? printed : null;
-        });
     }
 }

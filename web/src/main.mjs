@@ -9,6 +9,7 @@ import { depths } from './view/depths.mjs';
 import { $, setText } from './view/dom.mjs';
 import { dragging } from './view/dragging.mjs';
 import { files } from './view/files.mjs';
+import { handle } from './view/handle.mjs';
 import { keys } from './view/keys.mjs';
 import { listening } from './view/listening.mjs';
 import { making } from './view/making.mjs';
@@ -29,7 +30,7 @@ try {
     page.refuse('This browser does not run WebAssembly: nothing can be worked out here.');
     throw error;
 }
-for (const part of [bands, marks, charts, cells, dragging, chosen, table, depths, making, files, keys, reading, listening]) part(page);
+for (const part of [bands, marks, charts, cells, dragging, handle, chosen, table, depths, making, files, keys, reading, listening]) part(page);
 setText($('version'), version());
 page.editor.open(Editor.fresh());
 page.redraw();

@@ -18,13 +18,14 @@ function room() {
         channels: lend(Float32Array, 4 * MOST_STOPS),
         codes: lend(Uint8Array, MOST_CODES),
         record: recordRoom(),
-        places: lend(Float32Array, MOST_POINTS),
-        colours: lend(Float32Array, 4 * MOST_POINTS),
+        list: listRoom(),
         told: lend(BigUint64Array, 3),
     };
 }
 
-const recordRoom = () => [lend(Float32Array, ROWS), lend(Uint8Array, CELLS), lend(Uint32Array, MARKS)];
+/** Rows, counts and marks; places and colours. */
+export const recordRoom = () => [lend(Float32Array, ROWS), lend(Uint8Array, CELLS), lend(Uint32Array, MARKS)];
+export const listRoom = () => [lend(Float32Array, MOST_POINTS), lend(Float32Array, 4 * MOST_POINTS)];
 
 // Two, so that a ramp that is refused leaves the one that is open as it is.
 let rooms = null;
@@ -69,7 +70,7 @@ export class Sheet {
 
     /** The list: views as well. It has no stops where `listRefusal` is not 0. */
     get list() {
-        const { places, colours } = this.room;
+        const [places, colours] = this.room.list;
         return { places: places.subarray(0, this.listed), colours: colours.subarray(0, 4 * this.listed) };
     }
 
@@ -137,10 +138,10 @@ export class Sheet {
     }
 
     makeList() {
-        const { record, places, colours, told } = this.room;
+        const { record, list, told } = this.room;
         const { threshold, hold, isPublished } = this.settings;
         const asked = isPublished ? ['thin_told', ...this.lentRamp(), threshold] : ['thin_within_told', ...this.lentRamp(), threshold, hold];
-        this.listRefusal = call(...asked, ...record, places, colours, told);
+        this.listRefusal = call(...asked, ...record, ...list, told);
         if (this.listRefusal && !LIST_REFUSALS.includes(this.listRefusal)) throw new Refused(this.listRefusal);
         this.listed = Number(told[0]);
     }

@@ -55,14 +55,14 @@ for (const scheme of ['light', 'dark']) {
         await browser.cdp('Emulation.setEmulatedMedia', { features: [{ name: 'prefers-color-scheme', value: scheme }] });
         await browser.enter('#position', '9');
         assert.match(await page.alert(), /^Refused/);
-        assert.deepEqual(await browser.run(lowContrast), []);
+        assert.deepEqual(await lowContrast(browser), []);
         await browser.type('#position', KEYS.escape);
     });
 }
 
 test('a text that is too pale is found', async () => {
     await browser.run(() => document.getElementById('said').style.setProperty('color', '#777'));
-    assert.equal((await browser.run(lowContrast)).length, 1);
+    assert.equal((await lowContrast(browser)).length, 1);
     await browser.run(() => document.getElementById('said').removeAttribute('style'));
 });
 

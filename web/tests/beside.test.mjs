@@ -10,6 +10,7 @@ import { ROOT } from '../../compare/wasm/library.mjs';
 import { Editor } from '../src/editor.mjs';
 import { Fault } from '../src/fault.mjs';
 import { readFile } from '../src/read/read.mjs';
+import { saved } from '../src/saving.mjs';
 import { FORMATS } from '../src/write/write.mjs';
 import { Files } from './random_files.mjs';
 
@@ -28,7 +29,7 @@ function made(name, bytes) {
     }
     const texts = Object.keys(FORMATS).map(format => {
         try {
-            return [format, editor.saved(format).text];
+            return [format, saved(editor, format).text];
         } catch (error) {
             if (!(error instanceof Fault)) throw error;
             return [format, error];

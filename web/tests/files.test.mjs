@@ -6,6 +6,7 @@ import { test } from 'node:test';
 import { ROOT } from '../../compare/wasm/library.mjs';
 import { Editor } from '../src/editor.mjs';
 import { readFile } from '../src/read/read.mjs';
+import { saved } from '../src/saving.mjs';
 import { FORMATS } from '../src/write/write.mjs';
 
 const RAMPS = ['examples/shelf.tsv', 'examples/golden/in/sea.ggr', 'examples/golden/in/land.cpt', 'examples/golden/in/tints.csv'];
@@ -22,7 +23,7 @@ for (const path of RAMPS) {
         test(`${path} as ${format}`, () => {
             const editor = opened(path);
             const stored = readFileSync(join(ROOT, `examples/golden/${editor.name}.${ending}`), 'utf8');
-            assert.equal(editor.saved(format).text, stored);
+            assert.equal(saved(editor, format).text, stored);
         });
     }
 }
@@ -31,6 +32,6 @@ for (const name of ['depths', 'depths-edited', 'lost-band', 'shelf']) {
     test(`the published bits of ${name} are the tool's`, () => {
         const editor = opened(`examples/${name}.tsv`);
         editor.set({ isPublished: true }, 'published');
-        assert.equal(editor.saved('bits').text, readFileSync(join(ROOT, `examples/printed/${name}.txt`), 'utf8'));
+        assert.equal(saved(editor, 'bits').text, readFileSync(join(ROOT, `examples/printed/${name}.txt`), 'utf8'));
     });
 }

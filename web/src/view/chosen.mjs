@@ -46,8 +46,7 @@ export function addAfter(page) {
     const addition = page.editor.addition(Math.fround(middle));
     const isMade = page.attempt(() => page.editor.edit({ ...addition, stop: before + 1 }));
     if (!isMade) return;
-    page.choose(before + 1);
-    page.redraw();
+    page.chooseAndDraw(before + 1);
 }
 
 function choose(page, text) {
@@ -56,8 +55,7 @@ function choose(page, text) {
         page.refuse(`There is no stop '${text}': they are counted from 0 to ${page.count - 1}.`);
         return false;
     }
-    page.choose(stop);
-    page.redraw();
+    page.chooseAndDraw(stop);
     return true;
 }
 

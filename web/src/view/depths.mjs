@@ -64,7 +64,8 @@ function draw(page, pager) {
     showIn($('step'), short(step));
     setText($('depths-words'), apart ? `${counted(apart)}.` : 'There is no list to hold them against.');
     const all = apart?.depths ?? [];
-    const nameOf = i => named?.[i].name || (named ? short(named[i].position) : `stop ${i}`);
+    const own = page.isGimp ? 'edge' : 'stop';
+    const nameOf = i => named?.[i].name || (named ? short(named[i].position) : `${own} ${i}`);
     const rows = all.length ? pager.indices(all.length) : [];
     children($('depths-table').tBodies[0], rows.length, () => make('tr', {}, make('th', { scope: 'row' }), make('td'), make('td'), make('td')))
         .forEach((row, i) => {

@@ -2,6 +2,7 @@
 import { Editor } from '../editor.mjs';
 import { Fault } from '../fault.mjs';
 import { readFile } from '../read/read.mjs';
+import { saved } from '../saving.mjs';
 import { FORMATS } from '../write/write.mjs';
 import { $, make, setText } from './dom.mjs';
 import { field, showIn } from './field.mjs';
@@ -83,7 +84,7 @@ function made(page) {
     const domain = min || max ? [page.number(min, 'the domain'), page.number(max, 'the domain')] : null;
     if (domain && domain[0] >= domain[1]) throw new Fault('', 0, 'the domain wants the lesser number first, and two that differ');
     if (page.sheet.listRefusal && !$('what-ramp').checked) throw new Fault('', 0, page.said.line);
-    return page.editor.saved($('format').value, { isRamp: $('what-ramp').checked, domain });
+    return saved(page.editor, $('format').value, { isRamp: $('what-ramp').checked, domain });
 }
 
 function preview(page) {

@@ -1,6 +1,7 @@
 // What `apart` finds, below the bands: a mark with the numbers of the stops or the names of the depths, hatched once where they moved and crosswise
 // where they became one. The same stands in words in the table of depths.
 import { $, makeSvg } from './dom.mjs';
+import { brief } from './page.mjs';
 
 const [MARK, GAP, NEAR, LETTER] = [18, 4, 44, 8];
 
@@ -21,7 +22,8 @@ export function marks(page) {
             ['moved', runs(page, depths, width, i => (depths[i].isMoved ? i : -1))],
             ['merged', runs(page, depths, width, i => (depths[i].isMerged ? i - 1 : -1))],
         ];
-        drawn.replaceChildren(...rows.flatMap(([name, found], row) => found.flatMap(run => mark(label(page, name, run), name, run, GAP + row * (MARK + 2), width))));
+        const all = rows.flatMap(([name, found], row) => found.flatMap(run => mark(label(page, name, run), name, run, GAP + row * (MARK + 2), width)));
+        drawn.replaceChildren(...(all.length ? all : [makeSvg('text', { class: 'none', x: 0, y: MARK + GAP }, 'None moved, none merged.')]));
         svg.setAttribute('viewBox', `0 0 ${width} ${2 * MARK + 8}`);
     });
 }
@@ -41,7 +43,8 @@ function runs(page, depths, width, first) {
 }
 
 function label(page, name, { first, last }) {
-    const called = i => page.editor.named?.[i].name || i;
+    // the ends of GIMP segments are counted otherwise than depths
+    const called = i => page.editor.named?.[i].name || (page.isGimp ? brief(page.editor.depths[i]) : i);
     return `${name} ${called(first)}${first === last ? '' : `–${called(last)}`}`;
 }
 

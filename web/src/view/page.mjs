@@ -104,6 +104,11 @@ export class Page {
         this.chosen = Math.min(Math.max(stop, 0), this.count - 1);
     }
 
+    chooseAndDraw(stop) {
+        this.choose(stop);
+        this.redraw();
+    }
+
     /** Ramp and list at many points, four channels each; the list's are null where it is refused. */
     colours(ts) {
         return [painted(this.sheet, ts), this.sheet.listRefusal ? null : mixed(this.sheet.list, ts)];

@@ -1,5 +1,5 @@
 // The swell profile in words: where it rises, falls and stays level, as a finger would find it.
-import { short } from '../numbers.mjs';
+import { brief } from './page.mjs';
 
 /** Less than this, of 100, no finger feels. */
 const FELT = 2;
@@ -32,7 +32,7 @@ const VERBS = { 1: 'rises to', '-1': 'falls to', 0: 'stays at' };
 
 export function profileWords(ts, heights, isInverted) {
     const turns = turnsOf(ts, heights);
-    const said = turns.slice(0, MOST_TURNS).map(({ way, at, height }) => `${VERBS[way]} ${rounded(height)} at ${short(Number(at.toPrecision(3)))}`);
+    const said = turns.slice(0, MOST_TURNS).map(({ way, at, height }) => `${VERBS[way]} ${rounded(height)} at ${brief(at)}`);
     const more = turns.length > MOST_TURNS ? `, and turns ${turns.length - MOST_TURNS} times more` : '';
     const which = isInverted ? 'the light rises' : 'the dark rises';
     return `Height of 100, where ${which}: starts at ${rounded(heights[0])}, ${said.join(', ')}${more}.`;
@@ -43,5 +43,5 @@ export function gapWords(ts, ramp, list) {
     const gaps = ramp.map((height, i) => Math.abs(height - list[i]));
     const most = gaps.reduce((far, gap, i) => (gap > gaps[far] ? i : far), 0);
     if (gaps[most] < 0.5) return 'The list has the same heights.';
-    return `The list is off by ${rounded(gaps[most])} at most, at ${short(Number(ts[most].toPrecision(3)))}.`;
+    return `The list is off by ${rounded(gaps[most])} at most, at ${brief(ts[most])}.`;
 }

@@ -29,8 +29,7 @@ function row(page) {
     const stop = () => Number(made.dataset.stop);
     const choose = () => {
         if (page.chosen === stop()) return;
-        page.choose(stop());
-        page.redraw();
+        page.chooseAndDraw(stop());
     };
     FIELDS.forEach((name, column) => {
         const input = make('input', { type: 'text', autocomplete: 'off', spellcheck: 'false' });
@@ -82,7 +81,6 @@ function walk(page, pager, body, event) {
     if (to < 0 || to >= page.count) return;
     event.preventDefault();
     pager.show(to);
-    page.choose(to);
-    page.redraw();
+    page.chooseAndDraw(to);
     body.querySelector(`[data-stop="${to}"]`).cells[cell.cellIndex].querySelector('input, button').focus();
 }
