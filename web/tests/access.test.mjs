@@ -47,7 +47,7 @@ test('the document has a language, a title, one main part, and every name that i
         const lost = pointed.filter(id => id && !ids.includes(id));
         return [document.documentElement.lang, document.title, document.querySelectorAll('main').length, document.querySelectorAll('h1').length, twice, lost];
     });
-    assert.deepEqual(faults, ['en', 'Guineaplume', 1, 1, [], []]);
+    assert.deepEqual(faults, ['en', 'lost-band – Guineaplume', 1, 1, [], []]);
 });
 
 for (const scheme of ['light', 'dark']) {

@@ -7,6 +7,7 @@ import { after, before, test } from 'node:test';
 import { FORMATS } from '../src/write/write.mjs';
 import { KEYS } from './driver.mjs';
 import { Opened, ROOT } from './opened.mjs';
+import { Files } from './random_files.mjs';
 
 const DEPTHS = 'examples/depths.tsv';
 const RAMPS = ['examples/shelf.tsv', 'examples/golden/in/sea.ggr', 'examples/golden/in/land.cpt', 'examples/golden/in/tints.csv'];
@@ -191,6 +192,32 @@ test('the profile is listened to; what is not saved is told', async () => {
     assert.equal(await browser.text('#changed'), 'not saved yet');
     await page.save('json', 'json');
     assert.equal(await browser.text('#changed'), '');
+});
+
+test('whatever is dropped and pressed, nothing goes wrong unsaid', async () => {
+    await page.load();
+    const files = new Files(45);
+    const texts = Array.from({ length: 40 }, () => files.next());
+    const errors = await browser.runAsync(async texts => {
+        const wrong = [];
+        addEventListener('error', event => wrong.push(event.message));
+        addEventListener('unhandledrejection', event => wrong.push(String(event.reason)));
+        const handle = document.getElementById('handle');
+        const press = key => handle.dispatchEvent(new KeyboardEvent('keydown', { key, bubbles: true, ctrlKey: key === 'z' }));
+        for (const [i, text] of texts.entries()) {
+            const dropped = new DataTransfer();
+            dropped.items.add(new File([text], `r${i}.txt`));
+            document.dispatchEvent(new DragEvent('drop', { dataTransfer: dropped, bubbles: true, cancelable: true }));
+            await new Promise(done => setTimeout(done));
+            for (const key of ['n', 'ArrowRight', 'Insert', 'PageUp', 'Delete', 'End', 'ArrowLeft', 'z', 'z']) press(key);
+            document.getElementById('sort').value = i % 2 ? 'published' : 'within';
+            document.getElementById('sort').dispatchEvent(new Event('change'));
+        }
+        while (document.getElementById('undo').ariaDisabled !== 'true') press('z');
+        return wrong;
+    }, texts);
+    assert.deepEqual(errors, []);
+    assert.equal(await browser.text('#title'), 'ramp');
 });
 
 test('after edits every format is byte for byte what plume writes of the ramp, flattened anew', { skip: !existsSync(PLUME) && `plume is not at hand: ${PLUME}` }, async () => {

@@ -9,6 +9,8 @@ const MOST_COLUMNS = 2000;
 const [MOST_MARKS, LEAST_GAP, MARK] = [96, 22, 7];
 /** Marks stand out at the ends by this much. */
 const OUT = 12;
+/** Pixels of a line that stands for a stop. */
+const TICK = 10;
 
 export function bands(page) {
     const [ramp, list, ticks] = [$('ramp-band'), $('list-band'), $('ticks')];
@@ -25,6 +27,7 @@ export function bands(page) {
         fill(ramp, shown, width);
         fill(list, listed ?? new Float32Array(4 * width), width);
         drawMarks(page, ticks, ink);
+        drawLines(page, drawingOn($('list-ticks'), ink), $('list-ticks').clientWidth, page.sheet.list.places, TICK);
         label(page);
     });
 }
@@ -41,20 +44,27 @@ function fill(canvas, channels, width) {
 
 /** A pointed mark for each stop, in its colour, with its number where there is room. */
 function drawMarks(page, canvas, ink) {
-    const [width, height] = [canvas.clientWidth, canvas.clientHeight];
+    const [width, height] = [canvas.clientWidth - 2 * OUT, canvas.clientHeight];
+    const context = drawingOn(canvas, ink);
+    context.translate(OUT, 0);
+    if (page.count > MOST_MARKS) drawLines(page, context, width, page.sheet.ramp.positions, height);
+    else drawPoints(page, context, width, height, ink);
+}
+
+/** A canvas with nothing on it, whose lengths are the page's. */
+function drawingOn(canvas, ink) {
+    const [width, height] = [canvas.clientWidth, canvas.clientHeight].map(length => Math.max(1, length));
     const pixels = [Math.round(width * devicePixelRatio), Math.round(height * devicePixelRatio)];
     [canvas.width, canvas.height] = pixels;
     const context = canvas.getContext('2d');
     context.scale(pixels[0] / width, pixels[1] / height);
-    context.translate(OUT, 0);
-    Object.assign(context, { strokeStyle: ink, fillStyle: ink, lineWidth: 1.5, font: '600 11px system-ui, sans-serif', textAlign: 'center' });
-    if (page.count > MOST_MARKS) drawLines(page, context, width - 2 * OUT, height);
-    else drawPoints(page, context, width - 2 * OUT, height, ink);
+    return Object.assign(context, { strokeStyle: ink, fillStyle: ink, lineWidth: 1.5, font: '600 11px system-ui, sans-serif', textAlign: 'center' });
 }
 
-function drawLines(page, context, width, height) {
-    const columns = new Set(Array.from(page.sheet.ramp.positions, position => Math.round(page.share(position) * width)));
-    for (const x of columns) context.fillRect(x - 0.5, height - 10, 1, 10);
+/** A line above a height for each position, one for those that fall on the same pixel. */
+function drawLines(page, context, width, positions, bottom) {
+    const columns = new Set(Array.from(positions, position => Math.round(page.share(position) * width)));
+    for (const x of columns) context.fillRect(x - 0.5, bottom - TICK, 1, TICK);
 }
 
 function drawPoints(page, context, width, height, ink) {

@@ -29,6 +29,7 @@ export function files(page) {
     page.parts.push(() => {
         showIn($('name'), page.editor.name);
         setText($('title'), page.editor.name);
+        document.title = `${page.editor.name} – Guineaplume`;
         setText($('changed'), isChanged(page) ? 'not saved yet' : '');
         clearTimeout(pause);
         pause = setTimeout(() => preview(page), PAUSE);
@@ -50,16 +51,13 @@ async function openFile(page, file) {
 }
 
 function openSource(page, source) {
-    page.chosen = 0;
-    // depths of another ramp mean nothing here
-    const { named } = page.editor;
-    page.editor.named = null;
-    if (!page.attempt(() => page.editor.open(source))) {
-        page.editor.named = named;
-        return;
-    }
-    $('depths-own').checked = true;
-    $('naming').hidden = true;
+    const isOpened = page.attempt(() => {
+        page.editor.open(source);
+        // depths of another ramp mean nothing here
+        page.forgetDepths();
+        page.chosen = 0;
+    });
+    if (!isOpened) return;
     page.kept = page.editor.history.before;
     page.redraw();
     if (source.notes.length) page.say(`${$('status').textContent} ${source.notes.join('. ')}`);

@@ -114,10 +114,28 @@ export class Page {
         return [painted(this.sheet, ts), this.sheet.listRefusal ? null : mixed(this.sheet.list, ts)];
     }
 
+    /** What is said of the list. Depths that somebody named need not lie on the ramp that an undoing brings back. */
+    asked() {
+        try {
+            return this.editor.said();
+        } catch (error) {
+            if (!(error instanceof Fault && this.editor.named)) throw error;
+            this.forgetDepths();
+            return this.editor.said();
+        }
+    }
+
+    /** From now on the ramp's own stops are the depths. */
+    forgetDepths() {
+        this.editor.named = null;
+        $('depths-own').checked = true;
+        $('naming').hidden = true;
+    }
+
     redraw() {
         this.#ends = null;
         this.choose(this.chosen);
-        this.said = this.editor.said();
+        this.said = this.asked();
         for (const draw of this.parts) draw();
     }
 }
