@@ -21,3 +21,5 @@ pub mod Spans
 pub mod UnitSums
 pub mod Adjacent
 pub mod Neighbours
+pub mod RoundOff
+pub mod OperationsOff
