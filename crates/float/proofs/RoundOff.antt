@@ -47,6 +47,15 @@ same-off r n c m d C e h =
     swap : (x y : ℕ) → x * y ≡ y * x
     swap x y = omega arith
 
+-- either way, by both
+pub off-high : (r n c : ℕ) → Off r n c → 2 ^ 24 * (r * c) ≤ 2 ^ 24 * n + n + 2 ^ 24 * c
+off-high r n c (inl h) = let a = h .0 in omega arith
+off-high r n c (inr h) = let a = h .0 in omega arith
+
+pub off-low : (r n c : ℕ) → Off r n c → 2 ^ 24 * n ≤ 2 ^ 24 * (r * c) + n + 2 ^ 24 * c
+off-low r n c (inl h) = let a = h .1 in omega arith
+off-low r n c (inr h) = let a = h .1 in omega arith
+
 -- of a whole number it is one part in 2 ^ 24
 abbrev pub Part : ℕ → ℕ → Type 0
 Part r n = (2 ^ 24 * r ≤ 2 ^ 24 * n + n) × (2 ^ 24 * n ≤ 2 ^ 24 * r + n)
