@@ -2,9 +2,8 @@
 -- Assumes nothing.
 use mathlib.Core.Path.{_≡_, refl}
 use Prim.Native.Nat.{ℕ, _+_, _-_, _*_, _^_, _≤_}
-use native.Mathlib.Nat.{le-trans, mul-le-mul, mul-le-mul-right, le-of-mul-le-mul-right}
+use native.Mathlib.Nat.{le-trans, mul-le-mul-right}
 use native.Mathlib.Omega.{arith}
-use lib.Dec.{lit<}
 use Rattle.float.proofs.RoundOff.{Part, Off, off-high, off-low}
 use Rattle.sqrt.proofs.Squared.{Squared}
 use Rattle.difference.proofs.Triangle.{sq-le, sq-back, squares4}
@@ -93,11 +92,6 @@ half-high e r m t T h k = omega arith
 
 half-low : (e r h : ℕ) → 2 ^ 24 * r ≤ 2 ^ 24 * (e * 2) + r + 2 ^ 24 * 2 → e ≤ h → (2 ^ 28 + 65) * r ≤ (2 ^ 28 + 83) * (2 * h + 2)
 half-low e r h a b = omega arith
-
--- ---- three in a row
-legs : (e h s k t m n o : ℕ) → 1000 ≤ t → 2 ^ 57 * e ≤ (2 ^ 28 + 84) * (m + n + o) + 2 ^ 57 * t → m ≤ (2 ^ 28 + 83) * (2 * h + 2) + 2 ^ 28 * t → n ≤ (2 ^ 28 + 83) * (2 * s + 2) + 2 ^ 28 * t → o ≤ (2 ^ 28 + 83) * (2 * k + 2) + 2 ^ 28 * t
-    → 2 ^ 28 * e ≤ (2 ^ 28 + 168) * (h + s + k) + 3 * 2 ^ 28 * t
-legs e h s k t m n o T a b c d = omega arith
 
 -- ---- from the four differences to the half of the root, one rounded step after another
 pub record Squarely (v p u : ℕ) : Type 0 where

@@ -1,8 +1,8 @@
 -- The triangle inequality of four channels, over whole numbers: where the squares from a to b add up to no more than m², and those from b to c to no more than n², those from a to c do to no more than (m + n)².
 -- There are no roots here. Assumes nothing.
 use mathlib.Core.Path.{_≡_, subst}
-use Prim.Native.Nat.{ℕ, _+_, _-_, _*_, _≤_, _<_}
-use native.Mathlib.Nat.{le-trans, le-dest, lt-of-not-le, not-le-of-lt, mul-pos, mul-le-mul, mul-le-mul-right, le-of-mul-le-mul-right}
+use Prim.Native.Nat.{ℕ, suc, _+_, _-_, _*_, _≤_, _<_}
+use native.Mathlib.Nat.{le-refl, le-dest, lt-of-not-le, not-le-of-lt, mul-pos, mul-le-mul, mul-le-mul-right, le-of-mul-le-mul-right}
 use native.Mathlib.Decide.{decLe}
 use native.Mathlib.Omega.{arith}
 use Rattle.float.proofs.RoundOff.{gap}
@@ -35,7 +35,7 @@ twice a b = go (decLe a b)
     go (yes l) = let d = le-dest l in subst (λ (x : ℕ). 2 * (a * x) ≤ a * a + x * x) (d .1) (less a (d .0))
     go (no f) = let d = le-dest (lt-of-not-le f) in subst (λ (x : ℕ). 2 * (x * b) ≤ x * x + b * b) (back b a (d .0) (d .1)) (more b (a - b))
       where
-        back : (b a k : ℕ) → Prim.Native.Nat.suc b + k ≡ a → b + (a - b) ≡ a
+        back : (b a k : ℕ) → suc b + k ≡ a → b + (a - b) ≡ a
         back b a k e = omega arith
 
 -- ---- one channel
@@ -44,7 +44,7 @@ gap-triangle a b c = omega arith
 
 channel : (u v w m n : ℕ) → w ≤ u + v → m * n * (w * w) ≤ (m + n) * (n * (u * u) + m * (v * v))
 channel u v w m n h =
-    let a : m * n * (w * w) ≤ m * n * ((u + v) * (u + v)) = mul-le-mul (native.Mathlib.Nat.le-refl (m * n)) (sq-le w (u + v) h) in
+    let a : m * n * (w * w) ≤ m * n * ((u + v) * (u + v)) = mul-le-mul (le-refl (m * n)) (sq-le w (u + v) h) in
     let b = twice (n * u) (m * v) in
     omega (arith, a, b)
 
