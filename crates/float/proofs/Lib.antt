@@ -23,3 +23,5 @@ pub mod Adjacent
 pub mod Neighbours
 pub mod Quotients
 pub mod Chains
+pub mod RoundOff
+pub mod OperationsOff
