@@ -4,20 +4,20 @@ use mathlib.Core.Path.{_≡_, refl, sym, ap, _∙_, subst}
 use mathlib.Core.Logic.{inl, inr}
 use mathlib.Core.Bool.{Bool, true, false, cond}
 use Prim.Native.Nat.{ℕ, _+_, _-_, _*_, _/_, _%_, _^_, _≤_, _<_, compare}
-use native.Mathlib.Nat.{le-refl, le-trans, le-of-eq, le-of-lt, lt-of-lt-of-le, lt-of-le-of-lt, lt-of-not-le, not-le-of-lt, le-of-mul-le-mul-right, mul-le-mul-right, mul-pos, div-one, div-div-eq-div-mul, le-div-iff-mul-le, div-lt-iff-lt-mul}
+use native.Mathlib.Nat.{add-zero, mul-one, mul-assoc, le-trans, le-of-eq, le-of-lt, lt-of-lt-of-le, lt-of-le-of-lt, lt-of-not-le, not-le-of-lt, le-of-mul-le-mul-right, mul-le-mul-right, mul-pos, div-one, div-div-eq-div-mul, le-div-iff-mul-le, div-lt-iff-lt-mul}
 use native.Mathlib.Decide.{decLe}
 use native.Mathlib.Omega.{arith}
 use lib.Arith.{digits-div, digits-mod}
 use lib.Dec.{lit<, lit≤}
 use lib.Pow.{pow-add, pow-pos, pow-mono, pow-lt}
 use lib.Ieee.{Float, inf, binary32, size, nearest, odd, units, round, toBits, ofBits}
-use lib.Ieee.Digits.{size-le, size-reaches}
+use lib.Ieee.Digits.{size-lt, size-le, size-reaches}
 use lib.Ieee.Exact.{units-val}
 use lib.Ieee.Fits.{kept-lt, nearest-le, core, round-is}
 use lib.Ieee.Nearest.{closest, closest-same, div-same, nearest-ge}
 use borrow.Author.Tests.{le-ltb}
 use Rattle.decimal.specs.inner.Steps.{BitsOf}
-use Rattle.float.proofs.Fraction.{size-is, bits-of, bits-back}
+use Rattle.float.proofs.Fraction.{size-is, bits-of, bits-back, bits-zero}
 use Rattle.float.proofs.Nearest.{stays}
 use Rattle.float.proofs.Units.{Full}
 use Rattle.decimal.proofs.LastDigit.{fields-at}
@@ -43,7 +43,7 @@ module _ (n p k : ℕ) (k-is : k ≡ size (n / p) - 24) where
           (le-div-iff-mul-le (pow-pos k) .1 (le-trans (le-of-eq (sym (pow-add 2 23 k))) (size-reaches (n / p) (23 + k) (all k (size (n / p)) k-is l)))))
 
 -- ---- and what it makes of it
-infinite : (s : Bool) (q k : ℕ) → 2 ^ 277 ≤ q * 2 ^ k → units binary32 s q k ≡ inf s
+pub infinite : (s : Bool) (q k : ℕ) → 2 ^ 277 ≤ q * 2 ^ k → units binary32 s q k ≡ inf s
 unfolding units
 infinite s q k h = ap (λ (t : Bool). cond t (odd 25 s q k 149) (inf s)) (le-ltb (q * 2 ^ k) (2 ^ 277) h)
 
@@ -166,3 +166,52 @@ module _ (s : Bool) (d p x den m r k : ℕ) (P : 0 < p) (cross : d * 2 ^ 149 * d
 -- ---- bits back to a value
 pub bits-value : (s : Bool) (d p b : ℕ) → BitsOf d p b → ofBits binary32 (cond s (2 ^ 31) 0 + b) ≡ round binary32 s d p
 bits-value s d p b h = ap (ofBits binary32) (h .signed s) ∙ bits-back s d p
+
+-- ---- far out
+pub vast : (s : Bool) (d p : ℕ) → 0 < p → 2 ^ 128 * p ≤ d → round binary32 s d p ≡ inf s
+vast s d p P h = round-beyond s d p k (kept-full n p k refl) (kept-few n p k refl) (high (size (n / p)) (lt-of-not-le least))
+  where
+    n : ℕ
+    n = d * 2 ^ 149
+
+    k : ℕ
+    k = size (n / p) - 24
+
+    high : (z : ℕ) → 277 < z → 254 ≤ z - 24
+    high z g = omega arith
+
+    reaches : 2 ^ 277 ≤ n / p
+    reaches = le-div-iff-mul-le P .1 (le-trans (le-of-eq (ap (λ (x : ℕ). x * p) (pow-add 2 149 128) ∙ shuffle (2 ^ 149) (2 ^ 128) p)) (mul-le-mul-right (2 ^ 149) h))
+      where
+        shuffle : (x y z : ℕ) → x * y * z ≡ y * z * x
+        shuffle x y z = omega arith
+
+    least : size (n / p) ≤ 277 → ⊥
+    least g = not-le-of-lt (lt-of-lt-of-le (size-lt (n / p)) (pow-mono g)) reaches
+
+pub tiny : (s : Bool) (d p : ℕ) → d * 2 ^ 150 ≤ p → 0 < p → round binary32 s d p ≡ round binary32 s 0 1
+tiny s d p h P = sym (bits-back s d p) ∙ ap (ofBits binary32) (bits-small ∙ sym (bits-zero s 1 (lit< tt))) ∙ bits-back s 0 1
+  where
+    n : ℕ
+    n = d * 2 ^ 149
+
+    half : n * 2 ≤ p
+    half = le-trans (le-of-eq (mul-assoc d (2 ^ 149) 2 ∙ ap (λ (x : ℕ). d * x) (sym (pow-add 2 149 1)))) h
+
+    less : n < p
+    less = under n p half P
+      where
+        under : (x y : ℕ) → x * 2 ≤ y → 0 < y → x < y
+        under x y g k = omega arith
+
+    bits-small : toBits binary32 (round binary32 s d p) ≡ cond s (2 ^ 31) 0
+    bits-small =
+        bits-divided s d p n p 0 n 0 P (ap (λ (x : ℕ). n * x) (sym (mul-one p))) (none n p) less (inl refl) (lit< tt) (lit≤ tt)
+        ∙ ap (λ (x : ℕ). cond s (2 ^ 31) 0 + 0 * 2 ^ 23 + x) (sym (stays 0 (n * 2) p (le-trans (le-of-eq (add-zero (n * 2))) half)))
+        ∙ flat (cond s (2 ^ 31) 0)
+      where
+        none : (x y : ℕ) → x ≡ 0 * y + x
+        none x y = omega arith
+
+        flat : (x : ℕ) → x + 0 * 2 ^ 23 + 0 ≡ x
+        flat x = omega arith

@@ -1,5 +1,6 @@
 // A token with any number of digits and perhaps an exponent, read as a number: rounded once to the nearest f32, or no number.
 use crate::Token;
+use crate::magnitude;
 use crate::signed;
 use crate::wide::long_magnitude;
 ghost use mathlib.Core.Path.{_≡_};
@@ -328,11 +329,16 @@ fn nearest_long(neg: bool, d: u64, up: u64, down: u64) -> f32
     signed(neg, tens_magnitude(d, by.up, by.down))
 }
 
-// Its bits but for the sign's. 39 places up even 1 is beyond every f32, and 65 down even 64 binary digits are nothing.
+// Its bits but for the sign's. Few places down one word is enough for the division. 39 places up even 1 is beyond every f32, and 65 down even 64 binary digits are nothing.
 fn tens_magnitude(d: u64, up: u64, down: u64) -> u32
     requires { ⌜ (up ≡ 0) ⊎ (down ≡ 0) ⌝ }
     ensures { λ r. ⌜ BitsOf (d * 10 ^ up) (10 ^ down) r ⌝ }
 {
+    if up == 0 {
+        if down <= 18 {
+            return magnitude(d, down as usize, five_to(down));
+        }
+    }
     if d == 0 {
         return 0;
     }
@@ -343,4 +349,17 @@ fn tens_magnitude(d: u64, up: u64, down: u64) -> u32
         return 0;
     }
     long_magnitude(d, up, down)
+}
+
+fn five_to(n: u64) -> u64
+    requires { ⌜ n ≤ 18 ⌝ }
+    ensures { λ r. ⌜ r ≡ 5 ^ n ⌝ }
+{
+    let mut five: u64 = 1;
+    let mut i: u64 = 0;
+    while i < n {
+        five = five * 5;
+        i += 1;
+    }
+    five
 }

@@ -72,9 +72,9 @@ pub record PowerTo (s : List ℕ) (from v end : ℕ) : Type 0 where
 
 -- what is left of a without b, and of b without a
 pub record Cancels (a b up down : ℕ) : Type 0 where
-  pub level : a + down ≡ up + b
+  pub up-is : up ≡ a - b
+  pub down-is : down ≡ b - a
   pub one : (up ≡ 0) ⊎ (down ≡ 0)
-  pub most : up ≤ a
 
 -- what the digits are with a power of ten, whatever digits were so counted, and whatever power is so told
 abbrev pub MovedIs : Bool → ℕ → ℕ → ℕ → ℕ → Bool → Float → Type 0

@@ -1,63 +1,43 @@
+-- `decimal::long::count_digits` meets its contract: the digits passed so far are counted. Assumes nothing.
+use Prim.Native.Nat.{_+_, _-_, _≤_, _<_}
+use native.Mathlib.Omega.{arith}
+use lib.ListN.{length}
+use Rattle.decimal.proofs.LongPlace.{stops-at, stops-over}
+use Rattle.decimal.proofs.LongRuns.{Counting, counting-none, counting-next, counting-done}
+use Rattle.decimal.proofs.Parts.{too-low, too-high}
 use Rattle.decimal.proofs.long.count_digits.Statement.{statement}
 use Rattle.decimal.proofs.long.count_digits.Tie as tie
-use Rattle.decimal.proofs.long.count_digits.Reads as reads
-use Rattle.decimal.proofs.long.count_digits.Lts as lts
-use Rattle.decimal.proofs.long.with_digit.Reads as with-digit-reads
 
 abbrev Inv-loop : tie.InvT-loop
-Inv-loop s from value count zeros v₀ c₀ z₀ i₀ v c z i = ?
+Inv-loop s from value count zeros v₀ c₀ z₀ i₀ v c z i = Counting s from value count zeros v c z i
 
 abbrev μ-loop : tie.MeasureT-loop
-μ-loop s from value count zeros v₀ c₀ z₀ i₀ v c z i = ?
+μ-loop s from value count zeros v₀ c₀ z₀ i₀ v c z i = length s - i
 
--- src/long.rt:116:5
 loop-holds : tie.Need-loop-holds Inv-loop μ-loop
-loop-holds c = ?
+loop-holds c = counting-none _ _ _ _ _ (c .before .pre .0) (c .before .pre .1 .0) (c .before .pre .1 .1)
 
--- src/long.rt:117:17
-shared-slice-read-b : tie.Need-shared-slice-read-b Inv-loop μ-loop
-shared-slice-read-b c = ?
-
--- src/long.rt:119:13
 returns : tie.Need-returns Inv-loop μ-loop
-returns c = ?
+returns c =
+    let l = c .before .before .before .loop in
+    counting-done _ _ _ _ _ _ _ _ _ (l .inv) (stops-at _ _ _ _ (l .inv .run) (c .before .before .loop-test .taken) (too-low _ (c .if1 .taken)))
 
--- src/long.rt:127:13
 returns-2 : tie.Need-returns-2 Inv-loop μ-loop
-returns-2 c = ?
+returns-2 c =
+    let l = c .before .before .before .before .loop in
+    counting-done _ _ _ _ _ _ _ _ _ (l .inv) (stops-at _ _ _ _ (l .inv .run) (c .before .before .before .loop-test .taken) (too-high _ (c .if2 .taken)))
 
--- src/long.rt:134:13
 with-digit-requires : tie.Need-with-digit-requires Inv-loop μ-loop
-with-digit-requires c κs = ?
+with-digit-requires c κs = let l = c .before .before .before .before .loop in (c .before .if1 .left, (c .if2 .left, (omega arith, l .inv .small)))
 
--- src/long.rt:138:9
-add-i : tie.Need-add-i Inv-loop μ-loop
-add-i c = ?
-
--- src/long.rt:116:5
-loop-less : tie.Need-loop-less Inv-loop μ-loop
-loop-less c = ?
-
--- src/long.rt:116:5
 loop-again : tie.Need-loop-again Inv-loop μ-loop
-loop-again c = ?
+loop-again c =
+    let l = c .before .before .before .before .before .loop in
+    counting-next _ _ _ _ _ _ _ _ _ (l .inv) _ _ _ (c .before .before .before .before .loop-test .taken) (c .before .before .if1 .left) (c .before .if2 .left) (c .with-digit .ensures)
 
--- src/long.rt:108:1
 returns-3 : tie.Need-returns-3 Inv-loop μ-loop
-returns-3 c = ?
+returns-3 c = let l = c .before .loop in counting-done _ _ _ _ _ _ _ _ _ (l .inv) (stops-over _ _ _ _ (l .inv .run) (c .loop-test .left))
 
 pub count-digits-spec : {M : Type 1} → statement M
 count-digits-spec =
-    tie.close
-    (tie.spec
-    Inv-loop
-    μ-loop
-    loop-holds
-    shared-slice-read-b
-    returns
-    returns-2
-    with-digit-requires
-    add-i
-    loop-less
-    loop-again
-    returns-3)
+    tie.close (tie.spec Inv-loop μ-loop loop-holds (λ c. omega arith) returns returns-2 with-digit-requires (λ c. omega arith) (λ c. omega arith) loop-again returns-3)

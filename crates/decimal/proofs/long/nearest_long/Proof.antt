@@ -1,28 +1,24 @@
+-- `decimal::long::nearest_long` meets its contract: what is in both powers goes off, and the bits are those of the rounded value. Assumes nothing.
+use mathlib.Core.Path.{_≡_, _∙_}
+use Prim.Native.Nat.{ℕ, _+_, _-_}
+use native.Mathlib.Omega.{arith}
+use Rattle.decimal.proofs.Moves.{same-place}
+use Rattle.decimal.proofs.Rounds.{bits-value}
 use borrow.Author.Needs.{needs}
 use Rattle.decimal.proofs.long.nearest_long.Statement.{statement}
 use Rattle.decimal.proofs.long.nearest_long.Tie as tie
-use Rattle.decimal.proofs.long.nearest_long.Reads as reads
-use Rattle.decimal.proofs.long.nearest_long.Lts as lts
-use Rattle.decimal.proofs.long.cancelled.Reads as cancelled-reads
-use Rattle.decimal.proofs.long.tens_magnitude.Reads as tens-magnitude-reads
-use Rattle.decimal.proofs.signed.Reads as signed-reads
 
--- src/long.rt:327:9
-cancelled-requires : tie.Need-cancelled-requires
-cancelled-requires c κs = search needs
+level : (a b up down : ℕ) → up ≡ a - b → down ≡ b - a → up + b ≡ a + down
+level a b up down e f = omega arith
 
--- src/long.rt:328:17
-tens-magnitude-requires : tie.Need-tens-magnitude-requires
-tens-magnitude-requires c κs = search needs
-
--- src/long.rt:328:5
-signed-requires : tie.Need-signed-requires
-signed-requires c κs = search needs
-
--- src/long.rt:324:1
 returns : tie.Need-returns
-returns c = ?
+returns c =
+    let a = c .before .before .before .args in
+    let l = c .before .before .cancelled in
+    c .signed .ensures ∙ bits-value _ _ _ _ (c .before .tens-magnitude .ensures)
+    ∙ same-place (a .neg) (a .d) (l .result .up) (l .result .down) (a .up) (a .down) (level (a .up) (a .down) (l .result .up) (l .result .down) (l .ensures .up-is) (l .ensures .down-is))
 
 pub nearest-long-spec : {M : Type 1} → statement M
 nearest-long-spec =
-    tie.close (tie.spec cancelled-requires tens-magnitude-requires signed-requires returns)
+    tie.close
+    (tie.spec (λ c κs. search needs) (λ c κs. c .cancelled .ensures .one) (λ c κs. c .tens-magnitude .ensures .small) returns)

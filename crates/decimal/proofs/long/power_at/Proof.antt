@@ -1,63 +1,43 @@
+-- `decimal::long::power_at` meets its contract: the digits passed so far make the power, or both are huge. Assumes nothing.
+use Prim.Native.Nat.{_+_, _-_, _≤_, _<_}
+use native.Mathlib.Omega.{arith}
+use lib.ListN.{length}
+use Rattle.decimal.proofs.LongPlace.{stops-at, stops-over}
+use Rattle.decimal.proofs.LongRuns.{Powering, powering-none, powering-next, powering-done}
+use Rattle.decimal.proofs.Parts.{too-low, too-high}
 use Rattle.decimal.proofs.long.power_at.Statement.{statement}
 use Rattle.decimal.proofs.long.power_at.Tie as tie
-use Rattle.decimal.proofs.long.power_at.Reads as reads
-use Rattle.decimal.proofs.long.power_at.Lts as lts
-use Rattle.decimal.proofs.long.ten_times.Reads as ten-times-reads
 
 abbrev Inv-loop : tie.InvT-loop
-Inv-loop s from value₀ i₀ value i = ?
+Inv-loop s from value₀ i₀ value i = Powering s from value i
 
 abbrev μ-loop : tie.MeasureT-loop
-μ-loop s from value₀ i₀ value i = ?
+μ-loop s from value₀ i₀ value i = length s - i
 
--- src/long.rt:244:5
 loop-holds : tie.Need-loop-holds Inv-loop μ-loop
-loop-holds c = ?
+loop-holds c = powering-none _ _ (c .before .pre)
 
--- src/long.rt:245:17
-shared-slice-read-b : tie.Need-shared-slice-read-b Inv-loop μ-loop
-shared-slice-read-b c = ?
-
--- src/long.rt:247:13
 returns : tie.Need-returns Inv-loop μ-loop
-returns c = ?
+returns c =
+    let l = c .before .before .before .loop in
+    powering-done _ _ _ _ (l .inv) (stops-at _ _ _ _ (l .inv .run) (c .before .before .loop-test .taken) (too-low _ (c .if1 .taken)))
 
--- src/long.rt:250:13
 returns-2 : tie.Need-returns-2 Inv-loop μ-loop
-returns-2 c = ?
+returns-2 c =
+    let l = c .before .before .before .before .loop in
+    powering-done _ _ _ _ (l .inv) (stops-at _ _ _ _ (l .inv .run) (c .before .before .before .loop-test .taken) (too-high _ (c .if2 .taken)))
 
--- src/long.rt:252:9
 ten-times-requires : tie.Need-ten-times-requires Inv-loop μ-loop
-ten-times-requires c κs = ?
+ten-times-requires c κs = (c .before .if1 .left, c .if2 .left)
 
--- src/long.rt:253:9
-add-i : tie.Need-add-i Inv-loop μ-loop
-add-i c = ?
-
--- src/long.rt:244:5
-loop-less : tie.Need-loop-less Inv-loop μ-loop
-loop-less c = ?
-
--- src/long.rt:244:5
 loop-again : tie.Need-loop-again Inv-loop μ-loop
-loop-again c = ?
+loop-again c =
+    let l = c .before .before .before .before .before .loop in
+    powering-next _ _ _ _ (l .inv) _ (c .before .before .before .before .loop-test .taken) (c .before .before .if1 .left) (c .before .if2 .left) (c .ten-times .ensures)
 
--- src/long.rt:238:1
 returns-3 : tie.Need-returns-3 Inv-loop μ-loop
-returns-3 c = ?
+returns-3 c = let l = c .before .loop in powering-done _ _ _ _ (l .inv) (stops-over _ _ _ _ (l .inv .run) (c .loop-test .left))
 
 pub power-at-spec : {M : Type 1} → statement M
 power-at-spec =
-    tie.close
-    (tie.spec
-    Inv-loop
-    μ-loop
-    loop-holds
-    shared-slice-read-b
-    returns
-    returns-2
-    ten-times-requires
-    add-i
-    loop-less
-    loop-again
-    returns-3)
+    tie.close (tie.spec Inv-loop μ-loop loop-holds (λ c. omega arith) returns returns-2 ten-times-requires (λ c. omega arith) (λ c. omega arith) loop-again returns-3)
