@@ -27,3 +27,4 @@ pub mod EndDistance
 pub mod Depths
 pub mod Asked
 pub mod NeverMerged
+pub mod FewStops
