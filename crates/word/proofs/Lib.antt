@@ -27,3 +27,8 @@ pub mod EndDistance
 pub mod Depths
 pub mod Asked
 pub mod NeverMerged
+pub mod FewStops
+pub mod MixSteps
+pub mod MixLine
+pub mod Straight
+pub mod StraightPair

@@ -1,0 +1,108 @@
+-- Two colours within 0 to 1 and what is mixed straight between them: a point on the way and its end show what lies between within the least threshold. Assumes nothing.
+use mathlib.Core.Path.{_≡_, subst}
+use mathlib.Core.Bool.{false}
+use Prim.Native.Nat.{ℕ, _+_, _*_, _^_, _≤_, _<_}
+use native.Mathlib.Nat.{le-dest, lt-of-not-le}
+use native.Mathlib.Omega.{arith}
+use lib.Dec.{T, lit≤}
+use lib.Ieee.{Float, binary32, neg, sub, le, lt}
+use lib.Ieee.Fits.{add-fits}
+use lib.Ieee.Scale.{finite}
+use Rattle.float.specs.F32.{_⊖_, _⊘_, f0, f1}
+use Rattle.float.specs.Number.{clampOf}
+use Rattle.float.specs.Units.{count}
+use Rattle.float.proofs.Order as order
+use Rattle.float.proofs.UnitSums.{Counted, opposite, sum-under}
+use Rattle.blend.specs.Blend.{linear, linear1}
+use Rattle.blend.specs.declared.Rgba.{Rgba}
+use Rattle.difference.specs.Difference.{distanceOf}
+use Rattle.difference.proofs.Sizes.{Small}
+use Rattle.difference.proofs.Measuring.{Clear, ClearColour}
+use Rattle.sampling.specs.Constants.{leastThreshold}
+use Rattle.ordinary.proofs.UnitBlend.{blend-low, blend-high}
+use Rattle.word.proofs.EndSums.{clamp-id, slack, slack-units, sum-over}
+use Rattle.word.proofs.EndDistance.{slack-near}
+use Rattle.word.proofs.MixSteps.{Line}
+use Rattle.word.proofs.MixLine.{counted-of, counts-le, le-counts, share-clear}
+use Rattle.word.proofs.Straight.{mixAt, as-straight}
+
+clear-finite : (x : Float) → Clear x → T (finite x)
+clear-finite x w = counted-of x w .whole
+
+-- ---- a mix lies from 0 to 1
+module _ (p q t : Float) (wp : Clear p) (wq : Clear q) (wt : Clear t) (pt : T (le p t)) (tq : T (le t q)) (some : count p < count q) where
+  share : Clear ((t ⊖ p) ⊘ (q ⊖ p))
+  share =
+      let x = le-dest (counts-le p t wp wt pt) in
+      let y = le-dest (counts-le t q wt wq tq) in
+      share-clear p q t p p wp wq wt wp wp pt tq (x .0) (y .0) (x .1) (y .1) (left (count p) (count t) (count q) (x .0) (y .0) (x .1) (y .1) some)
+    where
+      left : (m n o s r : ℕ) → m + s ≡ n → n + r ≡ o → m < o → 0 < s + r
+      left m n o s r e f h = omega arith
+
+  mix-clear : (b c : Float) → Clear b → Clear c → Clear (mixAt p q b c t)
+  mix-clear b c wb wc =
+      let s = (t ⊖ p) ⊘ (q ⊖ p) in
+      let fb = clear-finite b wb in
+      let fc = clear-finite c wc in
+      let fs = clear-finite s share in
+      record {
+        single = add-fits binary32 b _;
+        low = blend-low b c s (wb .single) fb fc fs (wb .low) (wb .high) (wc .low) (wc .high) (share .low) (share .high);
+        high = blend-high b c s (wb .single) fb fc fs (wb .low) (wb .high) (wc .low) (wc .high) (share .low) (share .high);
+      }
+
+  pub colour-clear : (b c : Rgba) → ClearColour b → ClearColour c → ClearColour (linear b c ((t ⊖ p) ⊘ (q ⊖ p)))
+  unfolding linear
+  colour-clear b c v w =
+      record { red = mix-clear _ _ (v .red) (w .red); green = mix-clear _ _ (v .green) (w .green); blue = mix-clear _ _ (v .blue) (w .blue); alpha = mix-clear _ _ (v .alpha) (w .alpha) }
+
+-- ---- two numbers that are 3 * 2 ^ -16 apart at most
+close : (x y : Float) → Clear x → Clear y → 2 ^ 16 * count x ≤ 2 ^ 16 * count y + 3 * 2 ^ 149 → 2 ^ 16 * count y ≤ 2 ^ 16 * count x + 3 * 2 ^ 149 → Small (clampOf x ⊖ clampOf y) slack
+close x y wx wy h k =
+    rw (clamp-id x (wx .low) (wx .high), clamp-id y (wy .low) (wy .high))
+    (unfold sub in
+    record {
+      least = sum-over x (neg y) (neg slack) (count x) 0 0 (count y) 0 (8194 * 2 ^ 126) (counted-of x wx) (opposite y (count y) 0 (counted-of y wy)) (opposite slack (8194 * 2 ^ 126) 0 slack-units)
+          (under (count y) (count x) (2 ^ 149) (8194 * 2 ^ 126) k (lit≤ tt));
+      most = sum-under x (neg y) slack (count x) 0 0 (count y) (8194 * 2 ^ 126) 0 (counted-of x wx) (opposite y (count y) 0 (counted-of y wy)) slack-units (over (count x) (count y) (2 ^ 149) (8194 * 2 ^ 126) h (lit≤ tt));
+    })
+  where
+    over : (x y u z : ℕ) → 2 ^ 16 * x ≤ 2 ^ 16 * y + 3 * u → 3 * u ≤ 2 ^ 16 * z → x + 0 + 0 ≤ z + 0 + y
+    over x y u z h k = omega arith
+
+    under : (y x u z : ℕ) → 2 ^ 16 * y ≤ 2 ^ 16 * x + 3 * u → 3 * u ≤ 2 ^ 16 * z → 0 + 0 + y ≤ x + 0 + z
+    under y x u z h k = omega arith
+
+-- ---- the pair of a point on the way and of its end, where k stands
+pub record Ends (b c k : Rgba) (l : ℕ) : Type 0 where
+  pub red : Line (count (k .r)) (count (b .r)) (count (c .r)) l 0 (2 ^ 149)
+  pub green : Line (count (k .g)) (count (b .g)) (count (c .g)) l 0 (2 ^ 149)
+  pub blue : Line (count (k .b)) (count (b .b)) (count (c .b)) l 0 (2 ^ 149)
+  pub alpha : Line (count (k .a)) (count (b .a)) (count (c .a)) l 0 (2 ^ 149)
+
+module _ (p q a t : Float) (b c k : Rgba) (wp : Clear p) (wq : Clear q) (wa : Clear a) (wt : Clear t) (wb : ClearColour b) (wc : ClearColour c) (wk : ClearColour k)
+    (pa : T (le p a)) (at : T (le a t)) (tq : T (le t q)) (some : T (lt a q)) (ends : (l : ℕ) → count p + l ≡ count q → Ends b c k l) where
+  aq : count a < count q
+  aq = lt-of-not-le (λ h. order-clash (le-counts q a wq wa h))
+    where
+      order-clash : T (le q a) → ⊥
+      order-clash h = subst T (order.le→not-lt a q h) some
+
+  pq : count p < count q
+  pq = let h = counts-le p a wp wa pa in let k = aq in omega arith
+
+  channel : (x y z : Float) → Clear x → Clear y → Clear z → ((l : ℕ) → count p + l ≡ count q → Line (count z) (count x) (count y) l 0 (2 ^ 149))
+      → Small (clampOf (mixAt p q x y t) ⊖ clampOf (mixAt a q (mixAt p q x y a) z t)) slack
+  channel x y z wx wy wz end =
+      let ua = mix-clear p q a wp wq wa pa (order.le-trans a t q at tq) pq x y wx wy in
+      let ut = mix-clear p q t wp wq wt (order.le-trans p a t pa at) tq pq x y wx wy in
+      let um = mix-clear a q t wa wq wt at tq aq (mixAt p q x y a) z ua wz in
+      let w = as-straight p q a t x y z wp wq wa wt wx wy wz pa at tq aq ua ut um end in
+      close _ _ ut um (w .0) (w .1)
+
+  pub pair-near : T (le (distanceOf (linear b c ((t ⊖ p) ⊘ (q ⊖ p))) (linear (linear b c ((a ⊖ p) ⊘ (q ⊖ p))) k ((t ⊖ a) ⊘ (q ⊖ a)))) leastThreshold)
+  unfolding linear
+  pair-near =
+      slack-near _ _ (channel _ _ _ (wb .red) (wc .red) (wk .red) (λ l e. ends l e .red)) (channel _ _ _ (wb .green) (wc .green) (wk .green) (λ l e. ends l e .green))
+      (channel _ _ _ (wb .blue) (wc .blue) (wk .blue) (λ l e. ends l e .blue)) (channel _ _ _ (wb .alpha) (wc .alpha) (wk .alpha) (λ l e. ends l e .alpha))
