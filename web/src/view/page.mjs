@@ -11,6 +11,9 @@ export class Page {
     editor = new Editor();
     chosen = 0;
     isInverted = false;
+    /** Lengths of the picture in pixels: asked for when they change, since each asking makes the browser lay out the page. */
+    width = 0;
+    trackHeight = 0;
     /** The last step that a file has. */
     kept = undefined;
     /** Drawn one after the other at each change. */
@@ -130,6 +133,11 @@ export class Page {
         this.editor.named = null;
         $('depths-own').checked = true;
         $('naming').hidden = true;
+    }
+
+    measure() {
+        this.width = $('drawn').clientWidth;
+        this.trackHeight = $('track').clientHeight;
     }
 
     redraw() {
