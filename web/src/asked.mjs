@@ -53,19 +53,25 @@ export const judged = sheet => meanwhile(() => {
     return Number(told[0]);
 });
 
-/** What is to be said of each depth, { position, distance, isMoved, isClose, isMerged }, by the threshold and the step. */
+/** What is to be said of each depth, by the threshold and the step: how far off the list is there, for people, and the library's
+ * bytes, which `isMoved`, `isClose` and `isMerged` read. */
 export function apart(sheet, step, depths) {
     const faults = faultsOf(sheet, step, depths);
     const [shown, listed] = [painted(sheet, depths), mixed(sheet.list, depths)];
-    const threshold = call('threshold', sheet.settings.threshold);
-    const all = Array.from(depths, (position, i) => ({
-        position,
-        distance: distanceAt(shown, listed, 4 * i),
-        isMoved: (faults[i] & MOVED) !== 0,
-        isClose: (faults[i] & CLOSE) !== 0,
-        isMerged: (faults[i] & MERGED) !== 0,
-    }));
-    return { depths: all, threshold, step };
+    const distances = new Float32Array(depths.length);
+    for (let i = 0; i < depths.length; i++) distances[i] = distanceAt(shown, listed, 4 * i);
+    return { positions: depths.slice(), distances, faults, threshold: call('threshold', sheet.settings.threshold), step };
+}
+
+export const isMoved = ({ faults }, i) => (faults[i] & MOVED) !== 0;
+export const isClose = ({ faults }, i) => (faults[i] & CLOSE) !== 0;
+export const isMerged = ({ faults }, i) => (faults[i] & MERGED) !== 0;
+
+/** The depths of which something holds, by their indices. */
+export function depthsThat(holds, apart) {
+    const found = [];
+    for (let i = 0; i < apart.faults.length; i++) if (holds(apart, i)) found.push(i);
+    return found;
 }
 
 const faultsOf = (sheet, step, depths) => meanwhile(() => {

@@ -36,8 +36,21 @@ function shortest(x) {
 
 const notFinite = x => (Number.isNaN(x) ? 'NaN' : x > 0 ? 'inf' : '-inf');
 
+// a page shows the same numbers again and again
+const known = new Map();
+const MOST_KNOWN = 4096;
+
 /** The fewest digits that are read back as the same number, with no exponent. */
 export function short(x) {
+    const before = known.get(x);
+    if (before !== undefined) return before;
+    if (known.size >= MOST_KNOWN) known.clear();
+    const digits = plain(x);
+    known.set(x, digits);
+    return digits;
+}
+
+function plain(x) {
     // -0 is 0 to every reader
     x = fround(x) + 0;
     if (!Number.isFinite(x)) return notFinite(x);

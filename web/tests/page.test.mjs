@@ -155,6 +155,16 @@ test('depths that became one are told in words', async () => {
     assert.match(await page.alert(), /^Refused 24/);
 });
 
+test('while a stop is moved it is said at once that depths become one, and that they are told apart again', async () => {
+    await page.load('examples/lost-band.tsv');
+    await page.choose('sort', 'published');
+    await browser.run(() => document.getElementById('handle').focus());
+    await browser.press('n' + KEYS.left);
+    assert.equal(await page.status(), 'All depths are told apart again.');
+    await browser.press(KEYS.right);
+    assert.match(await page.status(), /^2 pairs of depths became one: /);
+});
+
 test('kinds, thresholds and holds are steps of their own; a GIMP ramp can be taken as a linear one', async () => {
     await page.load(DEPTHS);
     await page.choose('kind', '3');

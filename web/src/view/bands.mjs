@@ -11,62 +11,73 @@ const [MOST_MARKS, LEAST_GAP, MARK] = [96, 22, 7];
 const OUT = 12;
 /** Pixels of a line that stands for a stop. */
 const TICK = 10;
+/** Small pictures that change with each frame are quicker made where they are written. */
+const ON_PROCESSOR = { willReadFrequently: true };
 
 export function bands(page) {
-    const [ramp, list, ticks] = [$('ramp-band'), $('list-band'), $('ticks')];
     let ink = inkOf();
     matchMedia('(prefers-color-scheme: dark)').addEventListener('change', () => {
         ink = inkOf();
         page.redraw();
     });
-    new ResizeObserver(() => page.sheet && page.redraw()).observe($('drawn'));
+    new ResizeObserver(() => {
+        page.measure();
+        if (page.sheet) page.redraw();
+    }).observe($('drawn'));
+    page.measure();
     page.parts.push(() => {
-        const width = Math.max(1, Math.min(MOST_COLUMNS, Math.round(ramp.clientWidth * devicePixelRatio)));
-        const middles = Float32Array.from({ length: width }, (_, i) => page.at((i + 0.5) / width));
+        const columns = Math.max(1, Math.min(MOST_COLUMNS, Math.round(page.width * devicePixelRatio)));
+        const middles = new Float32Array(columns);
+        for (let i = 0; i < columns; i++) middles[i] = page.at((i + 0.5) / columns);
         const [shown, listed] = page.colours(middles);
-        fill(ramp, shown, width);
-        fill(list, listed ?? new Float32Array(4 * width), width);
-        drawMarks(page, ticks, ink);
-        drawLines(page, drawingOn($('list-ticks'), ink), $('list-ticks').clientWidth, page.sheet.list.places, TICK);
+        fill($('ramp-band'), shown.map(byte), columns);
+        fill($('list-band'), listed ? listed.map(byte) : new Float32Array(4 * columns), columns);
+        fill($('list-ticks'), ticks(page, page.sheet.list.places, columns, ink), columns);
+        drawMarks(page, $('ticks'), ink);
         label(page);
     });
 }
 
 const inkOf = () => getComputedStyle(document.documentElement).getPropertyValue('--ink');
 
-function fill(canvas, channels, width) {
+/** A row of pixels, by their bytes. */
+function fill(canvas, bytes, width) {
     if (canvas.width !== width) Object.assign(canvas, { width, height: 1 });
-    const context = canvas.getContext('2d');
+    const context = canvas.getContext('2d', ON_PROCESSOR);
     const image = context.createImageData(width, 1);
-    for (let i = 0; i < channels.length; i++) image.data[i] = byte(channels[i]);
+    image.data.set(bytes);
     context.putImageData(image, 0, 0);
 }
 
-/** A pointed mark for each stop, in its colour, with its number where there is room. */
+/** A pixel in ink for each position, as bytes. */
+function ticks(page, positions, width, ink) {
+    const color = [...ink.match(/[0-9a-f]{2}/g).map(digits => parseInt(digits, 16)), 255];
+    const bytes = new Uint8Array(4 * width);
+    for (const position of positions) bytes.set(color, 4 * Math.min(width - 1, Math.round(page.share(position) * width)));
+    return bytes;
+}
+
+/** A mark for each stop: pointed, or of many stops a line. */
 function drawMarks(page, canvas, ink) {
-    const [width, height] = [canvas.clientWidth - 2 * OUT, canvas.clientHeight];
-    const context = drawingOn(canvas, ink);
-    context.translate(OUT, 0);
-    if (page.count > MOST_MARKS) drawLines(page, context, width, page.sheet.ramp.positions, height);
-    else drawPoints(page, context, width, height, ink);
-}
-
-/** A canvas with nothing on it, whose lengths are the page's. */
-function drawingOn(canvas, ink) {
-    const [width, height] = [canvas.clientWidth, canvas.clientHeight].map(length => Math.max(1, length));
-    const pixels = [Math.round(width * devicePixelRatio), Math.round(height * devicePixelRatio)];
+    const [width, height] = [page.width + 2 * OUT, page.trackHeight];
+    const pixels = [width, height].map(length => Math.max(1, Math.round(length * devicePixelRatio)));
     [canvas.width, canvas.height] = pixels;
-    const context = canvas.getContext('2d');
+    const context = canvas.getContext('2d', ON_PROCESSOR);
     context.scale(pixels[0] / width, pixels[1] / height);
-    return Object.assign(context, { strokeStyle: ink, fillStyle: ink, lineWidth: 1.5, font: '600 11px system-ui, sans-serif', textAlign: 'center' });
+    context.translate(OUT, 0);
+    Object.assign(context, { strokeStyle: ink, fillStyle: ink, lineWidth: 1.5, font: '600 11px system-ui, sans-serif', textAlign: 'center' });
+    if (page.count > MOST_MARKS) drawLines(page, context, height);
+    else drawPoints(page, context, page.width, height, ink);
 }
 
-/** A line above a height for each position, one for those that fall on the same pixel. */
-function drawLines(page, context, width, positions, bottom) {
-    const columns = new Set(Array.from(positions, position => Math.round(page.share(position) * width)));
+/** A line for each stop, one for those that fall on the same pixel. */
+function drawLines(page, context, bottom) {
+    const columns = new Set();
+    for (const position of page.sheet.ramp.positions) columns.add(Math.round(page.share(position) * page.width));
     for (const x of columns) context.fillRect(x - 0.5, bottom - TICK, 1, TICK);
 }
 
+/** In its colour, with its number where there is room. */
 function drawPoints(page, context, width, height, ink) {
     let last = -LEAST_GAP;
     for (let i = 0; i < page.count; i++) {

@@ -1,5 +1,5 @@
 // Lines over the domain, ramp and list over each other: the height of swell paper, each channel, and how far off the list is.
-import { distance, height } from '../color.mjs';
+import { distanceAt, height } from '../color.mjs';
 import { about, short } from '../numbers.mjs';
 import { colorAt, depthsOf } from '../ramp.mjs';
 import { $, make, makeSvg, setAttributes, setText } from './dom.mjs';
@@ -28,6 +28,7 @@ export function charts(page) {
         channels: ['Red', 'Green', 'Blue', 'Alpha'].map((name, i) => chart(i, name)),
         off: chart('off', 'How far off the list is'),
     };
+    watch(page, [parts.height, ...parts.channels, parts.off]);
     $('invert').addEventListener('change', event => {
         page.isInverted = event.target.checked;
         page.redraw();
@@ -35,7 +36,7 @@ export function charts(page) {
     });
     page.parts.push(() => {
         const ts = points(page);
-        const colours = page.colours(ts).map(channels => channels && Array.from(ts, (_, i) => colorAt(channels, i)));
+        const colours = page.colours(ts);
         drawHeight(page, parts.height, ts, colours);
         parts.channels.forEach((part, k) => drawChannel(page, part, ts, colours, k));
         drawOff(page, parts.off, ts, colours);
@@ -49,7 +50,16 @@ function chart(id, name) {
     const words = [make('span'), make('span')];
     const whole = $(`chart-${id}`);
     whole.append(make('p', { class: 'label' }, ...words), svg);
-    return { name, whole, svg, words, ...paths };
+    return { name, whole, svg, words, isSeen: false, ...paths };
+}
+
+/** Lines are drawn where they are seen, and anew when they come into sight; words always. */
+function watch(page, parts) {
+    const seen = new IntersectionObserver(entries => {
+        for (const { target, isIntersecting } of entries) parts.find(part => part.svg === target).isSeen = isIntersecting;
+        if (page.sheet) page.redraw();
+    });
+    for (const part of parts) seen.observe(part.svg);
 }
 
 /** A line through values between low and high. */
@@ -62,20 +72,36 @@ function line(page, ts, values, [low, high]) {
     return d;
 }
 
-/** Draws a chart of a number of each colour. */
-function draw(page, part, ts, [ramp, list], of, [low, high]) {
-    const [rampValues, listValues] = [ramp.map(of), list?.map(of)];
-    const finite = [...rampValues, ...(listValues ?? [])].filter(Number.isFinite);
-    const ends = [finite.reduce((x, y) => Math.min(x, y), low), finite.reduce((x, y) => Math.max(x, y), high)];
-    part.ramp.setAttribute('d', line(page, ts, rampValues, ends));
-    part.list.setAttribute('d', listValues ? line(page, ts, listValues, ends) : '');
+/** Least and greatest, and at least these. */
+function widened(values, [low, high]) {
+    for (const x of values) {
+        if (x < low) low = x;
+        if (x > high) high = x;
+    }
+    return [low, high];
+}
+
+/** One channel of all. */
+function every4th(channels, k) {
+    const values = new Float32Array(channels.length / 4);
+    for (let i = 0; i < values.length; i++) values[i] = channels[4 * i + k];
+    return values;
+}
+
+/** Draws a chart of the values of ramp and list; those of a list that is refused are null. */
+function draw(page, part, ts, [ramp, list], least) {
+    const ends = widened(list ?? [], widened(ramp, least));
+    if (part.isSeen) {
+        part.ramp.setAttribute('d', line(page, ts, ramp, ends));
+        part.list.setAttribute('d', list ? line(page, ts, list, ends) : '');
+    }
     setText(part.words[0], part.name);
     setText(part.words[1], `${short(ends[0])} below, ${short(ends[1])} above`);
-    return [rampValues, listValues];
 }
 
 function drawHeight(page, part, ts, colours) {
-    const [ramp, list] = draw(page, part, ts, colours, color => height(color, page.isInverted), [0, 100]);
+    const [ramp, list] = colours.map(channels => channels && Array.from(ts, (_, i) => height(colorAt(channels, i), page.isInverted)));
+    draw(page, part, ts, [ramp, list], [0, 100]);
     part.rule.setAttribute('d', `M0 ${HEIGHT / 2}H${WIDTH}`);
     const words = profileWords(ts, ramp, page.isInverted);
     setText($('profile-words'), list ? `${words} ${gapWords(ts, ramp, list)}` : words);
@@ -83,22 +109,23 @@ function drawHeight(page, part, ts, colours) {
 }
 
 function drawChannel(page, part, ts, colours, k) {
-    const isUsed = k < 3 || colours.some(all => all?.some(color => color[3] !== 1));
+    const [ramp, list] = colours.map(channels => channels && every4th(channels, k));
+    const isUsed = k < 3 || ramp.some(x => x !== 1) || list?.some(x => x !== 1);
     part.whole.hidden = !isUsed;
     if (!isUsed) return;
-    const [values] = draw(page, part, ts, colours, color => color[k], [0, 1]);
-    const [low, high] = [values.reduce((x, y) => Math.min(x, y)), values.reduce((x, y) => Math.max(x, y))];
-    setAttributes(part.svg, { 'aria-label': `${part.name}: from ${about(low)} to ${about(high)}; the table of stops has its numbers` });
+    draw(page, part, ts, [ramp, list], [0, 1]);
+    const [low, high] = widened(ramp, [ramp[0], ramp[0]]).map(about);
+    setAttributes(part.svg, { 'aria-label': `${part.name}: from ${low} to ${high}; the table of stops has its numbers` });
 }
 
 function drawOff(page, part, ts, [ramp, list]) {
     part.whole.hidden = !list;
     if (!list) return;
     const { threshold } = page.said.apart;
-    const far = ramp.map((color, i) => distance(color, list[i]));
-    const farthest = far.reduce((x, y) => Math.max(x, y));
+    const far = Array.from(ts, (_, i) => distanceAt(ramp, list, 4 * i));
+    const [, farthest] = widened(far, [0, 0]);
     const high = Math.min(MOST_OFF * threshold, Math.max(1.25 * threshold, farthest));
-    part.ramp.setAttribute('d', line(page, ts, far, [0, high]));
+    if (part.isSeen) part.ramp.setAttribute('d', line(page, ts, far, [0, high]));
     part.rule.setAttribute('d', `M0 ${HEIGHT * (1 - threshold / high)}H${WIDTH}`);
     const cut = farthest > high ? `, cut at ${about(high)}` : '';
     setText(part.words[0], `${part.name}${cut}; dotted: the threshold, ${short(threshold)}`);

@@ -1,4 +1,5 @@
 // Which depths a reader can tell apart, in words: the ramp's own stops, or depths that the editor names.
+import { isClose, isMerged, isMoved } from '../asked.mjs';
 import { Fault } from '../fault.mjs';
 import { about, short } from '../numbers.mjs';
 import { counted } from '../report.mjs';
@@ -63,26 +64,25 @@ function draw(page, pager) {
     const { named, step } = page.editor;
     showIn($('step'), short(step));
     setText($('depths-words'), apart ? `${counted(apart)}.` : 'There is no list to hold them against.');
-    const all = apart?.depths ?? [];
     const own = page.isGimp ? 'edge' : 'stop';
     const nameOf = i => named?.[i].name || (named ? short(named[i].position) : `${own} ${i}`);
-    const rows = all.length ? pager.indices(all.length) : [];
+    const rows = apart ? pager.indices(apart.positions.length) : [];
     children($('depths-table').tBodies[0], rows.length, () => make('tr', {}, make('th', { scope: 'row' }), make('td'), make('td'), make('td')))
         .forEach((row, i) => {
-            const index = rows[i];
-            const depth = all[index];
-            const texts = [short(depth.position), nameOf(index), about(depth.distance), words(depth, index && nameOf(index - 1), apart.threshold)];
+            const at = rows[i];
+            const said = words(apart, at, at ? nameOf(at - 1) : null);
+            const texts = [short(apart.positions[at]), nameOf(at), about(apart.distances[at]), said];
             texts.forEach((text, column) => setText(row.cells[column], text));
-            row.cells[3].classList.toggle('fault', depth.isMoved || depth.isMerged);
+            row.cells[3].classList.toggle('fault', isMoved(apart, at) || isMerged(apart, at));
         });
 }
 
-/** What is said of a depth and the one before it. */
-function words({ isMoved, isClose, isMerged }, before, threshold) {
+/** What is said of a depth and the one before it, which the first has not. */
+function words(apart, at, before) {
     const said = [];
-    if (isMoved) said.push(`Moved: farther off than ${short(threshold)}.`);
-    if (isMerged) said.push(`Became one with ${before}: the ramp tells them apart, the list does not.`);
-    else if (isClose) said.push(`The ramp itself does not tell it from ${before}.`);
-    else if (before !== 0) said.push(`Told from ${before}.`);
+    if (isMoved(apart, at)) said.push(`Moved: farther off than ${short(apart.threshold)}.`);
+    if (isMerged(apart, at)) said.push(`Became one with ${before}: the ramp tells them apart, the list does not.`);
+    else if (isClose(apart, at)) said.push(`The ramp itself does not tell it from ${before}.`);
+    else if (before !== null) said.push(`Told from ${before}.`);
     return said.join(' ') || 'As the ramp has it.';
 }

@@ -47,7 +47,7 @@ function push(page, by) {
         page.say(`Stop ${page.chosen} stands where its neighbour does.`);
         return;
     }
-    page.attempt(() => page.editor.edit({ sort: MOVE, stop: page.chosen, position: to }), { isQuiet: page.said.isYes });
+    page.attempt(() => page.editor.edit({ sort: MOVE, stop: page.chosen, position: to }), { isQuiet: true });
 }
 
 function draw(page, slider) {

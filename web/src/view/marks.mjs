@@ -1,5 +1,6 @@
 // What `apart` finds, below the bands: a mark with the numbers of the stops or the names of the depths, hatched once where they moved and crosswise
 // where they became one. The same stands in words in the table of depths.
+import { depthsThat, isMerged, isMoved } from '../asked.mjs';
 import { $, makeSvg } from './dom.mjs';
 import { brief } from './page.mjs';
 
@@ -16,28 +17,23 @@ export function marks(page) {
     const drawn = makeSvg('g');
     svg.append(makeSvg('defs', {}, pattern('moved', 'M0 0V6'), pattern('merged', 'M0 0V6M0 0H6')), drawn);
     page.parts.push(() => {
-        const depths = page.said.apart?.depths ?? [];
-        const width = $('drawn').clientWidth;
-        const rows = [
-            ['moved', runs(page, depths, width, i => (depths[i].isMoved ? i : -1))],
-            ['merged', runs(page, depths, width, i => (depths[i].isMerged ? i - 1 : -1))],
-        ];
+        const { width, said: { apart } } = page;
+        const rows = apart ? [['moved', runs(page, apart, isMoved, 0)], ['merged', runs(page, apart, isMerged, 1)]] : [];
         const all = rows.flatMap(([name, found], row) => found.flatMap(run => mark(label(page, name, run), name, run, GAP + row * (MARK + 2), width)));
         drawn.replaceChildren(...(all.length ? all : [makeSvg('text', { class: 'none', x: 0, y: MARK + GAP }, 'None moved, none merged.')]));
         svg.setAttribute('viewBox', `0 0 ${width} ${2 * MARK + 8}`);
     });
 }
 
-/** Faults in runs; one stands from one depth to another, and those that stand near each other are one. */
-function runs(page, depths, width, first) {
+/** Faults in runs; one stands from so many depths before to its own, and those that stand near each other are one. */
+function runs(page, apart, holds, before) {
     const found = [];
-    for (let last = 0; last < depths.length; last++) {
-        const start = first(last);
-        if (start < 0) continue;
-        const [from, to] = [start, last].map(i => page.share(depths[i].position) * width);
-        const before = found.at(-1);
-        if (before && from - before.to < NEAR) Object.assign(before, { last, to });
-        else found.push({ first: start, last, from, to });
+    for (const last of depthsThat(holds, apart)) {
+        const first = last - before;
+        const [from, to] = [first, last].map(i => page.share(apart.positions[i]) * page.width);
+        const run = found.at(-1);
+        if (run && from - run.to < NEAR) Object.assign(run, { last, to });
+        else found.push({ first, last, from, to });
     }
     return found;
 }

@@ -11,6 +11,9 @@ export class Page {
     editor = new Editor();
     chosen = 0;
     isInverted = false;
+    /** Lengths of the picture in pixels: asked for when they change, since each asking makes the browser lay out the page. */
+    width = 0;
+    trackHeight = 0;
     /** The last step that a file has. */
     kept = undefined;
     /** Drawn one after the other at each change. */
@@ -57,8 +60,10 @@ export class Page {
         return Math.fround(min * (1 - share) + max * share);
     }
 
-    /** Tries a change. Where it is refused, that is said, and all stays as it was. */
+    /** Tries a change. Where it is refused, that is said, and all stays as it was. A quiet one, such as a step of a drag, is told
+     * only where depths become one by it, or are told apart again. */
     attempt(act, { isQuiet = false } = {}) {
+        const before = this.said && this.faults();
         try {
             act();
         } catch (error) {
@@ -69,6 +74,7 @@ export class Page {
         setText($('alert'), '');
         this.redraw();
         if (!isQuiet) this.tell();
+        else if (this.faults() !== before) this.say(this.faults() || 'All depths are told apart again.');
         return true;
     }
 
@@ -80,13 +86,17 @@ export class Page {
         throw new Fault('', 0, `${what} wants a number${comma}; found '${text}'`);
     }
 
+    /** What is wrong with the list, or nothing. */
+    faults() {
+        const { isYes, apart, line } = this.said;
+        return apart ? [merged(apart), isYes ? '' : 'Judged: no'].filter(Boolean).map(words => `${words}.`).join(' ') : line;
+    }
+
     /** Says what was done and what came of it. */
     tell() {
-        const { isYes, apart, line } = this.said;
-        const faults = apart ? [merged(apart), isYes ? '' : 'Judged: no'].filter(Boolean).join('. ') : line;
-        const words = this.editor.words;
+        const { words } = this.editor;
         const list = this.sheet.listRefusal ? '' : ` List of ${this.sheet.listed} stops.`;
-        this.say(`${words.charAt(0).toUpperCase()}${words.slice(1)}.${list} ${faults && `${faults}.`}`.trim());
+        this.say(`${words.charAt(0).toUpperCase()}${words.slice(1)}.${list} ${this.faults()}`.trim());
     }
 
     say(words) {
@@ -130,6 +140,11 @@ export class Page {
         this.editor.named = null;
         $('depths-own').checked = true;
         $('naming').hidden = true;
+    }
+
+    measure() {
+        this.width = $('drawn').clientWidth;
+        this.trackHeight = $('track').clientHeight;
     }
 
     redraw() {
