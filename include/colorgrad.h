@@ -475,8 +475,19 @@ static inline ColorgradRead colorgrad_read_segments(const uint8_t *text, size_t 
     return colorgrad_read(text, text_length, foreground, background, COLORGRAD_OF_SEGMENTS(room));
 }
 
-/* colorgrad_name (colorgrad_calls.h): how long the file's name is; its bytes are written to the start of out where out holds
- * them all, else out stays as it was. 0 where the file would be refused with room for 256 segments. */
+/* The same of a file as GIMP itself saves it: its numbers may be long (17 significant digits, an exponent), its name in UTF-8, and
+ * its segments curved. The ramp is then colorgrad_saved_ramp. What colorgrad_read_segments reads is read the same. 131,072 bytes
+ * at most; what follows the segments counted is not looked at. */
+static inline ColorgradRead colorgrad_read_saved_segments(const uint8_t *text, size_t text_length,
+                                                          ColorgradRgba foreground, ColorgradRgba background,
+                                                          ColorgradSegments room)
+{
+    return colorgrad_read_saved(text, text_length, foreground, background, COLORGRAD_OF_SEGMENTS(room));
+}
+
+/* colorgrad_name and colorgrad_name_saved (colorgrad_calls.h): how long the file's name is; its bytes are written to the start of
+ * out where out holds them all, else out stays as it was. 0 where the file would be refused with room for 256 segments, by
+ * colorgrad_read_segments or colorgrad_read_saved_segments. */
 
 /* Bytes that are enough for a list of n stops: with this room, 7 is never given. 0 for fewer than 2 stops, which are refused
  * with 1. n is evaluated twice. */
