@@ -34,6 +34,15 @@ class Making(unittest.TestCase):
             self.assertEqual(ramp(0.0), Colour(0.0, 0.0, 0.0, 1.0))
             self.assertEqual(ramp(1.0), Colour(1.0, 1.0, 1.0, 1.0))
 
+    def test_segments_that_are_curved(self):
+        positions, channels, codes = [0, 0.25, 1], [0, 0, 0, 1, 1, 1, 1, 1], bytes([1, 0])
+        ramp = Ramp(Kind.GIMP_SAVED, positions, channels, codes)
+        self.assertEqual((len(ramp), ramp(0.25)), (1, Colour(0.5, 0.5, 0.5, 1.0)))
+        self.assertEqual(repr(ramp), '<gimp_saved ramp of 1 segments from 0 to 1>')
+        self.assertEqual(ramp.apart(ramp.within()).depths, (0.0, 1.0))
+        self.refused(Reason.MISSHAPEN, Ramp, Kind.GIMP, positions, channels, codes)
+        self.refused(Reason.MISSHAPEN, Ramp, Kind.GIMP_SAVED, [0.25, 0, 1], channels, codes)
+
     def test_what_is_refused(self):
         for make in KINDS:
             self.refused(Reason.MISSHAPEN, make, [0], ['#000'])
