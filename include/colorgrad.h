@@ -74,10 +74,12 @@ typedef enum {
 #define COLORGRAD_CLOSE 2u  /* the ramp itself does not tell it from the depth before: no fault of the list */
 #define COLORGRAD_MERGED 4u /* the ramp tells it from the depth before, and the list does not */
 
-/* ---- codes of a GIMP segment that are carried: five of blending, three of colouring. The middle of a sinusoidal segment
- * must not be outside its ends, or the segment counts as not carried. With HSV the colours are mixed as hue, saturation and
+/* ---- codes of a GIMP segment that are carried: six of blending, three of colouring. A curved segment is carried by ramps of kind
+ * COLORGRAD_GIMP_SAVED alone. The middle of a sinusoidal or curved segment must not be outside its ends, or the segment counts as
+ * not carried. With HSV the colours are mixed as hue, saturation and
  * value, by docs/HSV.md: hues rise, or fall, from the left one to the right one, and equal hues go the full turn. */
 #define COLORGRAD_BLEND_LINEAR 0u
+#define COLORGRAD_BLEND_CURVED 1u
 #define COLORGRAD_BLEND_SINUSOIDAL 2u
 #define COLORGRAD_BLEND_SPHERICAL_INCREASING 3u
 #define COLORGRAD_BLEND_SPHERICAL_DECREASING 4u
@@ -475,8 +477,19 @@ static inline ColorgradRead colorgrad_read_segments(const uint8_t *text, size_t 
     return colorgrad_read(text, text_length, foreground, background, COLORGRAD_OF_SEGMENTS(room));
 }
 
-/* colorgrad_name (colorgrad_calls.h): how long the file's name is; its bytes are written to the start of out where out holds
- * them all, else out stays as it was. 0 where the file would be refused with room for 256 segments. */
+/* The same of a file as GIMP itself saves it: its numbers may be long (17 significant digits, an exponent), its name in UTF-8, and
+ * its segments curved. The ramp is then colorgrad_saved_ramp. What colorgrad_read_segments reads is read the same. 131,072 bytes
+ * at most; what follows the segments counted is not looked at. */
+static inline ColorgradRead colorgrad_read_saved_segments(const uint8_t *text, size_t text_length,
+                                                          ColorgradRgba foreground, ColorgradRgba background,
+                                                          ColorgradSegments room)
+{
+    return colorgrad_read_saved(text, text_length, foreground, background, COLORGRAD_OF_SEGMENTS(room));
+}
+
+/* colorgrad_name and colorgrad_name_saved (colorgrad_calls.h): how long the file's name is; its bytes are written to the start of
+ * out where out holds them all, else out stays as it was. 0 where the file would be refused with room for 256 segments, by
+ * colorgrad_read_segments or colorgrad_read_saved_segments. */
 
 /* Bytes that are enough for a list of n stops: with this room, 7 is never given. 0 for fewer than 2 stops, which are refused
  * with 1. n is evaluated twice. */

@@ -38,6 +38,7 @@ mod report;
 mod roots;
 mod sample;
 mod sample_within;
+mod saved;
 mod sharp;
 mod shown;
 mod sine;
@@ -60,12 +61,13 @@ use std::path::Path;
 use std::process::ExitCode;
 
 const USAGE: &str = "compare COMMAND [N] [--seed S] [--case I]
-  roots tokens colours sine waves hues curves sharp texts counts torn lists refresh edits marks many promise steps numerals written judge within apart
+  roots tokens colours sine waves hues curves sharp texts saved counts torn lists refresh edits marks many promise steps numerals written judge within apart
                      one comparison, of N inputs or at its full size
   all [PERCENT]      every comparison, at its full size or at that part of it
   differences        the smallest inputs of docs/DIFFERENCES.md, with the Rust's answers and ours
   gimp FOLDER [N]    N lists written there as .ggr files (200), for compare/gimp.py
   files FOLDER       the .ggr files in it, as compare/fetch gets them
+  saved-files FOLDER the .ggr files in it by the rules for what GIMP saves, each whole and damaged
   bench [TABLE]      times beside the Rust's: root token paint files read flatten growth within apart refresh
   count [TABLE]      instructions in place of times, by valgrind's callgrind
   own [N] [FOLDER]   how many of our own lists are turned down, of N random ramps and of the .ggr files in FOLDER
@@ -78,7 +80,7 @@ const USAGE: &str = "compare COMMAND [N] [--seed S] [--case I]
 type Comparison = (&'static str, fn(&Options) -> Vec<Tally>, u64);
 
 /// Each comparison with its full size.
-const COMPARISONS: [Comparison; 23] = [
+const COMPARISONS: [Comparison; 24] = [
     ("roots", roots::run, 1 << 32),
     ("tokens", tokens::run, 100_000_000),
     ("colours", colours::run, 2_000_000),
@@ -88,6 +90,7 @@ const COMPARISONS: [Comparison; 23] = [
     ("curves", curves::run, 12_000_000),
     ("sharp", sharp::run, 1_000_000),
     ("texts", texts::run, 200_000),
+    ("saved", saved::run, 400_000),
     ("counts", counts::run, 400_000),
     ("torn", torn::run, 100_000),
     ("lists", lists::run, 20_000),
@@ -130,6 +133,10 @@ fn run(words: &[String]) -> Result<bool, String> {
         "files" => {
             let folder = options.name.as_ref().ok_or("a folder is missing")?;
             Ok(report::summary(&files::run(&options, Path::new(folder))))
+        }
+        "saved-files" => {
+            let folder = options.name.as_ref().ok_or("a folder is missing")?;
+            Ok(report::summary(&saved::files(&options, Path::new(folder))))
         }
         "gimp" => {
             let folder = options.name.as_ref().ok_or("a folder is missing")?;

@@ -97,6 +97,28 @@ pub fn name(text: &[u8]) -> Vec<u8> {
     out
 }
 
+/// The same two of texts as GIMP saves them.
+pub fn read_saved(
+    text: &[u8],
+    (foreground, background): ([f32; 4], [f32; 4]),
+    positions: &mut [f32],
+    channels: &mut [f32],
+    codes: &mut [u8],
+) -> Result<usize, (u32, usize)> {
+    let mut told = [UNTOLD; 2];
+    let ([r, g, b, a], [s, h, c, o]) = (foreground, background);
+    let refusal = calls::read_saved(text, r, g, b, a, s, h, c, o, positions, channels, codes, &mut told);
+    let [line, segments] = told;
+    answer(refusal, segments).map_err(|number| (number, line))
+}
+
+pub fn name_saved(text: &[u8]) -> Vec<u8> {
+    let length = calls::name_saved(text, &mut []);
+    let mut out = vec![0; length];
+    assert_eq!(length, calls::name_saved(text, &mut out), "one text has one name");
+    out
+}
+
 /// The evaluations.
 pub fn sample(ramp: &Ramp, threshold: f32, record: &mut Record) -> Result<usize, u32> {
     let Record { rows, counts, marks } = record;

@@ -56,7 +56,13 @@ exports! {
         background_r: f32, background_g: f32, background_b: f32, background_a: f32,
         positions: &mut [f32], channels: &mut [f32], codes: &mut [u8], told: &mut [usize]
     ) -> u32;
+    read_saved = colorgrad_read_saved_told(
+        text: &[u8], foreground_r: f32, foreground_g: f32, foreground_b: f32, foreground_a: f32,
+        background_r: f32, background_g: f32, background_b: f32, background_a: f32,
+        positions: &mut [f32], channels: &mut [f32], codes: &mut [u8], told: &mut [usize]
+    ) -> u32;
     name = colorgrad_name(text: &[u8], out: &mut [u8]) -> usize;
+    name_saved = colorgrad_name_saved(text: &[u8], out: &mut [u8]) -> usize;
     write_ggr = colorgrad_write_ggr_told(positions: &[f32], channels: &[f32], text: &mut [u8], told: &mut [usize]) -> u32;
     numeral = colorgrad_numeral(x: f32, out: &mut [u8]) -> usize;
     sample = colorgrad_sample_told(

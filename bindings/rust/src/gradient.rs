@@ -357,7 +357,7 @@ refreshed!(SmoothstepGradient);
 refreshed!(BasisGradient);
 refreshed!(CatmullRomGradient);
 
-/// The segments of a GIMP gradient file (.ggr).
+/// The segments of a GIMP gradient file (.ggr), as GIMP itself saves it too: long numbers, a name in any script, curved segments.
 ///
 /// ```
 /// use guineaplume::{Color, GimpGradient, Gradient, ParseGgrError, Refusal};
@@ -388,7 +388,7 @@ impl GimpGradient {
         let mut channels = vec![0.0; 8 * MOST_SEGMENTS];
         let mut codes = vec![0; 2 * MOST_SEGMENTS];
         let out = lent::SegmentsMut { positions: &mut positions, channels: &mut channels, codes: &mut codes };
-        let segments = lent::read(text, *foreground, *background, out)?;
+        let segments = lent::read_saved(text, *foreground, *background, out)?;
         positions.truncate(3 * segments);
         channels.truncate(8 * segments);
         codes.truncate(2 * segments);
@@ -416,11 +416,11 @@ fn segments_kind(codes: &[u8]) -> Kind {
     Kind::Gimp
 }
 
-/// A text that was read is ASCII, and its name no longer than it.
+/// The name of a text that was read is UTF-8, and no longer than it.
 fn name_of(text: &[u8]) -> String {
     let mut name = vec![0; text.len()];
-    let length = lent::name(text, &mut name);
-    name[..length].iter().copied().map(char::from).collect()
+    let length = lent::name_saved(text, &mut name);
+    String::from_utf8_lossy(&name[..length]).into_owned()
 }
 
 impl Gradient for GimpGradient {

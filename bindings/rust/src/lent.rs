@@ -331,21 +331,45 @@ pub struct SegmentsMut<'a> {
     pub codes: &'a mut [u8],
 }
 
-/// Reads a GIMP text: how many segments. Any refusal (2, 10 to 16, 18) sets all of `out` to zero.
+fn segments_of(refusal: u32, [line, segments]: [usize; 2]) -> Result<usize, ParseGgrError> {
+    answer(refusal, segments).map_err(|refusal| ParseGgrError { refusal, line })
+}
+
+/// Reads a GIMP text by document 01's rules: how many segments. Any refusal (2, 10 to 16, 18) sets all of `out` to zero.
 pub fn read(text: &[u8], foreground: Color, background: Color, out: SegmentsMut<'_>) -> Result<usize, ParseGgrError> {
     let SegmentsMut { positions, channels, codes } = out;
     let Color { r, g, b, a } = foreground;
     let Color { r: br, g: bg, b: bb, a: ba } = background;
     let mut told = [0; 2];
     let refusal = calls::read(text, r, g, b, a, br, bg, bb, ba, positions, channels, codes, &mut told);
-    let [line, segments] = told;
-    answer(refusal, segments).map_err(|refusal| ParseGgrError { refusal, line })
+    segments_of(refusal, told)
+}
+
+/// Reads a GIMP text as GIMP itself saves it: its numbers may be long, its name in UTF-8, its segments curved. What [`read`]
+/// reads is read the same. Any refusal (2, 10 to 16, 18) sets all of `out` to zero.
+pub fn read_saved(
+    text: &[u8],
+    foreground: Color,
+    background: Color,
+    out: SegmentsMut<'_>,
+) -> Result<usize, ParseGgrError> {
+    let SegmentsMut { positions, channels, codes } = out;
+    let Color { r, g, b, a } = foreground;
+    let Color { r: br, g: bg, b: bb, a: ba } = background;
+    let mut told = [0; 2];
+    let refusal = calls::read_saved(text, r, g, b, a, br, bg, bb, ba, positions, channels, codes, &mut told);
+    segments_of(refusal, told)
 }
 
 /// How long the name in a GIMP text is. Its bytes are written where `out` holds them all, else it stays as it was. 0 where
 /// the text would be refused with room for 256 segments.
 pub fn name(text: &[u8], out: &mut [u8]) -> usize {
     calls::name(text, out)
+}
+
+/// The same of a text that [`read_saved`] reads; it is UTF-8.
+pub fn name_saved(text: &[u8], out: &mut [u8]) -> usize {
+    calls::name_saved(text, out)
 }
 
 /// Bytes that are enough for a GIMP text of so many stops: with this room, 7 is never given.

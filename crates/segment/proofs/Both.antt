@@ -14,9 +14,9 @@ use Rattle.stops.specs.declared.Kind.the-variants.{Gimp, GimpSaved}
 use Rattle.gradient.specs.Gimp.{linearCode, curvedCode, sinusoidalCode, increasingCode, decreasingCode, stepCode, fallingCode, inOrder, carried}
 use Rattle.gradient.specs.declared.gimp.Segment.{Segment}
 use Rattle.text.specs.Text.{words}
-use Rattle.rows.specs.declared.Form.the-variants.{Short, Long}
+use Rattle.rows.specs.declared.Notation.the-variants.{Short, Long}
 use Rattle.rows.specs.Rows.{Numbers, all, none, numbers}
-use Rattle.rows.proofs.Read.{numbers-same}
+use Rattle.rows.proofs.Longer.{numbers-same}
 use Rattle.segment.specs.declared.Rules.the-variants.{Published, Saved}
 use Rattle.segment.specs.declared.SegmentRead.{SegmentRead}
 use Rattle.segment.specs.declared.SegmentRead.the-variants.{Valid, Fault}

@@ -25,7 +25,9 @@ DECLARED = {
     'colorgrad_sharp_told': '(colours: &[f32], min: f32, max: f32, softness: f32, '
     'positions: &mut [f32], channels: &mut [f32], told: &mut [usize]) -> u32',
     'colorgrad_read_told': f'(text: &[u8], {_FOREGROUND}, {_BACKGROUND}, {_SEGMENTS}) -> u32',
+    'colorgrad_read_saved_told': f'(text: &[u8], {_FOREGROUND}, {_BACKGROUND}, {_SEGMENTS}) -> u32',
     'colorgrad_name': '(text: &[u8], out: &mut [u8]) -> usize',
+    'colorgrad_name_saved': '(text: &[u8], out: &mut [u8]) -> usize',
     'colorgrad_write_ggr_told': '(positions: &[f32], channels: &[f32], text: &mut [u8], told: &mut [usize]) -> u32',
     'colorgrad_numeral': '(x: f32, out: &mut [u8]) -> usize',
     'colorgrad_sample_told': f'({_RAMP}, threshold: f32, {_FILLED}, told: &mut [usize]) -> u32',

@@ -132,9 +132,12 @@ class Ramp(Gradient):
         return cls(Kind.SHARP, positions, channels)
 
     @classmethod
-    def from_ggr(cls, source: 'Source', foreground: ColourLike = BLACK, background: ColourLike = WHITE) -> 'Ramp':
-        """Reads a GIMP gradient: a path, or the bytes themselves. Foreground and background are what a segment may name in
-        place of a colour of its own. Refused with 2 and with 10 to 18, which have the line.
+    def from_ggr(
+        cls, source: 'Source', foreground: ColourLike = BLACK, background: ColourLike = WHITE, *, strict: bool = False
+    ) -> 'Ramp':
+        """Reads a GIMP gradient as GIMP itself saves it: a path, or the bytes themselves. Foreground and background are what a
+        segment may name in place of a colour of its own. Strict, only document 01's files are read: short numbers, names in
+        ASCII, no curved segment. Refused with 2 and with 10 to 18, which have the line.
 
         >>> text = b'GIMP Gradient\\nName: Shelf\\n1\\n0 0.5 1 0 0 0 1 1 1 1 1 0 0\\n'
         >>> shelf = Ramp.from_ggr(text)
@@ -143,7 +146,7 @@ class Ramp(Gradient):
         """
         from .reading import ramp_of_ggr
 
-        return ramp_of_ggr(source, Colour.of(foreground), Colour.of(background))
+        return ramp_of_ggr(source, Colour.of(foreground), Colour.of(background), strict)
 
     @classmethod
     def from_cpt(cls, source: 'Source') -> 'Ramp':
