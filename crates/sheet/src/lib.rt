@@ -1,8 +1,6 @@
 // A sheet: a ramp with room for more stops, its record and its list, which stay of one ramp through any number of edits.
-use crate::listing::ListSort;
 use crate::listing::list;
 use crate::making::make;
-use crate::making::stops_after;
 use crate::room::channels_of;
 use crate::room::fits;
 use crate::room::positions_of;
@@ -14,10 +12,21 @@ use refusals::MISSHAPEN;
 use sampling::Sampled;
 use sampling::sample;
 use stops::Kind;
+ghost use Rattle.stops.specs.Lent.{lentRamp};
+ghost use Rattle.sampling.specs.Lent.{lentHeld};
+ghost use Rattle.linearize.specs.Lent.{lentOutput};
+ghost use Rattle.sheet.specs.Room.{lentRoom};
+ghost use Rattle.sheet.specs.Promises.{Opens, Edits};
 
-pub mod listing;
+mod listing;
 mod making;
 mod room;
+
+// Which list a sheet has: the one that thinning makes, or the one within a hold.
+pub enum ListSort {
+    Thinned,
+    Within(f32),
+}
 
 // What the calls answer: how many stops the ramp has, how many the list, and the evaluations; or that the list is refused,
 // while ramp and record are those with the edit made; or that all is refused, and stays as it was.
@@ -49,7 +58,9 @@ pub fn open(
     marks: &mut [u32],
     places: &mut [f32],
     colours: &mut [f32],
-) -> SheetAnswer {
+) -> SheetAnswer
+    ensures { λ r. ⌜ Opens (lentRamp kind positions channels codes) stops threshold sort (lentHeld rows counts marks) (lentOutput places colours) r ⌝ }
+{
     if !fits(kind, stops, positions.len(), channels.len()) {
         return SheetAnswer::Refused(MISSHAPEN);
     }
@@ -101,7 +112,9 @@ pub fn edit(
     marks: &mut [u32],
     places: &mut [f32],
     colours: &mut [f32],
-) -> SheetAnswer {
+) -> SheetAnswer
+    ensures { λ r. ⌜ Edits (lentRoom kind positions channels codes) stops edit threshold sort (lentHeld rows counts marks) (lentOutput places colours) r ⌝ }
+{
     if !fits(kind, stops, positions.len(), channels.len()) {
         return SheetAnswer::Refused(MISSHAPEN);
     }
@@ -121,12 +134,12 @@ pub fn edit(
     ) {
         Refreshed::Refused(number) => SheetAnswer::Refused(number),
         Refreshed::Done(spent) => {
-            make(positions, channels, stops, made);
-            let now = stops_after(stops, made);
+            let left = make(positions, channels, stops, made);
+            let m = 4 * left;
             list(
                 kind,
-                &positions[..now],
-                &channels[..4 * now],
+                &positions[..left],
+                &channels[..m],
                 codes,
                 threshold,
                 sort,
@@ -135,7 +148,7 @@ pub fn edit(
                 marks,
                 places,
                 colours,
-                now,
+                left,
                 spent,
             )
         }

@@ -1,16 +1,18 @@
 // The list of a sheet, of either sort.
+use crate::ListSort;
 use crate::SheetAnswer;
 use linearize::Listed;
 use linearize::after;
 use linearize::thin;
 use stops::Kind;
 use within::thin_within;
-
-// Which list a sheet holds: the one that thinning makes, or the one within a hold.
-pub enum ListSort {
-    Thinned,
-    Within(f32),
-}
+ghost use mathlib.Core.Path.{_≡_};
+ghost use Rattle.stops.specs.Lent.{lentRamp};
+ghost use Rattle.sampling.specs.Lent.{lentHeld};
+ghost use Rattle.linearize.specs.Lent.{lentOutput};
+ghost use Rattle.sheet.specs.Answers.{sheetBy};
+ghost use Rattle.sheet.specs.Lists.{ThinsBy};
+ghost use Rattle.sheet.specs.inner.Making.{ListsBy};
 
 // The list of a record, of either sort.
 fn list_by(
@@ -25,7 +27,9 @@ fn list_by(
     marks: &[u32],
     places: &mut [f32],
     colours: &mut [f32],
-) -> Listed {
+) -> Listed
+    ensures { λ r. ⌜ ThinsBy sort (lentRamp kind positions channels codes) threshold (lentHeld rows counts marks .entry) (lentOutput places colours) r ⌝ }
+{
     match sort {
         ListSort::Thinned => thin(
             kind,
@@ -56,7 +60,9 @@ fn list_by(
 }
 
 // The answer of a sheet, by that of its list.
-fn answer_by(stops: usize, made: Listed) -> SheetAnswer {
+fn answer_by(stops: usize, made: Listed) -> SheetAnswer
+    ensures { λ r. ⌜ r ≡ sheetBy stops made ⌝ }
+{
     match made {
         Listed::Refused(number) => SheetAnswer::Unlisted { stops, number },
         Listed::Done {
@@ -70,7 +76,7 @@ fn answer_by(stops: usize, made: Listed) -> SheetAnswer {
     }
 }
 
-// Makes the list of a ramp's record, for the evaluation of which so many colours were asked for.
+// Makes the list of a record, after so many evaluations were spent on it.
 pub(crate) fn list(
     kind: Kind,
     positions: &[f32],
@@ -85,7 +91,9 @@ pub(crate) fn list(
     colours: &mut [f32],
     stops: usize,
     spent: usize,
-) -> SheetAnswer {
+) -> SheetAnswer
+    ensures { λ r. ⌜ ListsBy sort (lentRamp kind positions channels codes) threshold (lentHeld rows counts marks .entry) (lentOutput places colours) stops spent r ⌝ }
+{
     let made = list_by(
         kind,
         positions,

@@ -1,7 +1,7 @@
 // The sorts of list of a sheet by their numbers, and what is told of a sheet's answer.
 use crate::plain::telling::tell_numbers;
+use sheet::ListSort;
 use sheet::SheetAnswer;
-use sheet::listing::ListSort;
 
 // 0 is the list that thinning makes, any other number the one within the hold.
 pub(crate) fn list_sort_of(list_sort: u32, hold: f32) -> ListSort {
