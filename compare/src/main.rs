@@ -4,8 +4,8 @@ mod apart;
 mod bench;
 // the exports, declared once in the repository; not all of them are compared here
 #[allow(dead_code)]
-#[path = "../../bindings/rust/src/calls.rs"]
-mod calls;
+#[path = "../../bindings/rust/src/ffi.rs"]
+mod ffi;
 mod clock;
 mod colours;
 mod count;

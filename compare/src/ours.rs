@@ -1,7 +1,7 @@
 //! The library under test, over this package's own ramps and records.
 
 use crate::apart;
-use crate::calls;
+use crate::ffi;
 use crate::judge::Verdict;
 use crate::oracle::Record;
 use crate::ramps::Ramp;
@@ -13,7 +13,7 @@ const UNTOLD: usize = usize::MAX;
 /// A call over a ramp.
 macro_rules! over {
     ($ramp:expr, $call:ident($($more:expr),* $(,)?)) => {
-        calls::$call($ramp.kind.code(), &$ramp.positions, &$ramp.channels, &$ramp.codes, $($more),*)
+        ffi::$call($ramp.kind.code(), &$ramp.positions, &$ramp.channels, &$ramp.codes, $($more),*)
     };
 }
 
@@ -26,12 +26,12 @@ fn answer<T>(refusal: u32, value: T) -> Result<T, u32> {
 }
 
 pub fn root(x: f32) -> f32 {
-    calls::root(x)
+    ffi::root(x)
 }
 
 pub fn token(text: &[u8]) -> Option<f32> {
     let mut value = [f32::NAN];
-    match calls::token(text, &mut value) {
+    match ffi::token(text, &mut value) {
         0 => None,
         1 => Some(value[0]),
         other => panic!("no such answer: {other}"),
@@ -40,13 +40,13 @@ pub fn token(text: &[u8]) -> Option<f32> {
 
 /// How long the number's text is; it is written where there is room.
 pub fn numeral(x: f32, out: &mut [u8]) -> usize {
-    calls::numeral(x, out)
+    ffi::numeral(x, out)
 }
 
 /// How many bytes were written.
 pub fn write_ggr(positions: &[f32], channels: &[f32], text: &mut [u8]) -> Result<usize, u32> {
     let mut told = [UNTOLD];
-    let refusal = calls::write_ggr(positions, channels, text, &mut told);
+    let refusal = ffi::write_ggr(positions, channels, text, &mut told);
     answer(refusal, told[0])
 }
 
@@ -70,7 +70,7 @@ pub fn build_sharp(
     channels: &mut [f32],
 ) -> Result<usize, u32> {
     let mut told = [UNTOLD];
-    let refusal = calls::sharp(colours, min, max, softness, positions, channels, &mut told);
+    let refusal = ffi::sharp(colours, min, max, softness, positions, channels, &mut told);
     answer(refusal, told[0])
 }
 
@@ -84,16 +84,16 @@ pub fn read(
 ) -> Result<usize, (u32, usize)> {
     let mut told = [UNTOLD; 2];
     let ([r, g, b, a], [s, h, c, o]) = (foreground, background);
-    let refusal = calls::read(text, r, g, b, a, s, h, c, o, positions, channels, codes, &mut told);
+    let refusal = ffi::read(text, r, g, b, a, s, h, c, o, positions, channels, codes, &mut told);
     let [line, segments] = told;
     answer(refusal, segments).map_err(|number| (number, line))
 }
 
 /// The name; an output that is too short must stay as it is.
 pub fn name(text: &[u8]) -> Vec<u8> {
-    let length = calls::name(text, &mut []);
+    let length = ffi::name(text, &mut []);
     let mut out = vec![0; length];
-    assert_eq!(length, calls::name(text, &mut out), "one text has one name");
+    assert_eq!(length, ffi::name(text, &mut out), "one text has one name");
     out
 }
 
@@ -128,7 +128,7 @@ pub fn flatten(ramp: &Ramp, threshold: f32, record: &mut Record, places: &mut [f
 
 /// The hold in force.
 pub fn hold(asked: Asked) -> f32 {
-    calls::hold(asked.hold, asked.threshold)
+    ffi::hold(asked.hold, asked.threshold)
 }
 
 pub fn thin_within(ramp: &Ramp, asked: Asked, record: &Record, places: &mut [f32], colours: &mut [f32]) -> Listed {

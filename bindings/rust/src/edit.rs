@@ -1,12 +1,15 @@
 //! Edits of a ramp of stops.
 
 use crate::Color;
+#[cfg(feature = "alloc")]
+use alloc::vec::Vec;
 
 /// One edit of a ramp's stops, which are counted from 0.
 ///
 /// A colour can be changed of linear, smoothstep, basis and Catmull-Rom ramps, of any stop. A stop is moved, added or removed
 /// of linear and smoothstep ramps; the first and the last stay.
 #[derive(Clone, Copy, PartialEq, Debug)]
+#[non_exhaustive]
 pub enum Edit {
     /// A stop gets another colour.
     Color {
@@ -50,6 +53,7 @@ impl Edit {
     }
 
     /// Makes an edit that was not refused.
+    #[cfg(feature = "alloc")]
     pub(crate) fn make(self, positions: &mut Vec<f32>, channels: &mut Vec<f32>) {
         match self {
             Edit::Color { stop, color } => channels[4 * stop..4 * stop + 4].copy_from_slice(&color.to_array()),

@@ -24,46 +24,104 @@
 //! # Ok::<(), Refusal>(())
 //! ```
 //!
-//! Coming from colorgrad: [`Gradient::at`], [`Gradient::domain`] and [`Gradient::linearize`] are named as there, and so are
-//! the types of gradients. What differs: a gradient is made of its positions and colours, not by a builder, and these are
-//! taken as they are; what cannot be used is an `Err` with its reason, where colorgrad panics or mends; `linearize` answers
-//! a [`List`], which counts the evaluations and is a gradient again by [`List::gradient`].
-//!
 //! `linearize` can leave a thin band out. Where every stop of the ramp must be seen, [`Gradient::flatten_within`] makes a list
 //! that keeps its word.
 //!
 //! A list of stops from elsewhere is held against a ramp by [`Gradient::judge`], which answers a [`Verdict`]; and
 //! [`Gradient::apart`] says which depths became one in it, in plain words.
 //!
-//! The module [`lent`] has the same calls on slices of the caller's, with nothing allocated.
+//! The module [`slices`] has the same calls on slices of the caller's, with nothing allocated.
+//!
+//! # From colorgrad
+//!
+//! Names are colorgrad's where it has them, and so are the answers, bit for bit. A ramp is made of its positions and colours,
+//! not by a builder, and these are taken as they are; what cannot be used is an `Err` with its reason, where colorgrad panics
+//! or mends.
+//!
+//! | colorgrad 0.9.0 | here |
+//! |---|---|
+//! | `GradientBuilder::new().colors(..).domain(..).build::<LinearGradient>()` | [`LinearGradient::new`]`(&positions, &colors)`, and so for [`SmoothstepGradient`], [`BasisGradient`], [`CatmullRomGradient`]; plain RGB alone |
+//! | `GradientBuilder::css`, `html_colors`, `preset::*` | not carried; a colour is read of `#rrggbb` by [`str::parse`] |
+//! | `LinearGradient::from_rgba_data(stops)`, an `Option` | [`LinearGradient::from_rgba_data`], a `Result` |
+//! | `GimpGradient::new(reader, &foreground, &background)` | [`GimpGradient::new`]`(text, &foreground, &background)`; an error has its number and its line |
+//! | `at`, `repeat_at`, `reflect_at`, `domain`, `colors(n)` | the same; [`Gradient::colors_at`] asks for many points at once |
+//! | `sharp(n, smoothness)` | [`Gradient::sharp`], a `Result`: at most 256 bands |
+//! | `inverse()` | [`Gradient::inverse`]: a view that has colours and cannot be flattened |
+//! | `linearize(threshold)`, a `LinearGradient` | [`Gradient::linearize`], a `Result` of a [`List`], which is a `Gradient` and counts its evaluations |
+//! | `boxed()`, `Box<dyn Gradient>`, its `Clone` | the same; `&G` is a `Gradient` too |
+//! | `impl Gradient for` a type of your own | not open: a ramp is stops or segments, which the library proves things of |
+//! | `Color::new`, `from_rgba8`, `to_rgba8`, `to_css_hex`, `to_array`, `clamp` | the same |
+//! | `Color::from_html`, `from_hsva`, `to_oklaba` and other colour spaces | not carried |
+//!
+//! # Features
+//!
+//! `std`, on by default, gives errors [`std::error::Error`]; without it `alloc` gives all the rest. With neither there are
+//! [`slices`], [`Color`], [`Edit`], [`Refusal`], [`Verdict`] and [`Stops`], and nothing allocates. The library itself never
+//! does.
 
+#![no_std]
 #![deny(missing_docs)]
 #![deny(unsafe_op_in_unsafe_fn)]
 
+#[cfg(feature = "alloc")]
+extern crate alloc;
+#[cfg(feature = "std")]
+extern crate std;
+
+#[cfg(feature = "alloc")]
 mod apart;
-mod calls;
 mod color;
 mod edit;
+mod ffi;
+#[cfg(feature = "alloc")]
 mod gradient;
-pub mod lent;
+#[cfg(feature = "alloc")]
+mod kinds;
+#[cfg(feature = "alloc")]
+mod list;
+#[cfg(feature = "alloc")]
 mod ordinary;
+#[cfg(feature = "alloc")]
 mod record;
+#[cfg(feature = "alloc")]
+mod refresh;
 mod refusal;
+pub mod slices;
 mod steps;
 mod verdict;
+#[cfg(feature = "alloc")]
+mod views;
 
+#[cfg(feature = "alloc")]
 pub use apart::{Apart, Depth};
-pub use color::Color;
+pub use color::{Color, CssHex, ParseColorError};
 pub use edit::Edit;
-pub use gradient::{
-    BasisGradient, CatmullRomGradient, GimpGradient, Gradient, LinearGradient, Refresh, SharpGradient,
-    SmoothstepGradient,
+#[cfg(feature = "alloc")]
+pub use gradient::Gradient;
+#[cfg(feature = "alloc")]
+pub use kinds::{
+    BasisGradient, CatmullRomGradient, GimpGradient, LinearGradient, SharpGradient, SmoothstepGradient,
 };
+#[cfg(feature = "alloc")]
+pub use list::List;
+#[cfg(feature = "alloc")]
 pub use ordinary::Ordinary;
-pub use record::{List, Record};
+#[cfg(feature = "alloc")]
+pub use record::Record;
+#[cfg(feature = "alloc")]
+pub use refresh::Refresh;
 pub use refusal::{ParseGgrError, Refusal};
+pub use slices::DEFAULT_THRESHOLD;
 pub use steps::{Handed, ListPlace, Stops};
 pub use verdict::Verdict;
+#[cfg(feature = "alloc")]
+pub use views::{GradientColors, InverseGradient};
+
+/// The module [`slices`] under its name of 0.2.0.
+#[deprecated(since = "0.3.0", note = "use `slices`")]
+pub mod lent {
+    pub use crate::slices::*;
+}
 
 /// What the tool `flatten` prints for an input.
 ///
@@ -72,9 +130,11 @@ pub use verdict::Verdict;
 /// assert!(printed.starts_with(b"stops\t2\tevaluations\t215\n"));
 /// assert_eq!(guineaplume::desk(b"kind\tround\n"), b"unread\t1\n");
 /// ```
-pub fn desk(input: &[u8]) -> Vec<u8> {
-    let mut output = vec![0; lent::MOST_PRINTED];
-    let printed = lent::desk(input, &mut output);
+#[cfg(feature = "alloc")]
+#[must_use]
+pub fn desk(input: &[u8]) -> alloc::vec::Vec<u8> {
+    let mut output = alloc::vec![0; slices::MOST_PRINTED];
+    let printed = slices::desk(input, &mut output);
     output.truncate(printed);
     output
 }

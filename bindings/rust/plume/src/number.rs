@@ -1,17 +1,17 @@
 //! Numbers: read by the library's proved reader, and written.
 
-use guineaplume::lent;
+use guineaplume::slices;
 
 /// The number that the bytes are, by the library's rule: a sign or none, digits with a point or none, 1 to 18 of them.
 pub fn read(text: &str) -> Option<f32> {
-    lent::token(text.as_bytes())
+    slices::token(text.as_bytes())
 }
 
 /// Nine significant digits by the library's proved writer. A number that it does not write, one below 1e-6 or above 1e6 in
 /// size, is written with as many digits as it needs.
 pub fn nine_digits(x: f32) -> String {
-    let mut room = [0; lent::MOST_NUMERAL];
-    let length = lent::numeral(x, &mut room);
+    let mut room = [0; slices::MOST_NUMERAL];
+    let length = slices::numeral(x, &mut room);
     match length {
         0 => short(x),
         _ => room[..length].iter().copied().map(char::from).collect(),

@@ -1,6 +1,6 @@
 //! A ramp of any kind, as a file gave it, and stops that are mixed linearly.
 
-use guineaplume::lent::Kind;
+use guineaplume::slices::Kind;
 use guineaplume::{
     BasisGradient, CatmullRomGradient, Color, Edit, GimpGradient, Gradient, LinearGradient, List, Record, Refresh,
     Refusal, SharpGradient, SmoothstepGradient,
@@ -72,12 +72,12 @@ impl Ramp {
     }
 
     pub fn kind(&self) -> Kind {
-        self.gradient().lent().kind
+        self.gradient().as_slices().kind
     }
 
     /// The positions as they are lent: of stops one each, of GIMP segments three.
     pub fn positions(&self) -> &[f32] {
-        self.gradient().lent().positions
+        self.gradient().as_slices().positions
     }
 
     /// How many stops or segments it has, in words.
@@ -99,7 +99,7 @@ impl Ramp {
 
     /// Its stops, of a kind that has them.
     pub fn stops(&self) -> Stops {
-        let lent = self.gradient().lent();
+        let lent = self.gradient().as_slices();
         lent.positions.iter().copied().zip(colors(lent.channels)).collect()
     }
 
@@ -114,7 +114,7 @@ impl Ramp {
     }
 
     fn joined(&self) -> Option<Stops> {
-        let lent = self.gradient().lent();
+        let lent = self.gradient().as_slices();
         let is_centred = |p: &[f32]| ((p[1] - p[0]) - (p[2] - p[1])).abs() <= 1e-6;
         if lent.codes.iter().any(|code| *code != 0) || !lent.positions.chunks_exact(3).all(is_centred) {
             return None;

@@ -1,7 +1,7 @@
 //! A ramp with its record and its list, which move together: opened once, changed by edits only.
 
 use crate::ramp::Ramp;
-use guineaplume::lent::{CELLS, ROWS};
+use guineaplume::slices::{CELLS, ROWS};
 use guineaplume::{Edit, List, Record, Refusal};
 
 /// The sort of list.
