@@ -99,9 +99,7 @@ pub use edit::Edit;
 #[cfg(feature = "alloc")]
 pub use gradient::Gradient;
 #[cfg(feature = "alloc")]
-pub use kinds::{
-    BasisGradient, CatmullRomGradient, GimpGradient, LinearGradient, SharpGradient, SmoothstepGradient,
-};
+pub use kinds::{BasisGradient, CatmullRomGradient, GimpGradient, LinearGradient, SharpGradient, SmoothstepGradient};
 #[cfg(feature = "alloc")]
 pub use list::List;
 #[cfg(feature = "alloc")]

@@ -97,4 +97,3 @@ refreshed!(LinearGradient);
 refreshed!(SmoothstepGradient);
 refreshed!(BasisGradient);
 refreshed!(CatmullRomGradient);
-

@@ -82,11 +82,7 @@ pub(crate) fn bands(n: u16) -> usize {
     usize::from(n.max(1))
 }
 
-pub(crate) fn sharp(
-    colors: GradientColors<'_>,
-    domain: (f32, f32),
-    softness: f32,
-) -> Result<SharpGradient, Refusal> {
+pub(crate) fn sharp(colors: GradientColors<'_>, domain: (f32, f32), softness: f32) -> Result<SharpGradient, Refusal> {
     let mut colors: Vec<Color> = colors.collect();
     if let [only] = colors[..] {
         colors.push(only);

@@ -1,5 +1,7 @@
 //! Which depths became one: the accident that this is for, the examples of the rule, and what each refusal leaves.
 
+#![cfg(feature = "std")]
+
 use guineaplume::slices::{self, Kind, Ramp, CLOSE, MERGED, MOST_POINTS, MOVED};
 use guineaplume::{Apart, Color, Edit, Gradient, LinearGradient, List, Refresh, Refusal, Verdict};
 

@@ -1,5 +1,7 @@
 //! Stops moved, added and removed: the ramp and its record change together or not at all.
 
+#![cfg(feature = "std")]
+
 use guineaplume::{BasisGradient, Color, Edit, Gradient, LinearGradient, Record, Refresh, Refusal, SmoothstepGradient};
 
 fn gray(x: f32) -> Color {

@@ -1,5 +1,7 @@
 //! GIMP segments coloured by hue.
 
+#![cfg(feature = "std")]
+
 use guineaplume::{Color, GimpGradient, Gradient, ParseGgrError, Refusal};
 
 const BLACK: Color = Color::new(0.0, 0.0, 0.0, 1.0);

@@ -1,5 +1,7 @@
 //! Ramps of which it is promised that flattening them is never refused.
 
+#![cfg(feature = "std")]
+
 use guineaplume::{Color, Gradient, LinearGradient, Ordinary, Refusal, SmoothstepGradient};
 
 fn reds(reds: &[f32]) -> Vec<Color> {

@@ -1,5 +1,7 @@
 //! A refreshed record and its list are those made afresh.
 
+#![cfg(feature = "std")]
+
 use guineaplume::slices::{Listed, RecordMut, StopsMut, MOST_POINTS};
 use guineaplume::{
     BasisGradient, CatmullRomGradient, Color, Edit, Gradient, LinearGradient, List, Record, Refresh, SmoothstepGradient,

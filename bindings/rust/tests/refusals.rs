@@ -1,5 +1,7 @@
 //! Each refusal, what it leaves in lent memory, and that its number and message are the header's.
 
+#![cfg(feature = "std")]
+
 use guineaplume::slices::{self, Kind, Record, RecordMut, SegmentsMut, StopsMut, CELLS, MARKS, MOST_POINTS, ROWS};
 use guineaplume::{
     Color, Edit, GimpGradient, Gradient, LinearGradient, ParseGgrError, Refresh, Refusal, SharpGradient,

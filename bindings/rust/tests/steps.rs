@@ -1,5 +1,7 @@
 //! One stop at a time: joined, the stops are the whole list's; what a refusal leaves of the place.
 
+#![cfg(feature = "std")]
+
 use guineaplume::slices::{Kind, Ramp, Record, StopsMut, MOST_POINTS};
 use guineaplume::{Color, Gradient, LinearGradient, ListPlace, Refusal, SmoothstepGradient, Stops};
 

@@ -1,5 +1,7 @@
 //! What is said of lists made elsewhere: each verdict, in its order, and that its message is the header's.
 
+#![cfg(feature = "std")]
+
 use guineaplume::slices::{Kind, Ramp, CELLS, MOST_POINTS};
 use guineaplume::{Color, Gradient, LinearGradient, Refusal, SmoothstepGradient, Verdict};
 

@@ -1,5 +1,7 @@
 //! Lists that keep their word: the prints of the rule, the ramp's own positions held, and what each refusal leaves.
 
+#![cfg(feature = "std")]
+
 use guineaplume::slices::{self, Kind, Record, RecordMut, StopsMut, CELLS, MARKS, MOST_POINTS, MOST_WEIGHED, ROWS};
 use guineaplume::{Color, Edit, Gradient, LinearGradient, Refresh, Refusal, SmoothstepGradient, Verdict};
 
@@ -164,7 +166,10 @@ fn refusals_that_change_nothing() {
     assert_eq!(desk.thin(ramp.as_slices()), Err(Refusal::BadRecord));
     desk.counts.pop();
     assert_eq!(desk.flatten(ramp.as_slices()), Err(Refusal::BadRecord));
-    assert_eq!(desk.flatten(slices::Ramp { kind: Kind::Sharp, codes: &[0], ..ramp.as_slices() }), Err(Refusal::Misshapen));
+    assert_eq!(
+        desk.flatten(slices::Ramp { kind: Kind::Sharp, codes: &[0], ..ramp.as_slices() }),
+        Err(Refusal::Misshapen)
+    );
     assert!(desk.outputs_are(RUBBISH) && desk.rows.iter().all(|x| *x == RUBBISH));
 }
 

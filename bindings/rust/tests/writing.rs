@@ -1,5 +1,7 @@
 //! Lists written as GIMP texts: their bytes, what each refusal leaves, and that they read back.
 
+#![cfg(feature = "std")]
+
 use guineaplume::slices::{self, written_bytes, MOST_NUMERAL, MOST_WRITTEN};
 use guineaplume::{Color, GimpGradient, Gradient, LinearGradient, Refusal};
 

@@ -17,15 +17,9 @@ pub fn of_hex(text: &str) -> Option<Color> {
     }
 }
 
-/// Its four channels as bytes.
-pub fn bytes(color: Color) -> [u8; 4] {
-    color.to_array().map(number::byte)
-}
-
 /// '#rrggbb', without alpha.
 pub fn hex(color: Color) -> String {
-    let [r, g, b, _] = bytes(color);
-    format!("#{r:02x}{g:02x}{b:02x}")
+    Color { a: 1.0, ..color }.to_css_hex().to_string()
 }
 
 /// How far apart two colours are, by the library's measure: half the root of the sum of the squared differences of clamped
