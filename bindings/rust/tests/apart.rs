@@ -134,7 +134,7 @@ fn two_depths_are_apart_above_the_step_alone() {
     let own = |step: f32, depths: &[f32]| asked(step, depths, &[0.0, 1.0], &GRAY).1;
     let between = slices::root(3.0 * 0.25 * 0.25) / 2.0;
     assert_eq!(own(between, &[0.25, 0.5]), [0, CLOSE, RUBBISH]);
-    assert_eq!(own(between.next_down(), &[0.25, 0.5]), [0, 0, RUBBISH]);
+    assert_eq!(own(f32::from_bits(between.to_bits() - 1), &[0.25, 0.5]), [0, 0, RUBBISH]);
     assert_eq!(own(0.0, &[0.25, 0.25, 0.5]), [0, CLOSE, 0, RUBBISH]);
     assert_eq!(own(-0.0, &[0.25, 0.5]), [0, 0, RUBBISH]);
     assert_eq!(own(f32::MAX, &[0.0, 1.0]), [0, CLOSE, RUBBISH]);
@@ -166,7 +166,8 @@ fn refusals_in_their_order_change_nothing() {
         let (told, faults) = asked(nan, &[], positions, &vec![0.5; channels]);
         assert_eq!((told, faults), (Err(Refusal::BadList), vec![RUBBISH]), "{positions:?}");
     }
-    let depths: [&[f32]; 6] = [&[], &[nan], &[0.0, f32::INFINITY], &[-0.001], &[0.5, 1.0f32.next_up()], &[0.5, 0.25]];
+    let depths: [&[f32]; 6] =
+        [&[], &[nan], &[0.0, f32::INFINITY], &[-0.001], &[0.5, f32::from_bits(0x3f80_0001)], &[0.5, 0.25]];
     for depths in depths {
         let (told, faults) = asked(nan, depths, &[-0.0, 1.0], &GRAY);
         assert_eq!((told, faults), (Err(Refusal::BadDepths), vec![RUBBISH; depths.len() + 1]), "{depths:?}");
