@@ -142,6 +142,26 @@ uint32_t colorgrad_edit_list_told(uint32_t kind, const float *positions, size_t 
                                   size_t places_length, float *colours, size_t colours_length, size_t *told,
                                   size_t told_length);
 
+/* ---- sheets: a ramp with room, of which the first `stops` stops count (of a GIMP ramp segments), its record and its list;
+ * list_sort 0 is the list that thinning makes, any other number the one that keeps its word within the hold */
+
+/* told: stops of the ramp, also where it is refused; stops of the list; evaluations */
+uint32_t colorgrad_sheet_open_told(uint32_t kind, const float *positions, size_t positions_length,
+                                   const float *channels, size_t channels_length, const uint8_t *codes,
+                                   size_t codes_length, size_t stops, float threshold, uint32_t list_sort, float hold,
+                                   float *rows, size_t rows_length, uint8_t *counts, size_t counts_length,
+                                   uint32_t *marks, size_t marks_length, float *places, size_t places_length,
+                                   float *colours, size_t colours_length, size_t *told, size_t told_length);
+
+/* told: stops of the ramp as it is now, also where it is refused; stops of the list; evaluations */
+uint32_t colorgrad_sheet_edit_told(uint32_t kind, float *positions, size_t positions_length, float *channels,
+                                   size_t channels_length, const uint8_t *codes, size_t codes_length, size_t stops,
+                                   uint32_t sort, size_t stop, float position, float r, float g, float b, float a,
+                                   float threshold, uint32_t list_sort, float hold, float *rows, size_t rows_length,
+                                   uint8_t *counts, size_t counts_length, uint32_t *marks, size_t marks_length,
+                                   float *places, size_t places_length, float *colours, size_t colours_length,
+                                   size_t *told, size_t told_length);
+
 /* ---- the tool, and the leaves below it */
 
 /* answers how many bytes are printed */

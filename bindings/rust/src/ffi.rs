@@ -101,6 +101,16 @@ exports! {
         sort: u32, stop: usize, position: f32, r: f32, g: f32, b: f32, a: f32, threshold: f32,
         rows: &mut [f32], counts: &mut [u8], marks: &mut [u32], places: &mut [f32], colours: &mut [f32], told: &mut [usize]
     ) -> u32;
+    sheet_open = colorgrad_sheet_open_told(
+        kind: u32, positions: &[f32], channels: &[f32], codes: &[u8], stops: usize,
+        threshold: f32, list_sort: u32, hold: f32,
+        rows: &mut [f32], counts: &mut [u8], marks: &mut [u32], places: &mut [f32], colours: &mut [f32], told: &mut [usize]
+    ) -> u32;
+    sheet_edit = colorgrad_sheet_edit_told(
+        kind: u32, positions: &mut [f32], channels: &mut [f32], codes: &[u8], stops: usize,
+        sort: u32, stop: usize, position: f32, r: f32, g: f32, b: f32, a: f32, threshold: f32, list_sort: u32, hold: f32,
+        rows: &mut [f32], counts: &mut [u8], marks: &mut [u32], places: &mut [f32], colours: &mut [f32], told: &mut [usize]
+    ) -> u32;
     desk = colorgrad_desk(input: &[u8], output: &mut [u8]) -> usize;
     threshold = colorgrad_threshold(asked: f32) -> f32;
     hold = colorgrad_hold(asked: f32, threshold: f32) -> f32;
