@@ -203,6 +203,13 @@ pub(crate) fn flat(colors: &[Color]) -> &[f32] {
     unsafe { core::slice::from_raw_parts(colors.as_ptr().cast(), 4 * colors.len()) }
 }
 
+/// The same, to be written.
+#[cfg(feature = "alloc")]
+pub(crate) fn flat_mut(colors: &mut [Color]) -> &mut [f32] {
+    // SAFETY: as above; and any four f32 are a colour.
+    unsafe { core::slice::from_raw_parts_mut(colors.as_mut_ptr().cast(), 4 * colors.len()) }
+}
+
 /// The colours of such channels; what is left over is dropped.
 #[cfg(feature = "alloc")]
 pub(crate) fn unflat(channels: &[f32]) -> impl ExactSizeIterator<Item = Color> + Clone + '_ {

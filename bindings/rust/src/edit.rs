@@ -1,8 +1,11 @@
 //! Edits of a ramp of stops.
 
-use crate::Color;
 #[cfg(feature = "alloc")]
 use alloc::vec::Vec;
+
+#[cfg(feature = "alloc")]
+use crate::slices::Ramp;
+use crate::Color;
 
 /// One edit of a ramp's stops, which are counted from 0.
 ///
@@ -50,6 +53,19 @@ impl Edit {
             Edit::Add { stop, position, color } => (2, stop, position, color),
             Edit::Remove { stop } => (3, stop, 0.0, Color::default()),
         }
+    }
+
+    /// The edit that takes this one back, of the ramp as it is before it. None where it has no such stop.
+    #[cfg(feature = "alloc")]
+    pub(crate) fn undone(self, ramp: Ramp<'_>) -> Option<Edit> {
+        let position = |stop: usize| ramp.positions.get(stop).copied();
+        let color = |stop: usize| ramp.channels.chunks_exact(4).nth(stop).map(|c| Color::new(c[0], c[1], c[2], c[3]));
+        Some(match self {
+            Edit::Color { stop, .. } => Edit::Color { stop, color: color(stop)? },
+            Edit::Move { stop, .. } => Edit::Move { stop, position: position(stop)? },
+            Edit::Add { stop, .. } => Edit::Remove { stop },
+            Edit::Remove { stop } => Edit::Add { stop, position: position(stop)?, color: color(stop)? },
+        })
     }
 
     /// Makes an edit that was not refused.

@@ -5,6 +5,7 @@ use alloc::vec;
 use alloc::vec::Vec;
 
 use crate::color::flat;
+use crate::kinds::Parts;
 use crate::slices;
 use crate::views::{self, GradientColors, InverseGradient};
 use crate::{Apart, Color, List, Record, Refusal, SharpGradient, Stops, Verdict};
@@ -12,8 +13,14 @@ use crate::{Apart, Color, List, Record, Refusal, SharpGradient, Stops, Verdict};
 /// Only this crate has ramps: what a [`Gradient`] lends passed the library's check, so that no call on it can panic.
 pub(crate) mod sealed {
     use super::{Box, Gradient};
+    use crate::kinds::Parts;
 
     pub trait Sealed {
+        /// What an edit changes, of a ramp of stops that owns them.
+        fn parts_mut(&mut self) -> Option<&mut Parts> {
+            None
+        }
+
         fn clone_boxed<'a>(&self) -> Box<dyn Gradient + 'a>
         where
             Self: 'a;
@@ -295,6 +302,10 @@ impl<G: Gradient + ?Sized> Gradient for &G {
 }
 
 impl<G: Gradient + ?Sized> sealed::Sealed for Box<G> {
+    fn parts_mut(&mut self) -> Option<&mut Parts> {
+        (**self).parts_mut()
+    }
+
     fn clone_boxed<'a>(&self) -> Box<dyn Gradient + 'a>
     where
         Self: 'a,
@@ -315,10 +326,16 @@ impl Clone for Box<dyn Gradient + '_> {
     }
 }
 
-/// Makes a type that lends slices which passed the check a [`Gradient`].
+/// Makes a type that lends slices which passed the check a [`Gradient`]; of stops, it says where these are.
 macro_rules! is_gradient {
-    ($name:ty, $ramp:ident => $slices:expr) => {
+    ($name:ty, $ramp:ident => $slices:expr $(, edited in $parts:tt)?) => {
         impl $crate::gradient::sealed::Sealed for $name {
+            $(
+                fn parts_mut(&mut self) -> Option<&mut Parts> {
+                    Some(&mut self.$parts)
+                }
+            )?
+
             fn clone_boxed<'a>(&self) -> alloc::boxed::Box<dyn $crate::Gradient + 'a>
             where
                 Self: 'a,

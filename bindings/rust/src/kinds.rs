@@ -11,7 +11,7 @@ use crate::{Color, ParseGgrError, Refusal};
 
 /// Stops or segments that passed the check.
 #[derive(Clone, PartialEq, Debug)]
-pub(crate) struct Parts {
+pub struct Parts {
     pub(crate) positions: Vec<f32>,
     pub(crate) channels: Vec<f32>,
     pub(crate) codes: Vec<u8>,
@@ -60,7 +60,7 @@ macro_rules! of_stops {
             }
         }
 
-        is_gradient!($name, ramp => ramp.0.as_slices($kind));
+        is_gradient!($name, ramp => ramp.0.as_slices($kind), edited in 0);
     };
 }
 

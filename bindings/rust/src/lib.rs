@@ -86,6 +86,9 @@ mod record;
 #[cfg(feature = "alloc")]
 mod refresh;
 mod refusal;
+#[cfg(feature = "alloc")]
+mod sheet;
+mod sheets;
 pub mod slices;
 mod steps;
 mod verdict;
@@ -109,6 +112,9 @@ pub use record::Record;
 #[cfg(feature = "alloc")]
 pub use refresh::Refresh;
 pub use refusal::{ParseGgrError, Refusal};
+#[cfg(feature = "alloc")]
+pub use sheet::Sheet;
+pub use sheets::ListSort;
 pub use slices::DEFAULT_THRESHOLD;
 pub use steps::{Handed, ListPlace, Stops};
 pub use verdict::Verdict;

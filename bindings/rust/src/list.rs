@@ -4,7 +4,7 @@ use alloc::string::String;
 use alloc::vec;
 use alloc::vec::Vec;
 
-use crate::color::{flat, unflat};
+use crate::color::{flat, flat_mut};
 use crate::gradient::is_gradient;
 use crate::slices::{self, Kind, MOST_POINTS, MOST_WRITTEN};
 use crate::{Apart, Color, Gradient, LinearGradient, Refusal};
@@ -14,7 +14,7 @@ use crate::{Apart, Color, Gradient, LinearGradient, Refusal};
 pub struct List {
     positions: Vec<f32>,
     colors: Vec<Color>,
-    evaluations: usize,
+    pub(crate) evaluations: usize,
 }
 
 impl List {
@@ -22,12 +22,28 @@ impl List {
     pub(crate) fn made(
         call: impl FnOnce(slices::StopsMut<'_>) -> Result<slices::Listed, Refusal>,
     ) -> Result<List, Refusal> {
-        let mut positions = vec![0.0; MOST_POINTS];
-        let mut channels = vec![0.0; 4 * MOST_POINTS];
-        let listed = call(slices::StopsMut { positions: &mut positions, channels: &mut channels })?;
-        positions.truncate(listed.stops);
-        let colors = unflat(&channels[..4 * listed.stops]).collect();
-        Ok(List { positions, colors, evaluations: listed.evaluations })
+        let mut list = List::empty();
+        let slices::Listed { stops, evaluations } = call(list.room())?;
+        list.cut(stops);
+        Ok(List { evaluations, ..list })
+    }
+
+    /// A list to be filled.
+    pub(crate) fn empty() -> List {
+        List { positions: Vec::new(), colors: Vec::new(), evaluations: 0 }
+    }
+
+    /// Its stops, with room for every list there is.
+    pub(crate) fn room(&mut self) -> slices::StopsMut<'_> {
+        self.positions.resize(MOST_POINTS, 0.0);
+        self.colors.resize(MOST_POINTS, Color::default());
+        slices::StopsMut { positions: &mut self.positions, channels: flat_mut(&mut self.colors) }
+    }
+
+    /// Only so many stops of that room are the list's.
+    pub(crate) fn cut(&mut self, stops: usize) {
+        self.positions.truncate(stops);
+        self.colors.truncate(stops);
     }
 
     /// The same list, with the evaluations of the call before it added.

@@ -21,6 +21,8 @@
 use crate::ffi;
 use crate::{Color, Edit, ParseGgrError, Refusal, Verdict};
 
+pub use crate::sheets::{Sheet, Sheeted};
+
 /// The threshold that stands for one that is not finite: what to ask for where nothing speaks for another.
 pub const DEFAULT_THRESHOLD: f32 = 0.007;
 /// How many stops a ramp may have.
