@@ -39,7 +39,8 @@ pub fn make(source: &Source, edits: &[Word], options: &Options) -> Answer<Made> 
         let refused = |refusal| Fault::refused_since(&source.file, 0, refusal, &format!("; the edit is '{word}'"));
         sheet.edit(word.of(&sheet.ramp)).map_err(refused)?;
     }
-    let (list, evaluations) = (stops_of(&sheet.list), sheet.list.evaluations());
+    let list = sheet.list().map_err(refused)?;
+    let (list, evaluations) = (stops_of(list), list.evaluations());
     Ok(Made { threshold: sheet.threshold(), way, evaluations, redone: sheet.redone, ramp: sheet.ramp, list })
 }
 

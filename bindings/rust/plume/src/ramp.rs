@@ -1,6 +1,6 @@
 //! A ramp of any kind, as a file gave it, and stops that are mixed linearly.
 
-use guineaplume::slices::Kind;
+use guineaplume::slices::{self, Kind};
 use guineaplume::{
     BasisGradient, CatmullRomGradient, Color, Edit, GimpGradient, Gradient, LinearGradient, List, Record, Refresh,
     Refusal, SharpGradient, SmoothstepGradient,
@@ -45,6 +45,22 @@ impl Ramp {
             Kind::Basis => BasisGradient::new(positions, colors).map(Ramp::Basis),
             Kind::CatmullRom => CatmullRomGradient::new(positions, colors).map(Ramp::CatmullRom),
             _ => Err(Refusal::Misshapen),
+        }
+    }
+
+    /// Of stops that are lent.
+    pub fn of_slices(lent: slices::Ramp<'_>) -> Result<Ramp, Refusal> {
+        Ramp::of_stops(lent.kind, &stops_in(lent))
+    }
+
+    pub fn boxed(self) -> Box<dyn Gradient> {
+        match self {
+            Ramp::Linear(ramp) => ramp.boxed(),
+            Ramp::Smoothstep(ramp) => ramp.boxed(),
+            Ramp::Sharp(ramp) => ramp.boxed(),
+            Ramp::Basis(ramp) => ramp.boxed(),
+            Ramp::CatmullRom(ramp) => ramp.boxed(),
+            Ramp::Gimp(ramp) => ramp.boxed(),
         }
     }
 
@@ -99,8 +115,7 @@ impl Ramp {
 
     /// Its stops, of a kind that has them.
     pub fn stops(&self) -> Stops {
-        let lent = self.gradient().as_slices();
-        lent.positions.iter().copied().zip(colors(lent.channels)).collect()
+        stops_in(self.gradient().as_slices())
     }
 
     /// Its stops where it is mixed linearly: it is a list already. GIMP segments are so where each is plain, RGB, and has
@@ -129,6 +144,10 @@ impl Ramp {
         }
         Some(stops)
     }
+}
+
+fn stops_in(lent: slices::Ramp<'_>) -> Stops {
+    lent.positions.iter().copied().zip(colors(lent.channels)).collect()
 }
 
 /// Four channels each.
