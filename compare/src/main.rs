@@ -3,14 +3,14 @@
 mod apart;
 mod bench;
 // the exports, declared once in the repository; not all of them are compared here
-#[allow(dead_code)]
-#[path = "../../bindings/rust/src/ffi.rs"]
-mod ffi;
 mod clock;
 mod colours;
 mod count;
 mod counts;
 mod edits;
+#[allow(dead_code)]
+#[path = "../../bindings/rust/src/ffi.rs"]
+mod ffi;
 mod files;
 mod gimp_texts;
 mod hues;
@@ -38,6 +38,7 @@ mod roots;
 mod sample;
 mod sample_within;
 mod sharp;
+mod sheets;
 mod shown;
 mod sine;
 mod sine_lists;
@@ -60,6 +61,7 @@ use std::process::ExitCode;
 
 const USAGE: &str = "compare COMMAND [N] [--seed S] [--case I]
   roots tokens colours sine waves hues sharp texts counts torn lists refresh edits marks many promise steps numerals written judge within apart
+  sheets
                      one comparison, of N inputs or at its full size
   all [PERCENT]      every comparison, at its full size or at that part of it
   differences        the smallest inputs of docs/DIFFERENCES.md, with the Rust's answers and ours
@@ -77,7 +79,7 @@ const USAGE: &str = "compare COMMAND [N] [--seed S] [--case I]
 type Comparison = (&'static str, fn(&Options) -> Vec<Tally>, u64);
 
 /// Each comparison with its full size.
-const COMPARISONS: [Comparison; 22] = [
+const COMPARISONS: [Comparison; 23] = [
     ("roots", roots::run, 1 << 32),
     ("tokens", tokens::run, 100_000_000),
     ("colours", colours::run, 2_000_000),
@@ -100,6 +102,7 @@ const COMPARISONS: [Comparison; 22] = [
     ("judge", judge::run, 100_000),
     ("within", lists_within::run, 100_000),
     ("apart", lists_apart::run, 100_000),
+    ("sheets", sheets::run, 20_000),
 ];
 
 fn main() -> ExitCode {
