@@ -49,6 +49,7 @@ mod texts;
 mod tokens;
 mod torn;
 mod typing;
+mod views;
 mod weighing;
 mod within;
 mod word;
@@ -61,7 +62,7 @@ use std::process::ExitCode;
 
 const USAGE: &str = "compare COMMAND [N] [--seed S] [--case I]
   roots tokens colours sine waves hues sharp texts counts torn lists refresh edits marks many promise steps numerals written judge within apart
-  sheets
+  sheets views
                      one comparison, of N inputs or at its full size
   all [PERCENT]      every comparison, at its full size or at that part of it
   differences        the smallest inputs of docs/DIFFERENCES.md, with the Rust's answers and ours
@@ -79,7 +80,7 @@ const USAGE: &str = "compare COMMAND [N] [--seed S] [--case I]
 type Comparison = (&'static str, fn(&Options) -> Vec<Tally>, u64);
 
 /// Each comparison with its full size.
-const COMPARISONS: [Comparison; 23] = [
+const COMPARISONS: [Comparison; 24] = [
     ("roots", roots::run, 1 << 32),
     ("tokens", tokens::run, 100_000_000),
     ("colours", colours::run, 2_000_000),
@@ -103,6 +104,7 @@ const COMPARISONS: [Comparison; 23] = [
     ("within", lists_within::run, 100_000),
     ("apart", lists_apart::run, 100_000),
     ("sheets", sheets::run, 20_000),
+    ("views", views::run, 2_000_000),
 ];
 
 fn main() -> ExitCode {
