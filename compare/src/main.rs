@@ -38,6 +38,7 @@ mod roots;
 mod sample;
 mod sample_within;
 mod sharp;
+mod sheeting;
 mod sheets;
 mod shown;
 mod sine;
@@ -68,7 +69,7 @@ const USAGE: &str = "compare COMMAND [N] [--seed S] [--case I]
   differences        the smallest inputs of docs/DIFFERENCES.md, with the Rust's answers and ours
   gimp FOLDER [N]    N lists written there as .ggr files (200), for compare/gimp.py
   files FOLDER       the .ggr files in it, as compare/fetch gets them
-  bench [TABLE]      times beside the Rust's: root token paint files read flatten growth within apart refresh
+  bench [TABLE]      times beside the Rust's: root token paint files read flatten growth within apart refresh sheet
   count [TABLE]      instructions in place of times, by valgrind's callgrind
   own [N] [FOLDER]   how many of our own lists are turned down, of N random ramps and of the .ggr files in FOLDER
   word [N] [FOLDER]  lists that keep their word beside the published ones, of N ramps of each sort (2,000) and of those files
