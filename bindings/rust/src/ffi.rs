@@ -19,6 +19,8 @@ macro_rules! export {
             extern "C" {
                 fn $export($($declared)*) -> $answer;
             }
+            #[cfg(all(test, feature = "std"))]
+            crate::reached::note(stringify!($export));
             // SAFETY: each pointer and length is a slice's own, exclusive where it is written, and alive until the call
             // returns; the library is proved to touch nothing else, for any contents and lengths.
             unsafe { $export($($handed)*) }

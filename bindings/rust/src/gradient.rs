@@ -51,7 +51,7 @@ pub trait Gradient: sealed::Sealed {
     fn as_slices(&self) -> slices::Ramp<'_>;
 
     /// The ramp as slices.
-    #[deprecated(since = "0.3.0", note = "use `as_slices`")]
+    #[deprecated(since = "0.2.0", note = "use `as_slices`")]
     fn lent(&self) -> slices::Ramp<'_> {
         self.as_slices()
     }
@@ -170,7 +170,7 @@ pub trait Gradient: sealed::Sealed {
         self.flatten(threshold).map(|(_, list)| list)
     }
 
-    /// The same, with the record that it was made of, which a later refresh needs.
+    /// The same, with the record that it was made of, which a later refresh needs. To edit, open a [`Sheet`](crate::Sheet).
     ///
     /// # Errors
     /// As [`linearize`](Gradient::linearize).

@@ -5,24 +5,25 @@
 //! refreshed record equals one made afresh. This crate gives that library Rust's types; it has no dependency.
 //!
 //! ```
-//! use guineaplume::{Color, Gradient, LinearGradient, Refresh, Refusal};
+//! use guineaplume::{Color, Edit, Gradient, LinearGradient, ListSort, Refusal, Sheet, DEFAULT_THRESHOLD};
 //!
 //! let sea = [Color::new(0.03, 0.05, 0.17, 1.0), Color::new(0.08, 0.32, 0.57, 1.0), Color::new(0.85, 0.94, 0.97, 1.0)];
-//! let mut ramp = LinearGradient::new(&[0.0, 0.5, 1.0], &sea)?;
+//! let ramp = LinearGradient::new(&[0.0, 0.5, 1.0], &sea)?;
 //! assert_eq!(ramp.at(0.5), sea[1]);
 //!
-//! // its stops for the press, then an edit, and only the cells that it touches are done again
-//! let (mut record, list) = ramp.flatten(0.007)?;
-//! assert_eq!(list.len(), 3);
-//! let list = ramp.refresh_list(1, Color::new(0.1, 0.38, 0.6, 1.0), &mut record)?;
-//! assert_eq!(list.colors()[1], ramp.at(0.5));
-//!
-//! // the record remembers its threshold and the ends of its ramp: a ramp on another domain is refused. Nothing else ties
-//! // the two: another ramp on the same domain is taken, and its list is then wrong
-//! let deeper = LinearGradient::new(&[0.0, 1.0, 2.0], &sea)?;
-//! assert_eq!(deeper.thin(&record), Err(Refusal::OtherThreshold));
+//! // its stops for the press, then an edit, and only the part that it touches is done again
+//! let mut sheet = Sheet::open(ramp, DEFAULT_THRESHOLD, ListSort::Within(0.001))?;
+//! assert_eq!(sheet.list()?.len(), 3);
+//! let back = sheet.edit(Edit::Color { stop: 1, color: Color::new(0.1, 0.38, 0.6, 1.0) })?;
+//! assert_eq!(sheet.list()?.colors()[1], sheet.ramp().at(0.5));
+//! sheet.edit(back)?;
+//! assert_eq!(sheet.ramp().at(0.5), sea[1]);
 //! # Ok::<(), Refusal>(())
 //! ```
+//!
+//! A [`Sheet`] is the way to edit: its ramp, its record and its list stay of one ramp. A [`Record`] by itself is its owner's
+//! affair. It remembers its threshold and the ends of its ramp, and a ramp on another domain is refused; another ramp on the
+//! same domain is taken, and its list is then wrong.
 //!
 //! `linearize` can leave a thin band out. Where every stop of the ramp must be seen, [`Gradient::flatten_within`] makes a list
 //! that keeps its word.
@@ -60,6 +61,8 @@
 //! does.
 
 #![no_std]
+// the pages are made with all features
+#![cfg_attr(not(feature = "std"), allow(rustdoc::broken_intra_doc_links))]
 #![deny(missing_docs)]
 #![deny(unsafe_op_in_unsafe_fn)]
 
@@ -81,6 +84,8 @@ mod kinds;
 mod list;
 #[cfg(feature = "alloc")]
 mod ordinary;
+#[cfg(all(test, feature = "std"))]
+mod reached;
 #[cfg(feature = "alloc")]
 mod record;
 #[cfg(feature = "alloc")]
@@ -121,8 +126,8 @@ pub use verdict::Verdict;
 #[cfg(feature = "alloc")]
 pub use views::{GradientColors, InverseGradient};
 
-/// The module [`slices`] under its name of 0.2.0.
-#[deprecated(since = "0.3.0", note = "use `slices`")]
+/// The module [`slices`] under its name of 0.1.0.
+#[deprecated(since = "0.2.0", note = "use `slices`")]
 pub mod lent {
     pub use crate::slices::*;
 }

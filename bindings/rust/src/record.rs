@@ -10,7 +10,8 @@ use crate::Refusal;
 ///
 /// [`Gradient::sample`](crate::Gradient::sample) makes one, [`Refresh::refresh`](crate::Refresh::refresh) keeps it true
 /// after an edit, and [`Gradient::thin`](crate::Gradient::thin) makes a list of it: both with the threshold that the record
-/// was sampled with, which it remembers. Two records are equal where their rows, counts and words are, however they came
+/// was sampled with, which it remembers. That it is used with its own ramp is its owner's affair; a
+/// [`Sheet`](crate::Sheet) sees to it. Two records are equal where their rows, counts and words are, however they came
 /// about.
 #[derive(Clone, Debug)]
 pub struct Record {

@@ -5,6 +5,9 @@ use crate::{Color, Edit, Gradient, List, Record, Refusal};
 
 /// Ramps whose record can be kept true after an edit: linear, smoothstep, basis and Catmull-Rom ones.
 ///
+/// The record is the caller's own affair: one of another ramp on the same domain is refreshed without a word, and is then
+/// wrong. A [`Sheet`](crate::Sheet) holds both, and is the way to edit.
+///
 /// ```
 /// use guineaplume::{Color, Gradient, LinearGradient, Refresh, Refusal};
 ///

@@ -144,7 +144,6 @@ impl<G: Gradient> Sheet<G> {
     }
 
     /// Ramp, record and list, no longer tied.
-    #[must_use]
     pub fn into_parts(self) -> (G, Record, Result<List, Refusal>) {
         (self.ramp, self.record, self.refused.map_or(Ok(self.list), Err))
     }
