@@ -35,9 +35,9 @@
 //!
 //! # From colorgrad
 //!
-//! Names are colorgrad's where it has them, and so are the answers, bit for bit. A ramp is made of its positions and colours,
-//! not by a builder, and these are taken as they are; what cannot be used is an `Err` with its reason, where colorgrad panics
-//! or mends.
+//! Names are colorgrad's where it has them, and so are colours and lists, bit for bit; the repository lists where they are
+//! not (`docs/DIFFERENCES.md`). A ramp is made of its positions and colours, not by a builder, and these are taken as they are;
+//! what cannot be used is an `Err` with its reason, where colorgrad panics or mends.
 //!
 //! | colorgrad 0.9.0 | here |
 //! |---|---|
@@ -51,7 +51,7 @@
 //! | `linearize(threshold)`, a `LinearGradient` | [`Gradient::linearize`], a `Result` of a [`List`], which is a `Gradient` and counts its evaluations |
 //! | `boxed()`, `Box<dyn Gradient>`, its `Clone` | the same; `&G` is a `Gradient` too |
 //! | `impl Gradient for` a type of your own | not open: a ramp is stops or segments, which the library proves things of |
-//! | `Color::new`, `from_rgba8`, `to_rgba8`, `to_css_hex`, `to_array`, `clamp` | the same |
+//! | `Color::new`, `from_rgba8`, `to_rgba8`, `to_css_hex`, `to_array`, `clamp` | the same names; a byte is the nearest |
 //! | `Color::from_html`, `from_hsva`, `to_oklaba` and other colour spaces | not carried |
 //!
 //! # Features
