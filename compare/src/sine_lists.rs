@@ -34,8 +34,7 @@ fn compare(tally: &mut Tally, case: u64, ramp: &Ramp, threshold: f32, farthest: 
     let got = ours::flatten(ramp, threshold, &mut Record::empty(), &mut positions, &mut channels);
     let (here, rust) = (list(&oracle::of_ours(ramp), threshold), list(&oracle::gradient(ramp), threshold));
     if !agrees(got, &here, ROOM, (&positions, &channels)) {
-        tally
-            .differs(case, || format!("{got:?}, not {} stops, threshold {threshold:?}, of {ramp:?}", here.stops.len()));
+        tally.differs(case, || format!("{got:?}, not {} stops, threshold {threshold:?}, of {ramp:?}", here.stops.len()));
         return;
     }
     tally.answered(1);

@@ -172,11 +172,7 @@ fn lists() {
     let inputs = [
         ("flattening -3e38..3e38", stops(Kind::Linear, &[-3.0e38, 3.0e38], &[0.0, 1.0]), 0.007),
         ("flattening 0..3e38", stops(Kind::Linear, &[0.0, 3.0e38], &[0.0, 1.0]), 0.007),
-        (
-            "flattening red -3e38, 3e38, -3e38",
-            stops(Kind::Linear, &[0.0, 0.5, 1.0], &[-3.0e38, 3.0e38, -3.0e38]),
-            0.007,
-        ),
+        ("flattening red -3e38, 3e38, -3e38", stops(Kind::Linear, &[0.0, 0.5, 1.0], &[-3.0e38, 3.0e38, -3.0e38]), 0.007),
         ("flattening two stops at -0", stops(Kind::Linear, &[-0.0, -0.0], &[0.0, 1.0]), 0.007),
         ("flattening one sinusoidal segment", wave, 0.001),
     ];

@@ -46,6 +46,17 @@ pub(crate) mod sealed {
 /// }
 /// # Ok::<(), Refusal>(())
 /// ```
+///
+/// A type of one's own cannot have it:
+///
+/// ```compile_fail,E0277
+/// struct Mine;
+/// impl guineaplume::Gradient for Mine {
+///     fn as_slices(&self) -> guineaplume::slices::Ramp<'_> {
+///         unimplemented!()
+///     }
+/// }
+/// ```
 pub trait Gradient: sealed::Sealed {
     /// The ramp as slices, for the calls of [`slices`](crate::slices).
     fn as_slices(&self) -> slices::Ramp<'_>;
