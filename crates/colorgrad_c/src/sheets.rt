@@ -6,6 +6,11 @@ use crate::plain::sheets::list_sort_of;
 use crate::plain::sheets::tell_sheet;
 use refusals::MISSHAPEN;
 use sheet::SheetAnswer;
+ghost use Rattle.colorgrad_c.specs.plain.Kinds.{rampBy};
+ghost use Rattle.colorgrad_c.specs.plain.Edits.{editOf};
+ghost use Rattle.colorgrad_c.specs.plain.Sheets.{sortOf};
+ghost use Rattle.colorgrad_c.specs.Lists.{lent};
+ghost use Rattle.colorgrad_c.specs.Sheets.{roomBy, CodedOpens, CodedEdits};
 
 // Tells how many stops the ramp has, how many the list, and the evaluations.
 #[no_mangle]
@@ -16,7 +21,7 @@ pub extern "C" fn colorgrad_sheet_open_told(
     codes: &[u8],
     stops: usize,
     threshold: f32,
-    list_sort: u32,
+    list: u32,
     hold: f32,
     rows: &mut [f32],
     counts: &mut [u8],
@@ -24,7 +29,9 @@ pub extern "C" fn colorgrad_sheet_open_told(
     places: &mut [f32],
     colours: &mut [f32],
     told: &mut [usize],
-) -> u32 {
+) -> u32
+    ensures { λ n. ⌜ CodedOpens stops threshold (sortOf list hold) (lent rows counts marks places colours told) (rampBy kind positions channels codes) n ⌝ }
+{
     let Coded::Of(known) = kinds::kind_of(kind) else {
         return tell_sheet(stops, SheetAnswer::Refused(MISSHAPEN), told);
     };
@@ -35,7 +42,7 @@ pub extern "C" fn colorgrad_sheet_open_told(
         codes,
         stops,
         threshold,
-        list_sort_of(list_sort, hold),
+        list_sort_of(list, hold),
         rows,
         counts,
         marks,
@@ -61,7 +68,7 @@ pub extern "C" fn colorgrad_sheet_edit_told(
     b: f32,
     a: f32,
     threshold: f32,
-    list_sort: u32,
+    list: u32,
     hold: f32,
     rows: &mut [f32],
     counts: &mut [u8],
@@ -69,7 +76,10 @@ pub extern "C" fn colorgrad_sheet_edit_told(
     places: &mut [f32],
     colours: &mut [f32],
     told: &mut [usize],
-) -> u32 {
+) -> u32
+    ensures { λ n. ⌜ CodedEdits stops threshold (sortOf list hold) (lent rows counts marks places colours told)
+        (roomBy kind positions channels codes) (editOf sort stop at r g b a) n ⌝ }
+{
     let Coded::Of(known) = kinds::kind_of(kind) else {
         return tell_sheet(stops, SheetAnswer::Refused(MISSHAPEN), told);
     };
@@ -82,7 +92,7 @@ pub extern "C" fn colorgrad_sheet_edit_told(
         stops,
         edit,
         threshold,
-        list_sort_of(list_sort, hold),
+        list_sort_of(list, hold),
         rows,
         counts,
         marks,

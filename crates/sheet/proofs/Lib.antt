@@ -1,0 +1,6 @@
+-- Laws that belong to no one function.
+pub mod Gaps
+pub mod Rooms
+pub mod Lists
+pub mod Opening
+pub mod Editing
