@@ -1,7 +1,7 @@
 /* Faults put round calls of the library, one for each number, to see that the fuzzed calls find them: `compare/fuzz faults`.
  * 1 reading leaves an output as it was, 2 the tool leaves a short output, 3 a row has something after its count, 4 a refresh
  * takes every cell for clear, 5 reading writes one byte past an output, 6 a list that keeps its word is the published one, 7 a
- * merged depth is told as kept. */
+ * merged depth is told as kept, 8 a sheet's edit is not made in its ramp. */
 #include "colorgrad.h"
 #include <stdlib.h>
 #include <string.h>
@@ -71,6 +71,24 @@ static ColorgradApart faulty_apart(RAMP, float threshold, float step, const floa
     return told;
 }
 #define colorgrad_apart faulty_apart
+#elif FAULT == 8
+static uint32_t faulty_sheet_edit(uint32_t kind, float *positions, size_t positions_length, float *channels,
+                                  size_t channels_length, const uint8_t *codes, size_t codes_length, size_t stops,
+                                  uint32_t sort, size_t stop, float position, float r, float g, float b, float a,
+                                  float threshold, uint32_t list_sort, float hold, RECORD, STOPS, size_t *told,
+                                  size_t told_length)
+{
+    float *was = malloc(channels_length * sizeof(float));
+    memcpy(was, channels, channels_length * sizeof(float));
+    uint32_t refusal = colorgrad_sheet_edit_told(LENT, stops, sort, stop, position, r, g, b, a, threshold, list_sort,
+                                                 hold, rows, rows_length, counts, counts_length, marks, marks_length,
+                                                 places, places_length, colours, colours_length, told, told_length);
+    if (sort == COLORGRAD_EDIT_COLOUR)
+        memcpy(channels, was, channels_length * sizeof(float));
+    free(was);
+    return refusal;
+}
+#define colorgrad_sheet_edit_told faulty_sheet_edit
 #elif FAULT == 4
 /* The record as it was. */
 static float *kept(const float *rows, size_t rows_length, const uint8_t *counts, size_t counts_length)

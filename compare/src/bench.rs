@@ -11,6 +11,7 @@ use crate::oracle::{self, Boxed, Record};
 use crate::ours;
 use crate::ramps::{Kind, Ramp, KINDS, MOST_SEGMENTS};
 use crate::random::Random;
+use crate::sheeting;
 use crate::typing;
 use crate::weighing;
 use std::hint::black_box;
@@ -35,7 +36,7 @@ pub fn run(options: &Options) {
     let unit = if count::output().is_some() { "instructions" } else { "ns" };
     println!("| call | beside | ours, {unit} | Rust, {unit} | ratio |");
     println!("|---|---|---|---|---|");
-    let tables: [(&str, fn(&mut Random)); 10] = [
+    let tables: [(&str, fn(&mut Random)); 11] = [
         ("root", roots),
         ("token", tokens),
         ("paint", paint),
@@ -46,6 +47,7 @@ pub fn run(options: &Options) {
         ("within", weighing::table),
         ("apart", weighing::depths),
         ("refresh", typing::table),
+        ("sheet", sheeting::table),
     ];
     for (name, table) in tables {
         if options.name.as_ref().is_none_or(|wanted| wanted == name) {

@@ -3,15 +3,15 @@
 mod apart;
 mod bench;
 // the exports, declared once in the repository; not all of them are compared here
-#[allow(dead_code)]
-#[path = "../../bindings/rust/src/calls.rs"]
-mod calls;
 mod clock;
 mod colours;
 mod count;
 mod counts;
 mod curves;
 mod edits;
+#[allow(dead_code)]
+#[path = "../../bindings/rust/src/ffi.rs"]
+mod ffi;
 mod files;
 mod gimp_texts;
 mod hues;
@@ -40,6 +40,8 @@ mod sample;
 mod sample_within;
 mod saved;
 mod sharp;
+mod sheeting;
+mod sheets;
 mod shown;
 mod sine;
 mod sine_lists;
@@ -50,6 +52,7 @@ mod texts;
 mod tokens;
 mod torn;
 mod typing;
+mod views;
 mod weighing;
 mod within;
 mod word;
@@ -62,13 +65,14 @@ use std::process::ExitCode;
 
 const USAGE: &str = "compare COMMAND [N] [--seed S] [--case I]
   roots tokens colours sine waves hues curves sharp texts saved counts torn lists refresh edits marks many promise steps numerals written judge within apart
+  sheets views
                      one comparison, of N inputs or at its full size
   all [PERCENT]      every comparison, at its full size or at that part of it
   differences        the smallest inputs of docs/DIFFERENCES.md, with the Rust's answers and ours
   gimp FOLDER [N]    N lists written there as .ggr files (200), for compare/gimp.py
   files FOLDER       the .ggr files in it, as compare/fetch gets them
   saved-files FOLDER the .ggr files in it by the rules for what GIMP saves, each whole and damaged
-  bench [TABLE]      times beside the Rust's: root token paint files read flatten growth within apart refresh
+  bench [TABLE]      times beside the Rust's: root token paint files read flatten growth within apart refresh sheet
   count [TABLE]      instructions in place of times, by valgrind's callgrind
   own [N] [FOLDER]   how many of our own lists are turned down, of N random ramps and of the .ggr files in FOLDER
   word [N] [FOLDER]  lists that keep their word beside the published ones, of N ramps of each sort (2,000) and of those files
@@ -105,6 +109,8 @@ const COMPARISONS: [Comparison; 24] = [
     ("judge", judge::run, 100_000),
     ("within", lists_within::run, 100_000),
     ("apart", lists_apart::run, 100_000),
+    ("sheets", sheets::run, 20_000),
+    ("views", views::run, 2_000_000),
 ];
 
 fn main() -> ExitCode {

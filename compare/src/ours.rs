@@ -1,10 +1,10 @@
 //! The library under test, over this package's own ramps and records.
 
 use crate::apart;
-use crate::calls;
+use crate::ffi;
 use crate::judge::Verdict;
 use crate::oracle::Record;
-use crate::ramps::Ramp;
+use crate::ramps::{Kind, Ramp};
 use crate::within::Asked;
 
 /// What a call tells is put over this.
@@ -13,7 +13,7 @@ const UNTOLD: usize = usize::MAX;
 /// A call over a ramp.
 macro_rules! over {
     ($ramp:expr, $call:ident($($more:expr),* $(,)?)) => {
-        calls::$call($ramp.kind.code(), &$ramp.positions, &$ramp.channels, &$ramp.codes, $($more),*)
+        ffi::$call($ramp.kind.code(), &$ramp.positions, &$ramp.channels, &$ramp.codes, $($more),*)
     };
 }
 
@@ -26,12 +26,12 @@ fn answer<T>(refusal: u32, value: T) -> Result<T, u32> {
 }
 
 pub fn root(x: f32) -> f32 {
-    calls::root(x)
+    ffi::root(x)
 }
 
 pub fn token(text: &[u8]) -> Option<f32> {
     let mut value = [f32::NAN];
-    match calls::token(text, &mut value) {
+    match ffi::token(text, &mut value) {
         0 => None,
         1 => Some(value[0]),
         other => panic!("no such answer: {other}"),
@@ -40,13 +40,13 @@ pub fn token(text: &[u8]) -> Option<f32> {
 
 /// How long the number's text is; it is written where there is room.
 pub fn numeral(x: f32, out: &mut [u8]) -> usize {
-    calls::numeral(x, out)
+    ffi::numeral(x, out)
 }
 
 /// How many bytes were written.
 pub fn write_ggr(positions: &[f32], channels: &[f32], text: &mut [u8]) -> Result<usize, u32> {
     let mut told = [UNTOLD];
-    let refusal = calls::write_ggr(positions, channels, text, &mut told);
+    let refusal = ffi::write_ggr(positions, channels, text, &mut told);
     answer(refusal, told[0])
 }
 
@@ -70,7 +70,7 @@ pub fn build_sharp(
     channels: &mut [f32],
 ) -> Result<usize, u32> {
     let mut told = [UNTOLD];
-    let refusal = calls::sharp(colours, min, max, softness, positions, channels, &mut told);
+    let refusal = ffi::sharp(colours, min, max, softness, positions, channels, &mut told);
     answer(refusal, told[0])
 }
 
@@ -84,16 +84,16 @@ pub fn read(
 ) -> Result<usize, (u32, usize)> {
     let mut told = [UNTOLD; 2];
     let ([r, g, b, a], [s, h, c, o]) = (foreground, background);
-    let refusal = calls::read(text, r, g, b, a, s, h, c, o, positions, channels, codes, &mut told);
+    let refusal = ffi::read(text, r, g, b, a, s, h, c, o, positions, channels, codes, &mut told);
     let [line, segments] = told;
     answer(refusal, segments).map_err(|number| (number, line))
 }
 
 /// The name; an output that is too short must stay as it is.
 pub fn name(text: &[u8]) -> Vec<u8> {
-    let length = calls::name(text, &mut []);
+    let length = ffi::name(text, &mut []);
     let mut out = vec![0; length];
-    assert_eq!(length, calls::name(text, &mut out), "one text has one name");
+    assert_eq!(length, ffi::name(text, &mut out), "one text has one name");
     out
 }
 
@@ -107,15 +107,15 @@ pub fn read_saved(
 ) -> Result<usize, (u32, usize)> {
     let mut told = [UNTOLD; 2];
     let ([r, g, b, a], [s, h, c, o]) = (foreground, background);
-    let refusal = calls::read_saved(text, r, g, b, a, s, h, c, o, positions, channels, codes, &mut told);
+    let refusal = ffi::read_saved(text, r, g, b, a, s, h, c, o, positions, channels, codes, &mut told);
     let [line, segments] = told;
     answer(refusal, segments).map_err(|number| (number, line))
 }
 
 pub fn name_saved(text: &[u8]) -> Vec<u8> {
-    let length = calls::name_saved(text, &mut []);
+    let length = ffi::name_saved(text, &mut []);
     let mut out = vec![0; length];
-    assert_eq!(length, calls::name_saved(text, &mut out), "one text has one name");
+    assert_eq!(length, ffi::name_saved(text, &mut out), "one text has one name");
     out
 }
 
@@ -150,7 +150,7 @@ pub fn flatten(ramp: &Ramp, threshold: f32, record: &mut Record, places: &mut [f
 
 /// The hold in force.
 pub fn hold(asked: Asked) -> f32 {
-    calls::hold(asked.hold, asked.threshold)
+    ffi::hold(asked.hold, asked.threshold)
 }
 
 pub fn thin_within(ramp: &Ramp, asked: Asked, record: &Record, places: &mut [f32], colours: &mut [f32]) -> Listed {
@@ -268,6 +268,86 @@ pub fn refresh_list(
     colours: &mut [f32],
 ) -> Listed {
     edit_list(ramp, &edit.sorted(), threshold, record, places, colours)
+}
+
+/// A sheet as it is lent: a ramp with room, of which so many stops count (of a GIMP ramp segments), its record and its list.
+#[derive(Clone, Debug)]
+pub struct Sheet {
+    pub ramp: Ramp,
+    pub stops: usize,
+    pub threshold: f32,
+    /// Of a list that keeps its word.
+    pub hold: Option<f32>,
+    pub record: Record,
+    pub places: Vec<f32>,
+    pub colours: Vec<f32>,
+}
+
+impl Sheet {
+    /// How many positions and channels are the ramp's own.
+    pub fn lengths(&self) -> (usize, usize) {
+        match self.ramp.kind {
+            Kind::Gimp => (3 * self.stops, 8 * self.stops),
+            _ => (self.stops, 4 * self.stops),
+        }
+    }
+
+    /// The ramp without its room.
+    pub fn own(&self) -> Ramp {
+        let (positions, channels) = self.lengths();
+        let start = |list: &[f32], n: usize| list[..n].to_vec();
+        let (positions, channels) = (start(&self.ramp.positions, positions), start(&self.ramp.channels, channels));
+        Ramp { kind: self.ramp.kind, positions, channels, codes: self.ramp.codes.clone() }
+    }
+
+    /// The number of its sort of list, and the hold.
+    fn sort(&self) -> (u32, f32) {
+        self.hold.map_or((0, f32::NAN), |hold| (1, hold))
+    }
+}
+
+/// 0 or the refusal; and what is told: stops of the ramp, stops of the list, evaluations.
+pub fn sheet_open(sheet: &mut Sheet) -> (u32, [usize; 3]) {
+    let (sort, hold) = sheet.sort();
+    let Sheet { ramp, stops, threshold, record: Record { rows, counts, marks }, places, colours, .. } = sheet;
+    let mut told = [UNTOLD; 3];
+    let refusal =
+        over!(ramp, sheet_open(*stops, *threshold, sort, hold, rows, counts, marks, places, colours, &mut told));
+    (refusal, told)
+}
+
+/// The same; the stops are then those that are told.
+pub fn sheet_edit(sheet: &mut Sheet, edit: &Sorted) -> (u32, [usize; 3]) {
+    let (list_sort, hold) = sheet.sort();
+    let Sheet { ramp, stops, threshold, record: Record { rows, counts, marks }, places, colours, .. } = sheet;
+    let Ramp { kind, positions, channels, codes } = ramp;
+    let Sorted { sort, stop, position, colour: [r, g, b, a] } = *edit;
+    let mut told = [UNTOLD; 3];
+    let refusal = ffi::sheet_edit(
+        kind.code(),
+        positions,
+        channels,
+        codes,
+        *stops,
+        sort,
+        stop,
+        position,
+        r,
+        g,
+        b,
+        a,
+        *threshold,
+        list_sort,
+        hold,
+        rows,
+        counts,
+        marks,
+        places,
+        colours,
+        &mut told,
+    );
+    *stops = told[0];
+    (refusal, told)
 }
 
 /// 0 or the refusal; and what is told: how many moved, are close, are merged, and the first merged one.

@@ -4,7 +4,7 @@ import unittest
 
 import guineaplume
 import header
-from guineaplume import Edit, List, Ramp, Reason, _library
+from guineaplume import Edit, List, Ramp, Reason, Sheet, _library
 
 RAMP = Ramp.linear([0, 0.5, 1], ['#000', '#c00', '#fff'])
 RECORD = RAMP.sample()
@@ -33,6 +33,8 @@ REACHED_BY = {
     'colorgrad_apart_told': lambda: RAMP.apart(LIST),
     'colorgrad_edit_told': lambda: RAMP.refresh(RECORD.copy(), Edit.move(1, 0.25)),
     'colorgrad_edit_list_told': lambda: RAMP.refresh_list(RECORD.copy(), Edit.remove(1)),
+    'colorgrad_sheet_open_told': lambda: Sheet(RAMP),
+    'colorgrad_sheet_edit_told': lambda: Sheet(RAMP).edit(Edit.remove(1)),
     'colorgrad_desk': lambda: guineaplume.desk(b'kind\tlinear\n'),
     'colorgrad_threshold': lambda: guineaplume.threshold(0.01),
     'colorgrad_hold': lambda: guineaplume.hold(0.002, 0.007),

@@ -1,6 +1,6 @@
 //! GIMP segments that are curved: ramps of kind 6 carry them, those of kind 5 do not.
 
-use guineaplume::lent::{Kind, Ramp};
+use guineaplume::slices::{Kind, Ramp};
 use guineaplume::{Color, Refusal};
 
 const BLACK_TO_WHITE: [f32; 8] = [0.0, 0.0, 0.0, 1.0, 1.0, 1.0, 1.0, 1.0];

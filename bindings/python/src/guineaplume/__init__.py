@@ -28,6 +28,7 @@ from .lists import List
 from .ramp import Kind, Ramp
 from .record import Record
 from .refusal import Reason, Refusal, Unread
+from .sheet import Sheet
 from .verdict import Judged, Verdict
 
 __version__ = VERSION
@@ -48,6 +49,7 @@ __all__ = [
     'Reason',
     'Record',
     'Refusal',
+    'Sheet',
     'Sort',
     'Unread',
     'Verdict',

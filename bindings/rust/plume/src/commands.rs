@@ -12,7 +12,7 @@ use crate::report;
 use crate::sheet::Way;
 use crate::show;
 use crate::write::{Format, Piece};
-use guineaplume::lent::Kind;
+use guineaplume::slices::Kind;
 
 /// Does something to each file; a bad one does not stop the others. The answer is the highest status.
 fn each(files: &[String], bytes: bool, mut act: impl FnMut(&Source) -> Answer<u8>) -> Answer<u8> {

@@ -1,6 +1,6 @@
-//! The exports of the library, each declared once, as include/colorgrad_calls.h has them, and a safe call for it under its
-//! name without `colorgrad_` and `_told`. A slice goes over as its pointer and its length. The only unsafe code of this crate
-//! is here.
+//! The exports of the library, each declared once, as `include/colorgrad_calls.h` has them, and a safe call for it under
+//! its name without `colorgrad_` and `_told`. A slice goes over as its pointer and its length. The unsafe code of this
+//! crate is here, but for one view of colours as their channels.
 
 const _: () = assert!(usize::BITS == 64, "the library's lengths have 64 bits");
 
@@ -14,11 +14,13 @@ macro_rules! exports {
 /// Takes one parameter after the other: what is declared of it, what the call takes, and what it hands over.
 macro_rules! export {
     ($call:ident $export:ident $answer:ty; [$(,)?] [$($declared:tt)*] [$($taken:tt)*] [$($handed:tt)*]) => {
-        #[allow(clippy::too_many_arguments)]
+        #[allow(clippy::too_many_arguments, clippy::many_single_char_names)]
         pub fn $call($($taken)*) -> $answer {
             extern "C" {
                 fn $export($($declared)*) -> $answer;
             }
+            #[cfg(all(test, feature = "std"))]
+            crate::reached::note(stringify!($export));
             // SAFETY: each pointer and length is a slice's own, exclusive where it is written, and alive until the call
             // returns; the library is proved to touch nothing else, for any contents and lengths.
             unsafe { $export($($handed)*) }

@@ -1,10 +1,11 @@
-//! Every call on lent slices: nothing is allocated, and the caller says where answers go.
+//! Every call on the caller's own slices: nothing is allocated, and the caller says where answers go. The module needs
+//! neither `std` nor `alloc`.
 //!
 //! No call needs a check before it. Slices may be empty or too short, lengths may disagree, numbers may be anything: what
 //! cannot be used is refused. What a refusal leaves in a lent output is said at each call.
 //!
 //! ```
-//! use guineaplume::lent::{Kind, Ramp};
+//! use guineaplume::slices::{Kind, Ramp};
 //! use guineaplume::Refusal;
 //!
 //! let ramp = Ramp { kind: Kind::Linear, positions: &[0.0, 1.0], channels: &[0., 0., 0., 1., 1., 1., 1., 1.], codes: &[] };
@@ -17,9 +18,13 @@
 //! # Ok::<(), Refusal>(())
 //! ```
 
-use crate::calls;
+use crate::ffi;
 use crate::{Color, Edit, ParseGgrError, Refusal, Verdict};
 
+pub use crate::sheets::{Sheet, Sheeted};
+
+/// The threshold that stands for one that is not finite: what to ask for where nothing speaks for another.
+pub const DEFAULT_THRESHOLD: f32 = 0.007;
 /// How many stops a ramp may have.
 pub const MOST_STOPS: usize = 2048;
 /// How many segments a GIMP ramp may have.
@@ -143,14 +148,14 @@ pub struct Apart {
 pub(crate) fn answer<T>(number: u32, value: T) -> Result<T, Refusal> {
     match number {
         0 => Ok(value),
-        _ => Err(Refusal::from_number(number).expect("every refusal has a number")),
+        _ => Err(Refusal::from_number(number).expect("every number that is answered is a refusal's")),
     }
 }
 
 /// Calls the library with a ramp's four arguments before the others.
 macro_rules! with_ramp {
     ($call:ident, $ramp:expr $(, $argument:expr)*) => {
-        $crate::calls::$call($ramp.kind as u32, $ramp.positions, $ramp.channels, $ramp.codes $(, $argument)*)
+        $crate::ffi::$call($ramp.kind as u32, $ramp.positions, $ramp.channels, $ramp.codes $(, $argument)*)
     };
 }
 pub(crate) use with_ramp;
@@ -161,32 +166,46 @@ fn listed(refusal: u32, [stops, evaluations]: [usize; 2]) -> Result<Listed, Refu
 }
 
 impl Ramp<'_> {
-    /// Whether other calls take the ramp: refusals 1, 2, 3.
+    /// Whether other calls take the ramp.
+    ///
+    /// # Errors
+    /// 1, 2, 3.
     pub fn check(&self) -> Result<(), Refusal> {
         answer(with_ramp!(check, self), ())
     }
 
-    /// The ends of the domain; 0 and 1 for GIMP segments. Refusals 1, 2, 3.
+    /// The ends of the domain; 0 and 1 for GIMP segments.
+    ///
+    /// # Errors
+    /// 1, 2, 3.
     pub fn domain(&self) -> Result<(f32, f32), Refusal> {
         let mut ends = [0.0; 2];
         let refusal = with_ramp!(domain, self, &mut ends);
         answer(refusal, (ends[0], ends[1]))
     }
 
-    /// The colour at t. Refusals 1, 2, 3.
+    /// The colour at t.
+    ///
+    /// # Errors
+    /// 1, 2, 3.
     pub fn at(&self, t: f32) -> Result<Color, Refusal> {
         let mut channels = [0.0; 4];
         let refusal = with_ramp!(at, self, t, &mut channels);
         answer(refusal, channels.into())
     }
 
-    /// Writes the colours at `ts`, four channels each; what lies past them stays. Refusals 1, 2, 3 leave `out` as it was,
-    /// 7 sets it to zero.
+    /// Writes the colours at `ts`, four channels each; what lies past them stays.
+    ///
+    /// # Errors
+    /// 1, 2, 3 leave `out` as it was; 7 sets it to zero.
     pub fn paint(&self, ts: &[f32], out: &mut [f32]) -> Result<(), Refusal> {
         answer(with_ramp!(paint, self, ts, out), ())
     }
 
-    /// Fills a record, whatever was in it: the evaluations. Refusals 1 to 5 leave it as it was.
+    /// Fills a record, whatever was in it: the evaluations.
+    ///
+    /// # Errors
+    /// 1 to 5 leave it as it was.
     pub fn sample(&self, threshold: f32, record: RecordMut<'_>) -> Result<usize, Refusal> {
         let RecordMut { rows, counts, marks } = record;
         let mut told = [0];
@@ -194,7 +213,10 @@ impl Ramp<'_> {
         answer(refusal, told[0])
     }
 
-    /// Makes the list of a record. Refusals 1 to 5 and 20 leave `out` as it was, 7, 8, 9 set it to zero.
+    /// Makes the list of a record.
+    ///
+    /// # Errors
+    /// 1 to 5 and 20 leave `out` as it was; 7, 8, 9 set it to zero.
     pub fn thin(&self, threshold: f32, record: Record<'_>, out: StopsMut<'_>) -> Result<Listed, Refusal> {
         let Record { rows, counts, marks } = record;
         let StopsMut { positions, channels } = out;
@@ -203,9 +225,12 @@ impl Ramp<'_> {
         listed(refusal, told)
     }
 
-    /// Fills a record and makes its list. Refusals 1 to 5 change nothing; after 7, 8, 9 the record is filled and `out` is
-    /// zero. With room for [`MOST_POINTS`] there is no 7; 9 is never given; 8 is not for linear ramps with channels below
-    /// 2^127 in size, nor for smoothstep and sharp ones with channels up to a sixth of `f32::MAX`.
+    /// Fills a record and makes its list.
+    ///
+    /// # Errors
+    /// 1 to 5 change nothing; after 7, 8, 9 the record is filled and `out` is zero. With room for [`MOST_POINTS`] there is no
+    /// 7; 9 is never given; 8 is not for linear ramps with channels below 2^127 in size, nor for smoothstep and sharp ones
+    /// with channels up to a sixth of `f32::MAX`.
     pub fn flatten(&self, threshold: f32, record: RecordMut<'_>, out: StopsMut<'_>) -> Result<Listed, Refusal> {
         let RecordMut { rows, counts, marks } = record;
         let StopsMut { positions, channels } = out;
@@ -214,8 +239,10 @@ impl Ramp<'_> {
         listed(refusal, told)
     }
 
-    /// Makes a list of a record that keeps its word ([`Gradient::thin_within`](crate::Gradient::thin_within)). Refusals 1 to 5
-    /// and 20 leave `out` as it was; 7, also of more than [`MOST_POINTS`] stops, 8 and 21 set it to zero.
+    /// Makes a list of a record that keeps its word: at the ramp's own positions it is within the hold of the ramp.
+    ///
+    /// # Errors
+    /// 1 to 5 and 20 leave `out` as it was; 7, also of more than [`MOST_POINTS`] stops, 8 and 21 set it to zero.
     pub fn thin_within(
         &self,
         threshold: f32,
@@ -231,8 +258,10 @@ impl Ramp<'_> {
         listed(refusal, told)
     }
 
-    /// Fills a record and makes its list that keeps its word. Refusals 1 to 5 change nothing; after 7, 8, 21 the record is
-    /// filled and `out` is zero.
+    /// Fills a record and makes its list that keeps its word.
+    ///
+    /// # Errors
+    /// 1 to 5 change nothing; after 7, 8, 21 the record is filled and `out` is zero.
     pub fn flatten_within(
         &self,
         threshold: f32,
@@ -248,9 +277,12 @@ impl Ramp<'_> {
         listed(refusal, told)
     }
 
-    /// Refreshes the record of this ramp for an edit: it then equals the record of the changed ramp. The evaluations; refusals
-    /// 1 to 6 and 20 leave it as it was. After 20 come, of the edit, 6 (another kind of ramp, no such stop, a number that is not
-    /// finite), 1 (a stop too many) and 3 (a position out of order).
+    /// Refreshes the record of this ramp for an edit, and says with how many evaluations: it then equals the record of the
+    /// changed ramp. The edit itself is the caller's to make.
+    ///
+    /// # Errors
+    /// 1 to 6 and 20 leave it as it was. After 20 come, of the edit, 6 (another kind of ramp, no such stop, a number that is
+    /// not finite), 1 (a stop too many) and 3 (a position out of order).
     pub fn refresh(&self, edit: Edit, threshold: f32, record: RecordMut<'_>) -> Result<usize, Refusal> {
         let RecordMut { rows, counts, marks } = record;
         let (sort, stop, position, Color { r, g, b, a }) = edit.parts();
@@ -260,8 +292,10 @@ impl Ramp<'_> {
         answer(refusal, told[0])
     }
 
-    /// Refreshes a record and makes the list of the changed ramp. Refusals 1 to 6 and 20 change nothing; after 7, 8, 9 the record
-    /// is refreshed and `out` is zero.
+    /// Refreshes a record and makes the list of the changed ramp.
+    ///
+    /// # Errors
+    /// 1 to 6 and 20 change nothing; after 7, 8, 9 the record is refreshed and `out` is zero.
     pub fn refresh_list(
         &self,
         edit: Edit,
@@ -281,7 +315,10 @@ impl Ramp<'_> {
     }
 
     /// What is to be said of a list of stops, one position and four channels each, that was made elsewhere. Lengths that
-    /// disagree are a wrong length. Refused with 1 to 4, of the ramp alone.
+    /// disagree are a wrong length.
+    ///
+    /// # Errors
+    /// 1 to 4, of the ramp alone.
     pub fn judge(&self, threshold: f32, positions: &[f32], channels: &[f32]) -> Result<Verdict, Refusal> {
         let (mut told, mut t) = ([0; 4], [0.0]);
         let refusal = with_ramp!(judge, self, threshold, positions, channels, &mut told, &mut t);
@@ -290,9 +327,12 @@ impl Ramp<'_> {
 
     /// Which depths became one in a list of stops, one position and four channels each, whoever made it: a byte for each depth
     /// is written, the sum of [`MOVED`], [`CLOSE`] and [`MERGED`]; what lies past them stays. Two colours are told apart where
-    /// they differ by more than the step. Refused with 1 to 4 of the ramp, 22 where [`judge`](Ramp::judge) would turn the list
-    /// down before it asks for colours, 23 of the depths, 24 of the step, all of which leave `faults` as it was; and with 7
-    /// where there are fewer bytes than depths, which sets it to zero.
+    /// they differ by more than the step.
+    ///
+    /// # Errors
+    /// 1 to 4 of the ramp, 22 where [`judge`](Ramp::judge) would turn the list down before it asks for colours, 23 of the
+    /// depths, 24 of the step: all of these leave `faults` as it was. 7, where there are fewer bytes than depths, sets it to
+    /// zero.
     pub fn apart(
         &self,
         threshold: f32,
@@ -310,13 +350,15 @@ impl Ramp<'_> {
     }
 }
 
-/// Builds a sharp ramp of colours, four channels each: how many stops, two for each colour. Refusals 17, 1 (room too
-/// small) and 2 leave `out` as it was.
+/// Builds a sharp ramp of colours, four channels each: how many stops, two for each colour.
+///
+/// # Errors
+/// 17, 1 (room too small) and 2 leave `out` as it was.
 pub fn sharp(colors: &[f32], domain: (f32, f32), softness: f32, out: StopsMut<'_>) -> Result<usize, Refusal> {
     let StopsMut { positions, channels } = out;
     let (min, max) = domain;
     let mut told = [0];
-    let refusal = calls::sharp(colors, min, max, softness, positions, channels, &mut told);
+    let refusal = ffi::sharp(colors, min, max, softness, positions, channels, &mut told);
     answer(refusal, told[0])
 }
 
@@ -335,18 +377,24 @@ fn segments_of(refusal: u32, [line, segments]: [usize; 2]) -> Result<usize, Pars
     answer(refusal, segments).map_err(|refusal| ParseGgrError { refusal, line })
 }
 
-/// Reads a GIMP text by document 01's rules: how many segments. Any refusal (2, 10 to 16, 18) sets all of `out` to zero.
+/// Reads a GIMP text by document 01's rules: how many segments.
+///
+/// # Errors
+/// Any of 2, 10 to 16, 18, with its line; it sets all of `out` to zero.
 pub fn read(text: &[u8], foreground: Color, background: Color, out: SegmentsMut<'_>) -> Result<usize, ParseGgrError> {
     let SegmentsMut { positions, channels, codes } = out;
     let Color { r, g, b, a } = foreground;
     let Color { r: br, g: bg, b: bb, a: ba } = background;
     let mut told = [0; 2];
-    let refusal = calls::read(text, r, g, b, a, br, bg, bb, ba, positions, channels, codes, &mut told);
+    let refusal = ffi::read(text, r, g, b, a, br, bg, bb, ba, positions, channels, codes, &mut told);
     segments_of(refusal, told)
 }
 
 /// Reads a GIMP text as GIMP itself saves it: its numbers may be long, its name in UTF-8, its segments curved. What [`read`]
-/// reads is read the same. Any refusal (2, 10 to 16, 18) sets all of `out` to zero.
+/// reads is read the same.
+///
+/// # Errors
+/// Any of 2, 10 to 16, 18, with its line; it sets all of `out` to zero.
 pub fn read_saved(
     text: &[u8],
     foreground: Color,
@@ -357,76 +405,87 @@ pub fn read_saved(
     let Color { r, g, b, a } = foreground;
     let Color { r: br, g: bg, b: bb, a: ba } = background;
     let mut told = [0; 2];
-    let refusal = calls::read_saved(text, r, g, b, a, br, bg, bb, ba, positions, channels, codes, &mut told);
+    let refusal = ffi::read_saved(text, r, g, b, a, br, bg, bb, ba, positions, channels, codes, &mut told);
     segments_of(refusal, told)
 }
 
 /// How long the name in a GIMP text is. Its bytes are written where `out` holds them all, else it stays as it was. 0 where
 /// the text would be refused with room for 256 segments.
 pub fn name(text: &[u8], out: &mut [u8]) -> usize {
-    calls::name(text, out)
+    ffi::name(text, out)
 }
 
 /// The same of a text that [`read_saved`] reads; it is UTF-8.
+#[must_use]
 pub fn name_saved(text: &[u8], out: &mut [u8]) -> usize {
-    calls::name_saved(text, out)
+    ffi::name_saved(text, out)
 }
 
 /// Bytes that are enough for a GIMP text of so many stops: with this room, 7 is never given.
+#[must_use]
 pub const fn written_bytes(stops: usize) -> usize {
     34 + 213 * stops.saturating_sub(1)
 }
 
 /// Writes a list, n positions and 4n channels, as a GIMP text named `flattened`, and says how many bytes it has; what lies
-/// past them stays. Refused with 1 (fewer than 2 stops, more than [`MOST_WRITTEN`], or lengths that disagree) or 3: `text`
-/// stays as it was; with 19 or 7: all of it is set to zero.
+/// past them stays.
+///
+/// # Errors
+/// 1 (fewer than 2 stops, more than [`MOST_WRITTEN`], or lengths that disagree) and 3 leave `text` as it was; 19 and 7 set all
+/// of it to zero.
 pub fn write_ggr(positions: &[f32], channels: &[f32], text: &mut [u8]) -> Result<usize, Refusal> {
     let mut told = [0];
-    let refusal = calls::write_ggr(positions, channels, text, &mut told);
+    let refusal = ffi::write_ggr(positions, channels, text, &mut told);
     answer(refusal, told[0])
 }
 
 /// How long the text of a number is in a GIMP text, 0 where it cannot be written. Its bytes are written where `out` holds
 /// them all, else it stays as it was; [`MOST_NUMERAL`] always suffice.
 pub fn numeral(x: f32, out: &mut [u8]) -> usize {
-    calls::numeral(x, out)
+    ffi::numeral(x, out)
 }
 
 /// How many bytes the tool `flatten` prints for an input. They are written where `output` holds them all, else it is set to
 /// zero. [`MOST_PRINTED`] bytes always suffice.
 pub fn desk(input: &[u8], output: &mut [u8]) -> usize {
-    calls::desk(input, output)
+    ffi::desk(input, output)
 }
 
 /// The number that the bytes are: a sign or none, digits with a point or none, 1 to 18 of them.
+#[must_use]
 pub fn token(text: &[u8]) -> Option<f32> {
     let mut value = [0.0];
-    let is_number = calls::token(text, &mut value) != 0;
+    let is_number = ffi::token(text, &mut value) != 0;
     is_number.then_some(value[0])
 }
 
 /// The threshold that calls take where this one is asked for: 0.001 to 0.035, and 0.007 for one that is not finite.
+#[must_use]
 pub fn threshold(asked: f32) -> f32 {
-    calls::threshold(asked)
+    ffi::threshold(asked)
 }
 
 /// The hold that lists which keep their word take where this one and this threshold are asked for: 0.001 to the threshold in
 /// force, and 0.001 for one that is not finite.
+#[must_use]
 pub fn hold(asked: f32, threshold: f32) -> f32 {
-    calls::hold(asked, threshold)
+    ffi::hold(asked, threshold)
 }
 
 /// The correctly rounded square root of any number.
+#[must_use]
 pub fn root(x: f32) -> f32 {
-    calls::root(x)
+    ffi::root(x)
 }
 
 /// The number such that, for every s, half the root of s is above t exactly when s is above it.
+#[must_use]
 pub fn cutoff(t: f32) -> f32 {
-    calls::cutoff(t)
+    ffi::cutoff(t)
 }
 
 /// The version of the library that is linked, 1000 * (1000 * major + minor) + patch: this crate's own.
+#[must_use]
 pub fn version() -> u32 {
-    calls::version()
+    ffi::version()
 }
