@@ -284,7 +284,7 @@ fn gimp_texts_as_gimp_saves_them() {
     assert_eq!(long, same);
     let curved = read(&good.replace("0 0\n", "1 0\n")).expect("a curved segment");
     assert_eq!((curved.at(0.5).r, curved.lent().kind), (0.5, Kind::GimpSaved));
-    assert_eq!(strict(&good.replace("0 0.5", "0 5e-1")), Err(ParseGgrError { refusal: Refusal::BadSegment, line: 4 }));
+    assert_eq!(strict(&good.replace("0 0.5", "0 5e-1")).map_err(blamed), Err((Refusal::BadSegment, 4)));
     let cases = [
         (good.replace("\n1\n", "\n1\u{e9}\n"), Refusal::NotAText, 0),
         (good.replace("1 1 1 1", "1 1 1 \u{e9}"), Refusal::NotAText, 0),
@@ -294,7 +294,7 @@ fn gimp_texts_as_gimp_saves_them() {
         (good.replace("0 0.5 1 0", "0 1.5 1 0").replace("0 0\n", "1 0\n"), Refusal::NotCarried, 4),
     ];
     for (text, refusal, line) in cases {
-        assert_eq!(read(&text), Err(ParseGgrError { refusal, line }), "{text}");
+        assert_eq!(read(&text).map_err(blamed), Err((refusal, line)), "{text}");
     }
     assert_eq!(slices::name_saved(good.as_bytes(), &mut []), 1);
 }
