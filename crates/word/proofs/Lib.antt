@@ -32,3 +32,4 @@ pub mod MixSteps
 pub mod MixLine
 pub mod Straight
 pub mod StraightPair
+pub mod StraightRamp

@@ -21,7 +21,7 @@ large : 2 ^ 24 ≤ 2 ^ 149
 large = lit≤ tt
 
 module _ (p q t b c : Float) (wp : Clear p) (wq : Clear q) (wt : Clear t) (wb : Clear b) (wc : Clear c) (pt : T (le p t)) (tq : T (le t q)) (unit : Clear (mixAt p q b c t)) where
-  line-at : (a r : ℕ) → count p + a ≡ count t → count t + r ≡ count q → 0 < a + r → Line (count (mixAt p q b c t)) (count b) (count c) a r (2 ^ 149)
+  pub line-at : (a r : ℕ) → count p + a ≡ count t → count t + r ≡ count q → 0 < a + r → Line (count (mixAt p q b c t)) (count b) (count c) a r (2 ^ 149)
   line-at a r first last some = mixed-line _ _ _ a r (2 ^ 149) (mixed-at p q t b c wp wq wt wb wc pt tq a r first last some unit) some large (one-most b wb) (one-most c wc)
 
 -- at the end stands c itself, or the mix there

@@ -40,7 +40,7 @@ module _ (p q t : Float) (wp : Clear p) (wq : Clear q) (wt : Clear t) (pt : T (l
       left : (m n o s r : ℕ) → m + s ≡ n → n + r ≡ o → m < o → 0 < s + r
       left m n o s r e f h = omega arith
 
-  mix-clear : (b c : Float) → Clear b → Clear c → Clear (mixAt p q b c t)
+  pub mix-clear : (b c : Float) → Clear b → Clear c → Clear (mixAt p q b c t)
   mix-clear b c wb wc =
       let s = (t ⊖ p) ⊘ (q ⊖ p) in
       let fb = clear-finite b wb in
