@@ -33,3 +33,4 @@ pub mod MixLine
 pub mod Straight
 pub mod StraightPair
 pub mod StraightRamp
+pub mod LentSites
