@@ -85,7 +85,7 @@ left-sampled t xs k h = h
 left-more : (o : Site) (xs os : List Site) → lentLeft xs ≤ lentLeft os → lentLeft xs ≤ lentLeft (o ∷ os)
 left-more o xs os h = omega (arith, h, left-tail o os)
 
-left-merged : (max : Float) (n : ℕ) (last : Float) (ts : List Float) (os : List Site) → lentLeft (merged max n last ts os) ≤ lentLeft os
+pub left-merged : (max : Float) (n : ℕ) (last : Float) (ts : List Float) (os : List Site) → lentLeft (merged max n last ts os) ≤ lentLeft os
 unfolding merged
 left-merged max zero last ts os = unfold lentLeft in left-some os
 left-merged max (suc n) last [] [] = omega arith

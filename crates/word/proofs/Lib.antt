@@ -34,3 +34,5 @@ pub mod Straight
 pub mod StraightPair
 pub mod StraightRamp
 pub mod LentSites
+pub mod LinearSteps
+pub mod FewEnough
