@@ -1,4 +1,4 @@
--- An ordinary ramp's list fits 4,609 stops: so, with room for as many, it is never refused. Of any points of f32, and of the calls. Assumes nothing.
+-- An ordinary ramp's list fits 4,609 stops: so, with room for as many, it is never refused. Of any points of f32. Assumes nothing.
 use mathlib.Core.Path.{_≡_, refl, sym, ap, _∙_, subst}
 use mathlib.Core.Bool.{Bool, true, false, cond, _&&_, true≢false}
 use mathlib.Core.List.{List, [], _∷_}
@@ -15,9 +15,8 @@ use Rattle.refusals.specs.Limits.{mostStops}
 use Rattle.float.specs.F32.{f0, f1}
 use Rattle.float.proofs.Order.{le-refl, no-nan-l, le-lt-trans, lt-le-trans, lt→le, eq→le, eq→ge}
 use Rattle.blend.specs.declared.Rgba.{Rgba}
-use Rattle.stops.specs.Lent.{Ramp, Change}
-use Rattle.stops.specs.Stops.{posAt, finiteRgba}
-use Rattle.stops.specs.declared.Checked.the-variants as checked
+use Rattle.stops.specs.Lent.{Ramp}
+use Rattle.stops.specs.Stops.{finiteRgba}
 use Rattle.stops.proofs.Valid.{Valid}
 use Rattle.gradient.specs.Ramp.{minOf, maxOf, colourOf}
 use Rattle.gradient.proofs.Valid.{valid}
@@ -32,6 +31,7 @@ use Rattle.weighed.proofs.Merging.{Each, rises}
 use Rattle.within.specs.Shown.{nearWithin, lentLeft}
 use Rattle.within.specs.Kept.{Kept, keptFrom, keptAll, keptRefusal, keptRefusals}
 use Rattle.within.specs.Lists.{holdOf, keptOf, refusalWithin}
+use Rattle.word.specs.Word.{LastAlone}
 use Rattle.word.proofs.Singles.{Every, Single, each-own, each-merged, own-single}
 use Rattle.word.proofs.Values.{min-single}
 use Rattle.word.proofs.CheckNumbers.{first-other}
@@ -39,7 +39,6 @@ use Rattle.word.proofs.TameRamps.{ordinary-tame}
 use Rattle.word.proofs.OnlyRoom.{only-room}
 use Rattle.word.proofs.FewStops.{isLent, left-merged, left-own, few-kept}
 use Rattle.word.proofs.LentSites.{position-found}
-use Rattle.word.proofs.StraightRamp.{first-is-min, last-is-max}
 use Rattle.word.proofs.LinearSteps.{OwnAt, State, Free, on, free, straight}
 
 -- ---- 7 comes only past the room
@@ -64,7 +63,7 @@ kept-room g room n (k ∷ ks) l h =
     (first-other noRoom (stopRefusal room n (k .t) (k .t) (g (k .t))) (cond (k .shown) 0 notShown) (stop-room room n (k .t) (g (k .t)) (omega arith)) (shown-room (k .shown)))
     (kept-room g room (n + 1) ks (omega arith)) h
 
-module _ (ramp : Ramp) (o : Ordinary ramp) (settled : T (lt (posAt (ramp .positions) (length (ramp .positions) - 2)) (posAt (ramp .positions) (length (ramp .positions) - 1)))) (asked hold : Float)
+module _ (ramp : Ramp) (o : Ordinary ramp) (settled : LastAlone ramp) (asked hold : Float)
     (ts : List Float) (points : Every Single ts) where
   abbrev ps : List Float
   ps = ramp .positions

@@ -36,3 +36,4 @@ pub mod StraightRamp
 pub mod LentSites
 pub mod LinearSteps
 pub mod FewEnough
+pub mod NeverRefused

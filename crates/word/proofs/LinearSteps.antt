@@ -35,6 +35,7 @@ use Rattle.weighed.proofs.Merging.{Rises, Each, rises}
 use Rattle.within.specs.Shown.{nearWithin, offAt, fairly, shows, pointAfter, shownTo, lentLeft, toLent}
 use Rattle.within.specs.Kept.{Kept, lentShown, keptFrom, keptAll}
 use Rattle.within.specs.Lists.{holdOf, keptOf}
+use Rattle.word.specs.Word.{LastAlone}
 use Rattle.word.proofs.Singles.{Every, Single, each-own, each-merged, own-single}
 use Rattle.word.proofs.Weighed.{siteIn, pointIn, below-max, above-all, all-below, after, up-to, rest-rises}
 use Rattle.word.proofs.ShownSteps.{each-get, each-drop, off-least}
@@ -60,7 +61,7 @@ not-minus-zero a x h k e = none (le-lt-trans f0 a (ofBits binary32 2147483648) h
     none : T (lt f0 (ofBits binary32 2147483648)) → ⊥
     none t = unfold lt ofBits in t
 
-module _ (ramp : Ramp) (o : Ordinary ramp) (settled : T (lt (posAt (ramp .positions) (length (ramp .positions) - 2)) (posAt (ramp .positions) (length (ramp .positions) - 1)))) (asked hold : Float) where
+module _ (ramp : Ramp) (o : Ordinary ramp) (settled : LastAlone ramp) (asked hold : Float) where
   abbrev ps : List Float
   ps = ramp .positions
 
