@@ -1,4 +1,4 @@
--- Never refused: an ordinary ramp's list that keeps its word is done, where the check passes and there is room for 4,609 stops; of the calls. Assumes nothing.
+-- Never refused: an ordinary ramp whose last position stands alone has a list that keeps its word, where there is room for 4,609 stops; of the calls. Assumes nothing.
 use mathlib.Core.Path.{_≡_, refl, _∙_}
 use mathlib.Core.List.{List}
 use Prim.Native.Nat.{ℕ, _≤_}
@@ -16,8 +16,10 @@ use Rattle.linearize.specs.Desk.{pointsIn, room, answerBy}
 use Rattle.linearize.specs.Promises.{Tells}
 use Rattle.linearize.specs.declared.Listed.{Listed}
 use Rattle.linearize.specs.declared.Listed.the-variants as listed
+use Rattle.refresh.specs.AfterEdit.{Shaped}
 use Rattle.ordinary.specs.Ordinary.{Singles, Ordinary}
-use Rattle.ordinary.proofs.Classes.{ordinary-moderate}
+use Rattle.ordinary.proofs.Calls.{fine as shaped-fine}
+use Rattle.ordinary.proofs.Classes.{moderate-finite, ordinary-moderate}
 use Rattle.within.specs.Lists.{keptOf, refusalWithin, freshPoints}
 use Rattle.within.specs.Promises.{ThinsWithin, FlattensWithin}
 use Rattle.word.specs.Word.{LastAlone, ListedFew}
@@ -43,11 +45,12 @@ module _ (ramp : Ramp) (o : Ordinary ramp) (alone : LastAlone ramp) (asked hold 
         few = kept-few ramp o alone asked hold ts points;
       }
 
-  pub flatten-within-never-refused : (held : Change Held) (out : Change Output) (r : Listed) → FlattensWithin ramp asked hold held out r → heldCheck ramp (held .entry) ≡ checked.Fine → 4609 ≤ room (out .entry) → ListedFew ramp r
+  pub flatten-within-never-refused : (held : Change Held) (out : Change Output) (r : Listed) → FlattensWithin ramp asked hold held out r → Shaped (held .entry) → 4609 ≤ room (out .entry) → ListedFew ramp r
   unfolding fresh
-  flatten-within-never-refused held out r call fine wide =
+  flatten-within-never-refused held out r call shaped wide =
       listed-few (heldCheck ramp (held .entry)) (freshPoints ramp asked hold) _ (room (out .entry)) r
-      (all-single (colourOf ramp) (farOf asked) (minOf ramp) (maxOf ramp) (ordinary-moderate ramp o .near) (min-single ramp (o .passes) (o .places)) (max-single ramp (o .passes) (o .places))) fine wide (call .told)
+      (all-single (colourOf ramp) (farOf asked) (minOf ramp) (maxOf ramp) (ordinary-moderate ramp o .near) (min-single ramp (o .passes) (o .places)) (max-single ramp (o .passes) (o .places)))
+      (shaped-fine ramp (moderate-finite ramp (ordinary-moderate ramp o)) (held .entry) shaped) wide (call .told)
 
   -- of any record of f32 that passes the check
   pub thin-within-never-refused : (was : Held) (out : Change Output) (r : Listed) → ThinsWithin ramp asked hold was out r → Singles (was .rows) → thinCheck ramp asked was ≡ checked.Fine → 4609 ≤ room (out .entry) → ListedFew ramp r
