@@ -235,7 +235,7 @@ module _ (ramp : Ramp) (o : Ordinary ramp) (settled : LastAlone ramp) (asked hol
         last-k i n l h = let m = lt-of-not-le h in omega arith
 
         go : (b : Bool) → lt q hi ≡ b → T (le (distanceOf (g t) (linear (g a) (g q) ((t ⊖ a) ⊘ (q ⊖ a)))) leastThreshold)
-        go true e = near-inner ramp o (firstAt a ps) a t in-past (v .single) st up to under (as-T _ e)
+        go true e = near-inner ramp o (firstAt a ps) a t q in-past (v .single) st (o .places (firstAt a ps) (in-past .there)) up to (le-refl q (no-nan-r t q to)) under (as-T _ e)
         go false e =
             near-last ramp o (firstAt a ps) a t in-past (v .single) st up to under
             (last-k (firstAt a ps) (length ps) (in-past .there)

@@ -1,4 +1,4 @@
--- An ordinary ramp between two lent positions: a point there and the next lent position show every f32 between within the least threshold. Assumes nothing.
+-- An ordinary ramp between two lent positions: two points there, or one and the second of these, show every f32 between within the least threshold. Assumes nothing.
 use mathlib.Core.Path.{_≡_, refl, sym, ap, _∙_, subst}
 use mathlib.Core.Bool.{Bool, true, false, true≢false}
 use mathlib.Core.List.{List}
@@ -36,7 +36,7 @@ use Rattle.word.proofs.Weighed.{not-le}
 use Rattle.word.proofs.Straight.{mixAt, line-at, end-itself}
 use Rattle.word.proofs.MixSteps.{Line}
 use Rattle.word.proofs.MixLine.{le-counts}
-use Rattle.word.proofs.StraightPair.{Ends, mix-clear, colour-clear, pair-near}
+use Rattle.word.proofs.StraightPair.{Stands, mix-clear, colour-clear, pair-near}
 
 module _ (ramp : Ramp) (o : Ordinary ramp) where
   abbrev ps : List Float
@@ -133,8 +133,8 @@ module _ (ramp : Ramp) (o : Ordinary ramp) where
   unfolding colourOf colourIn
   colour-last t a b = rw (o .linear, place-last ps t a b)
 
-  -- ---- a point between two lent positions, and t between it and the second of them
-  module _ (k : ℕ) (a t : Float) (at : Past ps k a) (sa : Single a) (st : Single t) (up : T (lt a t)) (to : T (le t (posAt ps k))) (under : T (lt t (maxOf ramp))) where
+  -- ---- a point a between two lent positions, another e after it up to the second of these, and t between the two
+  module _ (k : ℕ) (a t e : Float) (at : Past ps k a) (sa : Single a) (st : Single t) (se : Single e) (up : T (lt a t)) (to : T (le t e)) (end : T (le e (posAt ps k))) (under : T (lt t (maxOf ramp))) where
     abbrev from : Float
     from = posAt ps (k - 1)
 
@@ -150,13 +150,13 @@ module _ (ramp : Ramp) (o : Ordinary ramp) where
         go false e = refl
 
     at-t : Past ps k t
-    at-t = record { some = at .some; there = at .there; reached = is-true _ to; past = on-past t (lt→le a t up) }
+    at-t = record { some = at .some; there = at .there; reached = is-true _ (le-trans t e next to end); past = on-past t (lt→le a t up) }
 
-    a-next : T (lt a next)
-    a-next = lt-le-trans a t next up to
+    a-e : T (lt a e)
+    a-e = lt-le-trans a t e up to
 
-    at-next : Past ps k next
-    at-next = record { some = at .some; there = at .there; reached = is-true _ (le-refl next (no-nan-r a next (lt→le a next a-next))); past = on-past next (lt→le a next a-next) }
+    at-e : Past ps k e
+    at-e = record { some = at .some; there = at .there; reached = is-true _ end; past = on-past e (lt→le a e a-e) }
 
     k-1 : k - 1 < length ps
     k-1 = let th = at .there in omega (arith, th)
@@ -166,6 +166,9 @@ module _ (ramp : Ramp) (o : Ordinary ramp) where
 
     wq : Clear next
     wq = place-clear k (at .there)
+
+    we : Clear e
+    we = past-clear k e at-e se
 
     wb : ClearColour (colourAt cs (k - 1))
     wb = stop-clear (k - 1) k-1
@@ -177,40 +180,46 @@ module _ (ramp : Ramp) (o : Ordinary ramp) where
     a-under = lt-le-trans a t (maxOf ramp) up (lt→le t (maxOf ramp) under)
 
     way : T (lt from next)
-    way = le-lt-trans from a next (below k a at) a-next
+    way = le-lt-trans from a next (below k a at) (lt-le-trans a e next a-e end)
 
     counts : count from < count next
     counts = lt-of-not-le (λ h. subst T (le→not-lt from next (le-counts next from wq wp h)) way)
 
-    near : (c : Rgba) → ClearColour c → ((l : ℕ) → count from + l ≡ count next → Ends (colourAt cs (k - 1)) (colourAt cs k) c l)
-        → T (le (distanceOf (colourOf ramp t) (linear (colourOf ramp a) c ((t ⊖ a) ⊘ (next ⊖ a)))) leastThreshold)
-    near c w ends =
+    near : (c : Rgba) → ClearColour c → ((l d : ℕ) → count from + l ≡ count e → count e + d ≡ count next → Stands (colourAt cs (k - 1)) (colourAt cs k) c l d)
+        → T (le (distanceOf (colourOf ramp t) (linear (colourOf ramp a) c ((t ⊖ a) ⊘ (e ⊖ a)))) leastThreshold)
+    near c w stands =
         rw (colour-past k t at-t under, colour-past k a at a-under)
-        (pair-near from next a t (colourAt cs (k - 1)) (colourAt cs k) c wp wq (past-clear k a at sa) (past-clear k t at-t st) wb wc w (below k a at) (lt→le a t up) to a-next ends)
+        (pair-near from next a t e (colourAt cs (k - 1)) (colourAt cs k) c wp wq (past-clear k a at sa) (past-clear k t at-t st) we wb wc w (below k a at) (lt→le a t up) to end a-e stands)
 
-    -- inside the domain the mix at its end stands there
-    pub near-inner : T (lt next (maxOf ramp)) → T (le (distanceOf (colourOf ramp t) (linear (colourOf ramp a) (colourOf ramp next) ((t ⊖ a) ⊘ (next ⊖ a)))) leastThreshold)
+    -- inside the domain the mix stands there
+    pub near-inner : T (lt e (maxOf ramp)) → T (le (distanceOf (colourOf ramp t) (linear (colourOf ramp a) (colourOf ramp e) ((t ⊖ a) ⊘ (e ⊖ a)))) leastThreshold)
     near-inner h =
-        rw (colour-past k next at-next h)
-        (near _ (colour-clear from next next wp wq wq (lt→le from next way) same counts _ _ wb wc)
-        (λ l e. unfold linear in record { red = one e (wb .red) (wc .red); green = one e (wb .green) (wc .green); blue = one e (wb .blue) (wc .blue); alpha = one e (wb .alpha) (wc .alpha) }))
+        rw (colour-past k e at-e h)
+        (near _ (colour-clear from next e wp wq we (below k e at-e) end counts _ _ wb wc)
+        (λ l d i j. unfold linear in record { red = one i j (wb .red) (wc .red); green = one i j (wb .green) (wc .green); blue = one i j (wb .blue) (wc .blue); alpha = one i j (wb .alpha) (wc .alpha) }))
       where
-        same : T (le next next)
-        same = le-refl next (no-nan-r a next (lt→le a next a-next))
+        some : (p l e d q : ℕ) → p + l ≡ e → e + d ≡ q → p < q → 0 < l + d
+        some p l e d q i j h = omega arith
 
-        bare : (m : ℕ) → m + 0 ≡ m
-        bare m = omega arith
+        one : {l d : ℕ} {x y : Float} → count from + l ≡ count e → count e + d ≡ count next → Clear x → Clear y → Line (count (mixAt from next x y e)) (count x) (count y) l d (2 ^ 149)
+        one {l} {d} {x} {y} i j u v =
+            line-at from next e x y wp wq we u v (below k e at-e) end (mix-clear from next e wp wq we (below k e at-e) end counts x y u v) l d i j (some (count from) l (count e) d (count next) i j counts)
 
-        some : (p l q : ℕ) → p + l ≡ q → p < q → 0 < l + 0
-        some p l q e h = omega arith
+  -- at the very end the last colour stands
+  module _ (k : ℕ) (a t : Float) (at : Past ps k a) (sa : Single a) (st : Single t) (up : T (lt a t)) (to : T (le t (posAt ps k))) (under : T (lt t (maxOf ramp))) where
+    end-same : T (le (posAt ps k) (posAt ps k))
+    end-same = le-refl (posAt ps k) (no-nan-r t (posAt ps k) to)
 
-        one : {l : ℕ} {x y : Float} → count from + l ≡ count next → Clear x → Clear y → Line (count (mixAt from next x y next)) (count x) (count y) l 0 (2 ^ 149)
-        one {l} {x} {y} e u v =
-            line-at from next next x y wp wq wq u v (lt→le from next way) same (mix-clear from next next wp wq wq (lt→le from next way) same counts x y u v) l 0 e (bare (count next)) (some (count from) l (count next) e counts)
+    end-single : Single (posAt ps k)
+    end-single = o .places k (at .there)
 
-    -- at its end the last colour
-    pub near-last : k ≡ length ps - 1 → T (le (distanceOf (colourOf ramp t) (linear (colourOf ramp a) (colourOf ramp next) ((t ⊖ a) ⊘ (next ⊖ a)))) leastThreshold)
+    pub near-last : k ≡ length ps - 1 → T (le (distanceOf (colourOf ramp t) (linear (colourOf ramp a) (colourOf ramp (posAt ps k)) ((t ⊖ a) ⊘ (posAt ps k ⊖ a)))) leastThreshold)
     near-last e =
-        rw (colour-last next (not-first k next at-next) (subst (λ (i : ℕ). le (posAt ps i) next ≡ true) e (is-true _ (le-refl next (no-nan-r a next (lt→le a next a-next))))))
-        (subst (λ (i : ℕ). T (le (distanceOf (colourOf ramp t) (linear (colourOf ramp a) (colourAt cs i) ((t ⊖ a) ⊘ (next ⊖ a)))) leastThreshold)) e
-        (near (colourAt cs k) wc (λ l f. record { red = end-itself _ _ l _; green = end-itself _ _ l _; blue = end-itself _ _ l _; alpha = end-itself _ _ l _ })))
+        let q = posAt ps k in
+        rw (colour-last q (not-first k q (at-e k a t q at sa st end-single up to end-same under)) (subst (λ (i : ℕ). le (posAt ps i) q ≡ true) e (is-true _ end-same)))
+        (subst (λ (i : ℕ). T (le (distanceOf (colourOf ramp t) (linear (colourOf ramp a) (colourAt cs i) ((t ⊖ a) ⊘ (q ⊖ a)))) leastThreshold)) e
+        (near k a t q at sa st end-single up to end-same under (colourAt cs k) (stop-clear k (at .there))
+        (λ l d i j. subst (Stands (colourAt cs (k - 1)) (colourAt cs k) (colourAt cs k) l) (nothing (count q) d j) (record { red = end-itself _ _ l _; green = end-itself _ _ l _; blue = end-itself _ _ l _; alpha = end-itself _ _ l _ }))))
+      where
+        nothing : (m d : ℕ) → m + d ≡ m → 0 ≡ d
+        nothing m d h = omega arith
