@@ -32,3 +32,10 @@ pub mod MixSteps
 pub mod MixLine
 pub mod Straight
 pub mod StraightPair
+pub mod StraightRamp
+pub mod LentSites
+pub mod Reaches
+pub mod LinearSteps
+pub mod LinearEnd
+pub mod FewEnough
+pub mod NeverRefused

@@ -227,25 +227,25 @@ module _ (g b c a r u : ℕ) (m : Mixed g b c a r u) (pos : 0 < a + r) (large : 
           subst (λ (x : ℕ). Line g x c a r u) e
           (falling (m .p) a r d u pos (up d (under c d b e) (less c d b u e high)) (down d (under c d b e) (less c d b u e high)) g c (subst (λ (x : ℕ). Part g (gap x (m .p))) (sym e) (m .sum .1 h)) (within c d b u e high))
 
--- ---- a straight way from b to c: a come to the first point, s from there to the second, r left. The mix of what stands at the first point and at the end is what stands at the second, but for the errors
-exact : (b c a s r : ℕ) → (b * r + c * (a + s)) * (s + r) ≡ (b * (s + r) + c * a) * r + (b * 0 + c * (a + s + r)) * s
-exact b c a s r = omega arith
+-- ---- a straight way from b to c: a come to the first point, s from there to the second, r to the third, d left. The mix of what stands at the first point and at the third is what stands at the second, but for the errors
+exact : (b c a s r d : ℕ) → (b * (r + d) + c * (a + s)) * (s + r) ≡ (b * (s + r + d) + c * a) * r + (b * d + c * (a + s + r)) * s
+exact b c a s r d = omega arith
 
-shared : (a s r u : ℕ) → u * (a + (s + r)) * r + u * (a + s + r + 0) * s ≡ u * ((a + s + r) * (s + r))
-shared a s r u = omega arith
+shared : (a s r d u : ℕ) → u * (a + (s + r + d)) * r + u * (a + s + r + d) * s ≡ u * ((a + s + r + d) * (s + r))
+shared a s r d u = omega arith
 
-ends : (f k a s r : ℕ) → (f * r + k * s) * (a + s + r) ≡ f * (a + (s + r)) * r + k * (a + s + r + 0) * s
-ends f k a s r = omega arith
+ends : (f k a s r d : ℕ) → (f * r + k * s) * (a + s + r + d) ≡ f * (a + (s + r + d)) * r + k * (a + s + r + d) * s
+ends f k a s r d = omega arith
 
 widened : (x y u l k : ℕ) → 2 ^ 16 * x ≤ 2 ^ 16 * y + u * l → 2 ^ 16 * (x * k) ≤ 2 ^ 16 * (y * k) + u * l * k
 widened x y u l k h = let m = mul-le-mul-right k h in omega (arith, m)
 
-module _ (b c a s r u g f k m : ℕ) (at-second : Line g b c (a + s) r u) (at-first : Line f b c a (s + r) u) (at-end : Line k b c (a + s + r) 0 u) (mix : Line m f k s r u) (pos : 0 < s + r) where
-  all : 0 < (a + s + r) * (s + r)
-  all = mul-pos (some a s r pos) pos
+module _ (b c a s r d u g f k m : ℕ) (at-second : Line g b c (a + s) (r + d) u) (at-first : Line f b c a (s + r + d) u) (at-third : Line k b c (a + s + r) d u) (mix : Line m f k s r u) (pos : 0 < s + r) where
+  all : 0 < (a + s + r + d) * (s + r)
+  all = mul-pos (some a s r d pos) pos
     where
-      some : (a s r : ℕ) → 0 < s + r → 0 < a + s + r
-      some a s r h = omega arith
+      some : (a s r d : ℕ) → 0 < s + r → 0 < a + s + r + d
+      some a s r d h = omega arith
 
   flat : (x y t p q v w e i j k : ℕ) → 2 ^ 16 * x ≤ 2 ^ 16 * t + e → 2 ^ 16 * (p + q) ≤ 2 ^ 16 * y + k → 2 ^ 16 * v ≤ 2 ^ 16 * p + i → 2 ^ 16 * w ≤ 2 ^ 16 * q + j → t ≡ v + w → i + j ≡ e → k ≡ e → 2 ^ 16 * x ≤ 2 ^ 16 * y + 3 * e
   flat x y t p q v w e i j k h l m n o z o′ = omega arith
@@ -262,21 +262,26 @@ module _ (b c a s r u g f k m : ℕ) (at-second : Line g b c (a + s) r u) (at-fi
   gather′ : (x y n l : ℕ) → 2 ^ 16 * (y * n * l) ≤ 2 ^ 16 * (x * l * n) + 3 * (u * (l * n)) → 2 ^ 16 * y * (l * n) ≤ (2 ^ 16 * x + 3 * u) * (l * n)
   gather′ x y n l h = omega (arith, h)
 
+  second : (a + s) + (r + d) ≡ a + s + r + d
+  second = omega arith
+
   pub straight : (2 ^ 16 * g ≤ 2 ^ 16 * m + 3 * u) × (2 ^ 16 * m ≤ 2 ^ 16 * g + 3 * u)
   straight =
-      let l = a + s + r in
+      let l = a + s + r + d in
       let n = s + r in
-      let e : u * l * n ≡ u * (l * n) = mul-assoc u l n in (
+      let e : u * l * n ≡ u * (l * n) = mul-assoc u l n in
+      let h : 2 ^ 16 * (g * l) ≤ 2 ^ 16 * (b * (r + d) + c * (a + s)) + u * l = subst (λ (x : ℕ). 2 ^ 16 * (g * x) ≤ 2 ^ 16 * (b * (r + d) + c * (a + s)) + u * x) second (at-second .high) in
+      let o : 2 ^ 16 * (b * (r + d) + c * (a + s)) ≤ 2 ^ 16 * (g * l) + u * l = subst (λ (x : ℕ). 2 ^ 16 * (b * (r + d) + c * (a + s)) ≤ 2 ^ 16 * (g * x) + u * x) second (at-second .low) in (
         le-of-mul-le-mul-right {k = l * n}
             (gather g m n l
-            (flat (g * l * n) (m * n * l) ((b * r + c * (a + s)) * n) (f * (a + (s + r)) * r) (k * (l + 0) * s) ((b * n + c * a) * r) ((b * 0 + c * l) * s) (u * (l * n)) (u * (a + (s + r)) * r) (u * (l + 0) * s) (u * n * l)
-            (subst (λ (x : ℕ). 2 ^ 16 * (g * l * n) ≤ 2 ^ 16 * ((b * r + c * (a + s)) * n) + x) e (widened (g * l) (b * r + c * (a + s)) u l n (at-second .high)))
-            (subst (λ (x : ℕ). 2 ^ 16 * x ≤ 2 ^ 16 * (m * n * l) + u * n * l) (ends f k a s r) (widened (f * r + k * s) (m * n) u n l (mix .low)))
-            (widened (b * n + c * a) (f * (a + (s + r))) u (a + (s + r)) r (at-first .low)) (widened (b * 0 + c * l) (k * (l + 0)) u (l + 0) s (at-end .low)) (exact b c a s r) (shared a s r u) (swap u l n))) all,
+            (flat (g * l * n) (m * n * l) ((b * (r + d) + c * (a + s)) * n) (f * (a + (n + d)) * r) (k * l * s) ((b * (n + d) + c * a) * r) ((b * d + c * (a + s + r)) * s) (u * (l * n)) (u * (a + (n + d)) * r) (u * l * s) (u * n * l)
+            (subst (λ (x : ℕ). 2 ^ 16 * (g * l * n) ≤ 2 ^ 16 * ((b * (r + d) + c * (a + s)) * n) + x) e (widened (g * l) (b * (r + d) + c * (a + s)) u l n h))
+            (subst (λ (x : ℕ). 2 ^ 16 * x ≤ 2 ^ 16 * (m * n * l) + u * n * l) (ends f k a s r d) (widened (f * r + k * s) (m * n) u n l (mix .low)))
+            (widened (b * (n + d) + c * a) (f * (a + (n + d))) u (a + (n + d)) r (at-first .low)) (widened (b * d + c * (a + s + r)) (k * l) u l s (at-third .low)) (exact b c a s r d) (shared a s r d u) (swap u l n))) all,
         le-of-mul-le-mul-right {k = l * n}
             (gather′ g m n l
-            (flat′ (g * l * n) (m * n * l) ((b * r + c * (a + s)) * n) (f * (a + (s + r)) * r) (k * (l + 0) * s) ((b * n + c * a) * r) ((b * 0 + c * l) * s) (u * (l * n)) (u * (a + (s + r)) * r) (u * (l + 0) * s) (u * n * l)
-            (subst (λ (x : ℕ). 2 ^ 16 * ((b * r + c * (a + s)) * n) ≤ 2 ^ 16 * (g * l * n) + x) e (widened (b * r + c * (a + s)) (g * l) u l n (at-second .low)))
-            (subst (λ (x : ℕ). 2 ^ 16 * (m * n * l) ≤ 2 ^ 16 * x + u * n * l) (ends f k a s r) (widened (m * n) (f * r + k * s) u n l (mix .high)))
-            (widened (f * (a + (s + r))) (b * n + c * a) u (a + (s + r)) r (at-first .high)) (widened (k * (l + 0)) (b * 0 + c * l) u (l + 0) s (at-end .high)) (exact b c a s r) (shared a s r u) (swap u l n))) all,
+            (flat′ (g * l * n) (m * n * l) ((b * (r + d) + c * (a + s)) * n) (f * (a + (n + d)) * r) (k * l * s) ((b * (n + d) + c * a) * r) ((b * d + c * (a + s + r)) * s) (u * (l * n)) (u * (a + (n + d)) * r) (u * l * s) (u * n * l)
+            (subst (λ (x : ℕ). 2 ^ 16 * ((b * (r + d) + c * (a + s)) * n) ≤ 2 ^ 16 * (g * l * n) + x) e (widened (b * (r + d) + c * (a + s)) (g * l) u l n o))
+            (subst (λ (x : ℕ). 2 ^ 16 * (m * n * l) ≤ 2 ^ 16 * x + u * n * l) (ends f k a s r d) (widened (m * n) (f * r + k * s) u n l (mix .high)))
+            (widened (f * (a + (n + d))) (b * (n + d) + c * a) u (a + (n + d)) r (at-first .high)) (widened (k * l) (b * d + c * (a + s + r)) u l s (at-third .high)) (exact b c a s r d) (shared a s r d u) (swap u l n))) all,
       )

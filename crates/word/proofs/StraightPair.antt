@@ -1,4 +1,4 @@
--- Two colours within 0 to 1 and what is mixed straight between them: a point on the way and its end show what lies between within the least threshold. Assumes nothing.
+-- Two colours within 0 to 1 and what is mixed straight between them: two points on the way show what lies between them within the least threshold. Assumes nothing.
 use mathlib.Core.Path.{_≡_, subst}
 use mathlib.Core.Bool.{false}
 use Prim.Native.Nat.{ℕ, _+_, _*_, _^_, _≤_, _<_}
@@ -40,7 +40,7 @@ module _ (p q t : Float) (wp : Clear p) (wq : Clear q) (wt : Clear t) (pt : T (l
       left : (m n o s r : ℕ) → m + s ≡ n → n + r ≡ o → m < o → 0 < s + r
       left m n o s r e f h = omega arith
 
-  mix-clear : (b c : Float) → Clear b → Clear c → Clear (mixAt p q b c t)
+  pub mix-clear : (b c : Float) → Clear b → Clear c → Clear (mixAt p q b c t)
   mix-clear b c wb wc =
       let s = (t ⊖ p) ⊘ (q ⊖ p) in
       let fb = clear-finite b wb in
@@ -74,35 +74,33 @@ close x y wx wy h k =
     under : (y x u z : ℕ) → 2 ^ 16 * y ≤ 2 ^ 16 * x + 3 * u → 3 * u ≤ 2 ^ 16 * z → 0 + 0 + y ≤ x + 0 + z
     under y x u z h k = omega arith
 
--- ---- the pair of a point on the way and of its end, where k stands
-pub record Ends (b c k : Rgba) (l : ℕ) : Type 0 where
-  pub red : Line (count (k .r)) (count (b .r)) (count (c .r)) l 0 (2 ^ 149)
-  pub green : Line (count (k .g)) (count (b .g)) (count (c .g)) l 0 (2 ^ 149)
-  pub blue : Line (count (k .b)) (count (b .b)) (count (c .b)) l 0 (2 ^ 149)
-  pub alpha : Line (count (k .a)) (count (b .a)) (count (c .a)) l 0 (2 ^ 149)
+-- ---- the pair of a point on the way and of another, where k stands
+pub record Stands (b c k : Rgba) (l d : ℕ) : Type 0 where
+  pub red : Line (count (k .r)) (count (b .r)) (count (c .r)) l d (2 ^ 149)
+  pub green : Line (count (k .g)) (count (b .g)) (count (c .g)) l d (2 ^ 149)
+  pub blue : Line (count (k .b)) (count (b .b)) (count (c .b)) l d (2 ^ 149)
+  pub alpha : Line (count (k .a)) (count (b .a)) (count (c .a)) l d (2 ^ 149)
 
-module _ (p q a t : Float) (b c k : Rgba) (wp : Clear p) (wq : Clear q) (wa : Clear a) (wt : Clear t) (wb : ClearColour b) (wc : ClearColour c) (wk : ClearColour k)
-    (pa : T (le p a)) (at : T (le a t)) (tq : T (le t q)) (some : T (lt a q)) (ends : (l : ℕ) → count p + l ≡ count q → Ends b c k l) where
-  aq : count a < count q
-  aq = lt-of-not-le (λ h. order-clash (le-counts q a wq wa h))
-    where
-      order-clash : T (le q a) → ⊥
-      order-clash h = subst T (order.le→not-lt a q h) some
+module _ (p q a t e : Float) (b c k : Rgba) (wp : Clear p) (wq : Clear q) (wa : Clear a) (wt : Clear t) (we : Clear e) (wb : ClearColour b) (wc : ClearColour c) (wk : ClearColour k)
+    (pa : T (le p a)) (at : T (le a t)) (te : T (le t e)) (eq : T (le e q)) (some : T (lt a e)) (stands : (l d : ℕ) → count p + l ≡ count e → count e + d ≡ count q → Stands b c k l d) where
+  ae : count a < count e
+  ae = lt-of-not-le (λ h. subst T (order.le→not-lt a e (le-counts e a we wa h)) some)
 
   pq : count p < count q
-  pq = let h = counts-le p a wp wa pa in let k = aq in omega arith
+  pq = let h = counts-le p a wp wa pa in let k = ae in let l = counts-le e q we wq eq in omega arith
 
-  channel : (x y z : Float) → Clear x → Clear y → Clear z → ((l : ℕ) → count p + l ≡ count q → Line (count z) (count x) (count y) l 0 (2 ^ 149))
-      → Small (clampOf (mixAt p q x y t) ⊖ clampOf (mixAt a q (mixAt p q x y a) z t)) slack
-  channel x y z wx wy wz end =
+  channel : (x y z : Float) → Clear x → Clear y → Clear z → ((l d : ℕ) → count p + l ≡ count e → count e + d ≡ count q → Line (count z) (count x) (count y) l d (2 ^ 149))
+      → Small (clampOf (mixAt p q x y t) ⊖ clampOf (mixAt a e (mixAt p q x y a) z t)) slack
+  channel x y z wx wy wz there =
+      let tq = order.le-trans t e q te eq in
       let ua = mix-clear p q a wp wq wa pa (order.le-trans a t q at tq) pq x y wx wy in
       let ut = mix-clear p q t wp wq wt (order.le-trans p a t pa at) tq pq x y wx wy in
-      let um = mix-clear a q t wa wq wt at tq aq (mixAt p q x y a) z ua wz in
-      let w = as-straight p q a t x y z wp wq wa wt wx wy wz pa at tq aq ua ut um end in
+      let um = mix-clear a e t wa we wt at te ae (mixAt p q x y a) z ua wz in
+      let w = as-straight p q a t e x y z wp wq wa wt we wx wy wz pa at te eq ae ua ut um there in
       close _ _ ut um (w .0) (w .1)
 
-  pub pair-near : T (le (distanceOf (linear b c ((t ⊖ p) ⊘ (q ⊖ p))) (linear (linear b c ((a ⊖ p) ⊘ (q ⊖ p))) k ((t ⊖ a) ⊘ (q ⊖ a)))) leastThreshold)
+  pub pair-near : T (le (distanceOf (linear b c ((t ⊖ p) ⊘ (q ⊖ p))) (linear (linear b c ((a ⊖ p) ⊘ (q ⊖ p))) k ((t ⊖ a) ⊘ (e ⊖ a)))) leastThreshold)
   unfolding linear
   pair-near =
-      slack-near _ _ (channel _ _ _ (wb .red) (wc .red) (wk .red) (λ l e. ends l e .red)) (channel _ _ _ (wb .green) (wc .green) (wk .green) (λ l e. ends l e .green))
-      (channel _ _ _ (wb .blue) (wc .blue) (wk .blue) (λ l e. ends l e .blue)) (channel _ _ _ (wb .alpha) (wc .alpha) (wk .alpha) (λ l e. ends l e .alpha))
+      slack-near _ _ (channel _ _ _ (wb .red) (wc .red) (wk .red) (λ l d e f. stands l d e f .red)) (channel _ _ _ (wb .green) (wc .green) (wk .green) (λ l d e f. stands l d e f .green))
+      (channel _ _ _ (wb .blue) (wc .blue) (wk .blue) (λ l d e f. stands l d e f .blue)) (channel _ _ _ (wb .alpha) (wc .alpha) (wk .alpha) (λ l d e f. stands l d e f .alpha))
