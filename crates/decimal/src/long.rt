@@ -1,6 +1,7 @@
 // A token with any number of digits and perhaps an exponent, read as a number: rounded once to the nearest f32, or no number.
 use crate::Token;
 use crate::magnitude;
+use crate::read;
 use crate::signed;
 use crate::wide::long_magnitude;
 ghost use mathlib.Core.Path.{_≡_};
@@ -19,8 +20,17 @@ const MOST_SIGNIFICANT: u32 = 19;
 // A power of ten from here on is beyond every number of digits that a slice can have.
 const HUGE: u64 = 10000000000000000000;
 
-// A token: an optional sign, digits with at most one point, and perhaps an exponent.
+// A token: an optional sign, digits with at most one point, and perhaps an exponent. Most are short, and are read as such.
 pub fn read_long(s: &[u8]) -> Token
+    ensures { λ r. ⌜ r ≡ readLongOf (now (s .entry)) ⌝ }
+{
+    match read(s) {
+        Token::Number(x) => Token::Number(x),
+        Token::NoNumber => by_parts(s),
+    }
+}
+
+fn by_parts(s: &[u8]) -> Token
     ensures { λ r. ⌜ r ≡ readLongOf (now (s .entry)) ⌝ }
 {
     let sign = sign_at(s, 0);
