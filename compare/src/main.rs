@@ -20,6 +20,7 @@ mod list_limits;
 mod lists;
 mod lists_apart;
 mod lists_within;
+mod long_tokens;
 mod many;
 mod marks;
 mod merged;
@@ -59,7 +60,7 @@ use std::path::Path;
 use std::process::ExitCode;
 
 const USAGE: &str = "compare COMMAND [N] [--seed S] [--case I]
-  roots tokens colours sine waves hues sharp texts counts torn lists refresh edits marks many promise steps numerals written judge within apart
+  roots tokens long_tokens colours sine waves hues sharp texts counts torn lists refresh edits marks many promise steps numerals written judge within apart
                      one comparison, of N inputs or at its full size
   all [PERCENT]      every comparison, at its full size or at that part of it
   differences        the smallest inputs of docs/DIFFERENCES.md, with the Rust's answers and ours
@@ -77,9 +78,10 @@ const USAGE: &str = "compare COMMAND [N] [--seed S] [--case I]
 type Comparison = (&'static str, fn(&Options) -> Vec<Tally>, u64);
 
 /// Each comparison with its full size.
-const COMPARISONS: [Comparison; 22] = [
+const COMPARISONS: [Comparison; 23] = [
     ("roots", roots::run, 1 << 32),
     ("tokens", tokens::run, 100_000_000),
+    ("long_tokens", long_tokens::run, 100_000_000),
     ("colours", colours::run, 2_000_000),
     ("sine", sine::run, 12_000_000),
     ("waves", sine_lists::run, 100_000),

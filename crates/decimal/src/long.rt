@@ -286,7 +286,14 @@ fn number(d: Decimal, power: u64, lower: bool) -> Token
     if MOST_SIGNIFICANT < d.count {
         return Token::NoNumber;
     }
-    let x = moved(d.neg, d.value, d.zeros as u64, d.places as u64, power, lower);
+    let x = moved(
+        d.neg,
+        d.value,
+        d.zeros as u64,
+        d.places as u64,
+        power,
+        lower,
+    );
     Token::Number(x)
 }
 
@@ -320,15 +327,9 @@ fn cancelled(a: u64, b: u64) -> Left
     ensures { λ r. ⌜ Cancels a b (r .up) (r .down) ⌝ }
 {
     if a < b {
-        return Left {
-            up: 0,
-            down: b - a,
-        };
+        return Left { up: 0, down: b - a };
     }
-    Left {
-        up: a - b,
-        down: 0,
-    }
+    Left { up: a - b, down: 0 }
 }
 
 // d * 10 ^ up / 10 ^ down to the nearest f32, a tie to even, negative where neg.
