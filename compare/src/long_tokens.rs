@@ -145,36 +145,37 @@ fn half_way(random: &mut Random) -> Vec<u8> {
     written(random, &moved.to_string(), down)
 }
 
+/// 18 decimal digits of a whole number.
+const LIMB: u128 = 1_000_000_000_000_000_000;
+
 /// The first `count` digits of m * 2 ^ e, cut off, and how many places the point is before their end.
 fn decimal(m: u128, e: i64, count: usize) -> (String, i64) {
-    let mut digits: Vec<u8> = m.to_string().bytes().map(|b| b - b'0').collect();
-    let mut down = 0;
-    for _ in 0..e.abs() {
-        if e > 0 {
-            let mut carry = 0;
-            for digit in digits.iter_mut().rev() {
-                let twice = *digit * 2 + carry;
-                (*digit, carry) = (twice % 10, twice / 10);
-            }
-            if carry > 0 {
-                digits.insert(0, carry);
-            }
-        } else {
-            // half of it is five times it, a place further down
-            let mut carry = 0;
-            for digit in digits.iter_mut().rev() {
-                let five = *digit * 5 + carry;
-                (*digit, carry) = (five % 10, five / 10);
-            }
-            if carry > 0 {
-                digits.insert(0, carry);
-            }
-            down += 1;
+    // a half is five times as much, a place further down
+    let (base, step): (u128, i64) = if e > 0 { (2, 30) } else { (5, 13) };
+    let mut limbs = vec![m % LIMB, m / LIMB];
+    let mut left = e.abs();
+    while left > 0 {
+        let factor = base.pow(left.min(step) as u32);
+        let mut carry = 0;
+        for limb in &mut limbs {
+            carry += *limb * factor;
+            *limb = carry % LIMB;
+            carry /= LIMB;
         }
+        limbs.push(carry);
+        left -= step;
+    }
+    while limbs.last() == Some(&0) {
+        limbs.pop();
+    }
+    let mut digits = limbs.pop().unwrap_or(0).to_string();
+    for limb in limbs.iter().rev() {
+        digits += &format!("{limb:018}");
     }
     let kept = digits.len().min(count);
-    down -= (digits.len() - kept) as i64;
-    (digits[..kept].iter().map(|d| (d + b'0') as char).collect(), down)
+    let down = (-e).max(0) - (digits.len() - kept) as i64;
+    digits.truncate(kept);
+    (digits, down)
 }
 
 /// As GIMP and Python write a number of 53 binary digits: 17 significant digits, or as many as tell it.
