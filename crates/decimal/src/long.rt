@@ -346,7 +346,7 @@ fn tens_magnitude(d: u64, up: u64, down: u64) -> u32
     ensures { λ r. ⌜ BitsOf (d * 10 ^ up) (10 ^ down) r ⌝ }
 {
     if up == 0 {
-        if down <= 18 {
+        if down <= 27 {
             return magnitude(d, down as usize, five_to(down));
         }
     }
@@ -363,7 +363,7 @@ fn tens_magnitude(d: u64, up: u64, down: u64) -> u32
 }
 
 fn five_to(n: u64) -> u64
-    requires { ⌜ n ≤ 18 ⌝ }
+    requires { ⌜ n ≤ 27 ⌝ }
     ensures { λ r. ⌜ r ≡ 5 ^ n ⌝ }
 {
     let mut five: u64 = 1;
