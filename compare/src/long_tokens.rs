@@ -134,7 +134,11 @@ fn plain(random: &mut Random) -> Vec<u8> {
 fn half_way(random: &mut Random) -> Vec<u8> {
     // m * 2 ^ e is half-way where m is odd and has 25 binary digits, or fewer where e is -150
     let e = random.from_to(0, 253) as i64 - 150;
-    let m = if e == -150 { 2 * random.below(1 << 24) as u128 + 1 } else { (1 << 24) + 2 * random.below(1 << 23) as u128 + 1 };
+    let m = if e == -150 {
+        2 * random.below(1 << 24) as u128 + 1
+    } else {
+        (1 << 24) + 2 * random.below(1 << 23) as u128 + 1
+    };
     let (digits, down) = decimal(m, e, random.from_to(17, 19));
     let value: u128 = digits.parse().expect("digits");
     let moved = match random.below(4) {
