@@ -808,6 +808,15 @@ static inline ColorgradToken colorgrad_token(const uint8_t *text, size_t text_le
     return token;
 }
 
+/* The same of a long token: any number of digits, of which 19 count when zeros at the start and at the end are left off, and
+ * then perhaps 'e' or 'E', a sign or none and digits. A number beyond every float is infinite. */
+static inline ColorgradToken colorgrad_long_token(const uint8_t *text, size_t text_length)
+{
+    ColorgradToken token = {false, 0.0f};
+    token.is_number = colorgrad_long_token_told(text, text_length, &token.value, 1) != 0;
+    return token;
+}
+
 #undef COLORGRAD_OF_STOPS
 #undef COLORGRAD_OF_SEGMENTS
 #undef COLORGRAD_OF_RAMP

@@ -183,6 +183,7 @@ float colorgrad_cutoff(float t);
 
 /* answers 1 where the bytes are a number, else 0; value: the number, 0 if none */
 uint32_t colorgrad_token_told(const uint8_t *text, size_t text_length, float *value, size_t value_length);
+uint32_t colorgrad_long_token_told(const uint8_t *text, size_t text_length, float *value, size_t value_length);
 
 /* ---- messages and the version */
 

@@ -145,6 +145,14 @@ fn tokens(random: &mut Random) {
         let rust = || texts.iter().for_each(|t| used(black_box(t.as_str()).parse::<f32>()));
         beside(&format!("token of {} digits", places + 1), "str::parse", texts.len(), ours, rust);
     }
+    // as many digits as tell a number of 53 binary digits, 17 most often
+    for size in [1.0, 1e-1, 1e-2, 1e-3, 1e-16] {
+        let texts: Vec<String> =
+            (0..1024).map(|_| format!("{:?}", size * (0.1 + 0.9 * random.unit() as f64))).collect();
+        let ours = || texts.iter().for_each(|t| used(ours::long_token(black_box(t.as_bytes()))));
+        let rust = || texts.iter().for_each(|t| used(black_box(t.as_str()).parse::<f32>()));
+        beside(&format!("long token, a tenth of {size:?} to {size:?}"), "str::parse", texts.len(), ours, rust);
+    }
 }
 
 /// Evenly spaced stops or segments of random colours.

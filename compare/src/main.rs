@@ -21,6 +21,7 @@ mod list_limits;
 mod lists;
 mod lists_apart;
 mod lists_within;
+mod long_tokens;
 mod many;
 mod marks;
 mod merged;
@@ -64,7 +65,7 @@ use std::path::Path;
 use std::process::ExitCode;
 
 const USAGE: &str = "compare COMMAND [N] [--seed S] [--case I]
-  roots tokens colours sine waves hues curves sharp texts saved counts torn lists refresh edits marks many promise steps numerals written judge within apart
+  roots tokens long_tokens colours sine waves hues curves sharp texts saved counts torn lists refresh edits marks many promise steps numerals written judge within apart
   sheets views
                      one comparison, of N inputs or at its full size
   all [PERCENT]      every comparison, at its full size or at that part of it
@@ -84,9 +85,10 @@ const USAGE: &str = "compare COMMAND [N] [--seed S] [--case I]
 type Comparison = (&'static str, fn(&Options) -> Vec<Tally>, u64);
 
 /// Each comparison with its full size.
-const COMPARISONS: [Comparison; 24] = [
+const COMPARISONS: [Comparison; 27] = [
     ("roots", roots::run, 1 << 32),
     ("tokens", tokens::run, 100_000_000),
+    ("long_tokens", long_tokens::run, 100_000_000),
     ("colours", colours::run, 2_000_000),
     ("sine", sine::run, 12_000_000),
     ("waves", sine_lists::run, 100_000),

@@ -38,6 +38,15 @@ pub fn token(text: &[u8]) -> Option<f32> {
     }
 }
 
+pub fn long_token(text: &[u8]) -> Option<f32> {
+    let mut value = [f32::NAN];
+    match calls::long_token(text, &mut value) {
+        0 => None,
+        1 => Some(value[0]),
+        other => panic!("no such answer: {other}"),
+    }
+}
+
 /// How long the number's text is; it is written where there is room.
 pub fn numeral(x: f32, out: &mut [u8]) -> usize {
     ffi::numeral(x, out)

@@ -41,6 +41,7 @@ REACHED_BY = {
     'colorgrad_root': lambda: guineaplume.root(2),
     'colorgrad_cutoff': lambda: guineaplume.cutoff(0.007),
     'colorgrad_token_told': lambda: guineaplume.token('0.5'),
+    'colorgrad_long_token_told': lambda: guineaplume.long_token('5e-1'),
     'colorgrad_message_told': lambda: Reason.FALLING.words,
     'colorgrad_verdict_message_told': lambda: str(RAMP.judge(List([0], ['#000']))),
     'colorgrad_version': lambda: guineaplume.library_version(),

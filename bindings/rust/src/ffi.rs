@@ -125,6 +125,7 @@ exports! {
     root = colorgrad_root(x: f32) -> f32;
     cutoff = colorgrad_cutoff(t: f32) -> f32;
     token = colorgrad_token_told(text: &[u8], value: &mut [f32]) -> u32;
+    long_token = colorgrad_long_token_told(text: &[u8], value: &mut [f32]) -> u32;
     message = colorgrad_message_told(refusal: u32, out: &mut [u8]) -> usize;
     verdict_message = colorgrad_verdict_message_told(verdict: u32, out: &mut [u8]) -> usize;
     version = colorgrad_version() -> u32;

@@ -459,6 +459,14 @@ pub fn token(text: &[u8]) -> Option<f32> {
     is_number.then_some(value[0])
 }
 
+/// The number that the bytes are as a long token: any number of digits, of which 19 count when zeros at the start and at the
+/// end are left off, and then perhaps `e` or `E`, a sign or none and digits. Beyond every `f32` it is infinite.
+pub fn long_token(text: &[u8]) -> Option<f32> {
+    let mut value = [0.0];
+    let is_number = calls::long_token(text, &mut value) != 0;
+    is_number.then_some(value[0])
+}
+
 /// The threshold that calls take where this one is asked for: 0.001 to 0.035, and 0.007 for one that is not finite.
 #[must_use]
 pub fn threshold(asked: f32) -> f32 {

@@ -161,6 +161,7 @@ module _ (d p : ℕ) (P : 0 < p) where
           let b = between n p k refl P in
           let e = above-edge (b .w) (b .rest) (p * 2 ^ 252) n (p * 2 ^ k) q (ap (λ (j : ℕ). p * 2 ^ j) k-is ∙ double p) (b .long) (b .less) n-more (b .few) (b .picks) in
           round-is binary32 s d p ∙ infinite s q k (subst (λ (j : ℕ). 2 ^ 277 ≤ q * 2 ^ j) (sym k-is) (subst (λ (x : ℕ). 2 ^ 277 ≤ x * 2 ^ 253) (sym e) (lit≤ tt)))
+
 module _ (s : Bool) (d p : ℕ) (P : 0 < p) (h : d < past * p) where
   picked : Picked s d p (round binary32 s d p)
   picked =

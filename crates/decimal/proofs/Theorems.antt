@@ -53,10 +53,9 @@ one-form = form.one-form
 
 -- ---- all of it, by either rule: for bytes that write a number what it is rounded to, and for others that they are no number
 module _ (read : List ℕ → Token) (Writes : List ℕ → Bool → ℕ → ℕ → Type 0)
-  (some : (s : List ℕ) (neg : Bool) (d p : ℕ) → Writes s neg d p → 0 < p)
-  (is : (s : List ℕ) (neg : Bool) (d p : ℕ) → Writes s neg d p → read s ≡ Number (round binary32 neg d p))
-  (either : (s : List ℕ) → ((neg : Bool) × (d : ℕ) × (p : ℕ) × Writes s neg d p) ⊎ (read s ≡ NoNumber)) where
-
+    (some : (s : List ℕ) (neg : Bool) (d p : ℕ) → Writes s neg d p → 0 < p)
+    (is : (s : List ℕ) (neg : Bool) (d p : ℕ) → Writes s neg d p → read s ≡ Number (round binary32 neg d p))
+    (either : (s : List ℕ) → ((neg : Bool) × (d : ℕ) × (p : ℕ) × Writes s neg d p) ⊎ (read s ≡ NoNumber)) where
   apart : (s : List ℕ) (r : Float) → read s ≡ NoNumber → read s ≡ Number r → ⊥
   apart s r h k = let z : _≡_ {A = ℕ} 0 1 = cc in omega arith
 

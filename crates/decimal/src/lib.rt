@@ -152,10 +152,10 @@ fn short(neg: bool, d: u64, p: u64) -> f32
 }
 
 // The bits of the f32 nearest to d / 10 ^ places, but for the sign's. The twos of 10 ^ places go into
-// the exponent: the divisor is a power of five, and one division of 64 bits nearly always gives the
-// 24 binary digits of an f32.
+// the exponent: the divisor is a power of five, below 2 ^ 63 up to 5 ^ 27, and one division of 64 bits gives most
+// of the 24 binary digits of an f32.
 fn magnitude(d: u64, places: usize, five: u64) -> u32
-    requires { ⌜ (places ≤ mostDigits) × (five ≡ 5 ^ places) ⌝ }
+    requires { ⌜ (places ≤ 27) × (five ≡ 5 ^ places) ⌝ }
     ensures { λ r. ⌜ BitsOf d (10 ^ places) r ⌝ }
 {
     if d == 0 {
@@ -174,7 +174,7 @@ fn magnitude(d: u64, places: usize, five: u64) -> u32
 
 // How often five is doubled to reach 2 ^ 39: not at all where it is more.
 fn doublings(five: u64) -> u32
-    requires { ⌜ (0 < five) × (five < 2 ^ 42) ⌝ }
+    requires { ⌜ (0 < five) × (five < 2 ^ 63) ⌝ }
     ensures { λ r. ⌜ DoublesTo five r ⌝ }
 {
     let zeros = u64::leading_zeros(five);
@@ -192,7 +192,7 @@ struct Divisor {
 
 // Five doubled to reach 2 ^ 39, and once more where the quotient of num would have more than 24 digits.
 fn scaled(num: u64, five: u64) -> Divisor
-    requires { ⌜ (0 < five) × (five < 2 ^ 42) ⌝ }
+    requires { ⌜ (0 < five) × (five < 2 ^ 63) ⌝ }
     ensures { λ r. ⌜ ScalesTo num five (r .den) (r .up) ⌝ }
 {
     let up = doublings(five);
@@ -213,9 +213,9 @@ struct Quotient {
     down: u64,
 }
 
-// Until the quotient has 24 digits: at once, but for 5 ^ 18.
+// Until the quotient has 24 digits: at once up to 5 ^ 17, and a digit at a time past that.
 fn divided(num: u64, den: u64) -> Quotient
-    requires { ⌜ (0 < num) × ((0 < den) × ((den < 2 ^ 42) × (num < 16777216 * den))) ⌝ }
+    requires { ⌜ (2 ^ 63 ≤ num) × ((den < 2 ^ 63) × (num < 16777216 * den)) ⌝ }
     ensures { λ r. ⌜ DividesTo num den (r .m) (r .rest) (r .down) ⌝ }
 {
     let mut m = num / den;
@@ -235,7 +235,7 @@ fn divided(num: u64, den: u64) -> Quotient
 
 // m, or the next number up where the rest is more than half of den, or half of it and m is odd.
 fn rounded(m: u64, rest: u64, den: u64) -> u64
-    requires { ⌜ (m < 16777216) × ((rest < den) × (den < 2 ^ 42)) ⌝ }
+    requires { ⌜ (m < 16777216) × ((rest < den) × (den < 2 ^ 63)) ⌝ }
     ensures { λ r. ⌜ r ≡ Ieee.nearest m (compare (rest * 2) den) ⌝ }
 {
     if rest * 2 + m % 2 <= den { m } else { m + 1 }

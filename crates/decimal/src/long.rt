@@ -1,6 +1,7 @@
 // A token with any number of digits and perhaps an exponent, read as a number: rounded once to the nearest f32, or no number.
 use crate::Token;
 use crate::magnitude;
+use crate::read;
 use crate::signed;
 use crate::wide::long_magnitude;
 ghost use mathlib.Core.Path.{_≡_};
@@ -19,8 +20,17 @@ const MOST_SIGNIFICANT: u32 = 19;
 // A power of ten from here on is beyond every number of digits that a slice can have.
 const HUGE: u64 = 10000000000000000000;
 
-// A token: an optional sign, digits with at most one point, and perhaps an exponent.
+// A token: an optional sign, digits with at most one point, and perhaps an exponent. Most are short, and are read as such.
 pub fn read_long(s: &[u8]) -> Token
+    ensures { λ r. ⌜ r ≡ readLongOf (now (s .entry)) ⌝ }
+{
+    match read(s) {
+        Token::Number(x) => Token::Number(x),
+        Token::NoNumber => by_parts(s),
+    }
+}
+
+fn by_parts(s: &[u8]) -> Token
     ensures { λ r. ⌜ r ≡ readLongOf (now (s .entry)) ⌝ }
 {
     let sign = sign_at(s, 0);
@@ -276,7 +286,14 @@ fn number(d: Decimal, power: u64, lower: bool) -> Token
     if MOST_SIGNIFICANT < d.count {
         return Token::NoNumber;
     }
-    let x = moved(d.neg, d.value, d.zeros as u64, d.places as u64, power, lower);
+    let x = moved(
+        d.neg,
+        d.value,
+        d.zeros as u64,
+        d.places as u64,
+        power,
+        lower,
+    );
     Token::Number(x)
 }
 
@@ -310,15 +327,9 @@ fn cancelled(a: u64, b: u64) -> Left
     ensures { λ r. ⌜ Cancels a b (r .up) (r .down) ⌝ }
 {
     if a < b {
-        return Left {
-            up: 0,
-            down: b - a,
-        };
+        return Left { up: 0, down: b - a };
     }
-    Left {
-        up: a - b,
-        down: 0,
-    }
+    Left { up: a - b, down: 0 }
 }
 
 // d * 10 ^ up / 10 ^ down to the nearest f32, a tie to even, negative where neg.
@@ -335,7 +346,7 @@ fn tens_magnitude(d: u64, up: u64, down: u64) -> u32
     ensures { λ r. ⌜ BitsOf (d * 10 ^ up) (10 ^ down) r ⌝ }
 {
     if up == 0 {
-        if down <= 18 {
+        if down <= 27 {
             return magnitude(d, down as usize, five_to(down));
         }
     }
@@ -352,7 +363,7 @@ fn tens_magnitude(d: u64, up: u64, down: u64) -> u32
 }
 
 fn five_to(n: u64) -> u64
-    requires { ⌜ n ≤ 18 ⌝ }
+    requires { ⌜ n ≤ 27 ⌝ }
     ensures { λ r. ⌜ r ≡ 5 ^ n ⌝ }
 {
     let mut five: u64 = 1;

@@ -17,7 +17,7 @@ struct Wide {
 
 // The bits of the f32 nearest to d * 10 ^ up / 10 ^ down, but for the sign's. The twos of the tens go into the exponent:
 // the division is of d * 5 ^ up by 5 ^ down.
-pub fn long_magnitude(d: u64, up: u64, down: u64) -> u32
+pub(crate) fn long_magnitude(d: u64, up: u64, down: u64) -> u32
     requires { ⌜ (0 < d) × ((up ≤ 38) × (down ≤ 64)) ⌝ }
     ensures { λ r. ⌜ BitsOf (d * 10 ^ up) (10 ^ down) r ⌝ }
 {

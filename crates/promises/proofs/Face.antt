@@ -16,6 +16,7 @@ use Rattle.colorgrad_c.proofs.leaves.colorgrad_cutoff.Reads as of-cutoff
 use Rattle.colorgrad_c.proofs.leaves.colorgrad_threshold.Reads as of-threshold
 use Rattle.colorgrad_c.proofs.leaves.colorgrad_hold.Reads as of-hold
 use Rattle.colorgrad_c.proofs.leaves.colorgrad_token_told.Reads as of-token
+use Rattle.colorgrad_c.proofs.leaves.colorgrad_long_token_told.Reads as of-long-token
 use Rattle.colorgrad_c.proofs.about.colorgrad_version.Reads as of-version
 use Rattle.colorgrad_c.proofs.about.colorgrad_message_told.Reads as of-message
 use Rattle.colorgrad_c.proofs.about.colorgrad_verdict_message_told.Reads as of-verdict-message
@@ -57,6 +58,9 @@ version κs a = coincide (λ r e w. w)
 
 pub token : (κs : Lfts 2) (a : _) → Coincide (of-token.Learnt κs a) (λ r e. r with now (e .1 .0))
 token κs a = coincide (λ r e w. both (w .0) (w .1))
+
+pub long-token : (κs : Lfts 2) (a : _) → Coincide (of-long-token.Learnt κs a) (λ r e. r with now (e .1 .0))
+long-token κs a = coincide (λ r e w. both (w .0) (w .1))
 
 pub message : (κs : Lfts 1) (a : _) → Coincide (of-message.Learnt κs a) (λ r e. r with now (e .1 .0))
 message κs a = coincide (λ r e w. both (w .0) (w .1))

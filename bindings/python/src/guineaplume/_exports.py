@@ -52,6 +52,7 @@ DECLARED = {
     'colorgrad_root': '(x: f32) -> f32',
     'colorgrad_cutoff': '(t: f32) -> f32',
     'colorgrad_token_told': '(text: &[u8], value: &mut [f32]) -> u32',
+    'colorgrad_long_token_told': '(text: &[u8], value: &mut [f32]) -> u32',
     'colorgrad_message_told': '(refusal: u32, out: &mut [u8]) -> usize',
     'colorgrad_verdict_message_told': '(verdict: u32, out: &mut [u8]) -> usize',
     'colorgrad_version': '() -> u32',

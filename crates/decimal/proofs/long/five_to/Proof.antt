@@ -18,7 +18,7 @@ loop-holds : tie.Need-loop-holds Inv-loop μ-loop
 loop-holds c = (omega arith, refl)
 
 mul-five : tie.Need-mul-five Inv-loop μ-loop
-mul-five c = let l = c .before .loop in let h = five-le (l .i) 18 (omega arith) in record { fits = omega (arith, l .inv .1, h) }
+mul-five c = let l = c .before .loop in let h = five-le (l .i) 26 (omega arith) in record { fits = omega (arith, l .inv .1, h) }
 
 loop-again : tie.Need-loop-again Inv-loop μ-loop
 loop-again c = let l = c .before .loop in (omega arith, ap (λ (x : ℕ). x * 5) (l .inv .1) ∙ sym (pow-add 5 (l .i) 1))
