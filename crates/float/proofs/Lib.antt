@@ -23,3 +23,6 @@ pub mod Adjacent
 pub mod Neighbours
 pub mod RoundOff
 pub mod OperationsOff
+pub mod Beside
+pub mod SignedOff
+pub mod Placed
