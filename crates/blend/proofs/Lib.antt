@@ -1,3 +1,4 @@
 pub mod Channels
 pub mod Curves
 pub mod FiniteLists
+pub mod MixErrors
