@@ -2,3 +2,4 @@ pub mod Channels
 pub mod Curves
 pub mod FiniteLists
 pub mod MixErrors
+pub mod MixOff

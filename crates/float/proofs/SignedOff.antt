@@ -65,7 +65,7 @@ quotient a b e c f p q u ha hb he =
     swapped : p * c * (e * u) ≡ p * c * (q * f) → p * c * f * q ≡ p * u * (e * c)
     swapped h = omega (arith, h)
 
-some-up : (y : Float) (q : ℕ) → pro y * 2 ^ 149 ≡ q * den y → 0 < q → 0 < pro y
+pub some-up : (y : Float) (q : ℕ) → pro y * 2 ^ 149 ≡ q * den y → 0 < q → 0 < pro y
 some-up y q h Q = go (decLe (pro y) 0)
   where
     none : (a u b : ℕ) → a ≤ 0 → a * u ≡ b → b ≡ 0
