@@ -21,13 +21,8 @@ use Rattle.float.proofs.OperationsOff.{counted-up, sub-off, mul-off}
 use Rattle.float.proofs.SignedOff.{counted-down, add-signed-off, some-up, div-off}
 use Rattle.float.proofs.Placed.{Placed, place-le, place-sub}
 use Rattle.blend.specs.Blend.{linear1}
+use Rattle.blend.proofs.Clear.{Clear, clear-finite, clear-counted}
 use Rattle.blend.proofs.MixErrors.{Steps, Mixed, mixed-up, mixed-down}
-
--- ---- an f32 from 0 to 1
-pub record Clear (x : Float) : Type 0 where
-  pub single : T (fits binary32 x)
-  pub low : T (le f0 x)
-  pub high : T (le x f1)
 
 units : T (finite f0) × T (finite f1) × T (le f0 f0) × T (le f1 f1) × T (finite (f1 ⊖ f0)) × T (finite (f0 ⊖ f1)) × T (le f0 (f0 ⊗ f0)) × T (le (f0 ⊗ f1) f0)
 unfolding ofBits neg add sub sum mul round le
@@ -40,12 +35,6 @@ bounds = (tt, tt, tt, tt, tt, tt)
 one-counted : Counted f1 (2 ^ 149) 0
 unfolding ofBits
 one-counted = record { whole = tt; single = ofBits-fits binary32 0x3f80_0000; up = refl; down = refl }
-
-pub clear-finite : (x : Float) → Clear x → T (finite x)
-clear-finite x w = order.finite-between f0 x f1 (units .0) (units .1) (w .low) (w .high)
-
-clear-counted : (x : Float) → Clear x → Counted x (count x) 0
-clear-counted x w = counted-up x (w .single) (clear-finite x w) (w .low)
 
 in-order : (x y : Float) (p q : ℕ) → Counted x p 0 → Counted y q 0 → T (le x y) → p ≤ q
 in-order x y p q h k l = bare p q (le-units x y p 0 q 0 h k l)
