@@ -3,6 +3,7 @@ pub mod Ends
 pub mod Colours
 pub mod Equal
 pub mod Singles
+pub mod SingleColours
 pub mod FreshPoints
 pub mod Values
 pub mod Emitted
@@ -25,3 +26,4 @@ pub mod EndChannel
 pub mod EndDistance
 pub mod Depths
 pub mod Asked
+pub mod NeverMerged
