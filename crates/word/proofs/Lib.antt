@@ -27,3 +27,5 @@ pub mod EndDistance
 pub mod Depths
 pub mod Asked
 pub mod NeverMerged
+pub mod TwoLines
+pub mod ThreePlaces
