@@ -29,3 +29,5 @@ pub mod Asked
 pub mod NeverMerged
 pub mod TwoLines
 pub mod ThreePlaces
+pub mod ClearDistance
+pub mod LinearPairs

@@ -85,7 +85,7 @@ off-by l r L R d D u h k =
     into : (p q x y : ℕ) → p * d ≡ x → q * D ≡ y → 2 ^ 28 * p * d ≤ 102 * (u * D) * d → 2 ^ 28 * q * D ≤ 102 * (u * d) * D → 2 ^ 28 * (x + y) ≤ 204 * (u * (D * d))
     into p q x y e f a b = omega (arith, e, f, a, b)
 
-turn : (x y : ℕ) → gap x y ≡ gap y x
+pub turn : (x y : ℕ) → gap x y ≡ gap y x
 turn x y = omega arith
 
 three-ways : (p q x y z : ℕ) → p ≤ x + q → q ≤ y + z → p ≤ y + (x + z)
