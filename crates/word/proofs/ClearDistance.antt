@@ -62,7 +62,7 @@ module _ (x y : Rgba) (wx : ClearColour x) (wy : ClearColour y) where
   pub no-more : (hold : Float) → Plain hold → T (le (distanceOf x y) hold) → count (distanceOf x y) ≤ count hold
   no-more hold w h = in-order (distanceOf x y) hold _ _ (plain-counted _ plain-distance) (plain-counted hold w) h
 
-  turned : (m : ℕ) → Apart m (unitsOf x) (unitsOf y) → Apart m (unitsOf y) (unitsOf x)
+  pub turned : (m : ℕ) → Apart m (unitsOf x) (unitsOf y) → Apart m (unitsOf y) (unitsOf x)
   turned m h = rw (turn (count (y .r)) (count (x .r)), turn (count (y .g)) (count (x .g)), turn (count (y .b)) (count (x .b)), turn (count (y .a)) (count (x .a))) h
 
   pub near-apart : (h : ℕ) → count (distanceOf x y) ≤ h → Apart (bound h far) (unitsOf y) (unitsOf x)

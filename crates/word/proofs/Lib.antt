@@ -31,3 +31,4 @@ pub mod TwoLines
 pub mod ThreePlaces
 pub mod ClearDistance
 pub mod LinearPairs
+pub mod Knots
