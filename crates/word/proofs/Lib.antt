@@ -32,3 +32,5 @@ pub mod ThreePlaces
 pub mod ClearDistance
 pub mod LinearPairs
 pub mod Knots
+pub mod Ladders
+pub mod Inside
