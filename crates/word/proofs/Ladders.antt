@@ -1,27 +1,31 @@
--- Linear stops that never fall, and a pair of neighbours among them: how far off its line the colour between the two is (`pair-mixed`), and that it is clear (`pair-clear`). Assumes nothing.
-use mathlib.Core.Path.{_≡_, sym, _∙_, subst}
-use mathlib.Core.Bool.{true≢false}
+-- Linear stops that never fall, and a pair of neighbours among them: how far off its line the colour between the two is (`pair-mixed`), that it is clear (`pair-clear`), which pair t lies in (`found`), and that where the stops are clear the colour is throughout (`clear-at`). Assumes nothing.
+use mathlib.Core.Path.{_≡_, refl, sym, _∙_, subst}
+use mathlib.Core.Bool.{Bool, true, false, true≢false}
 use mathlib.Core.List.{List}
 use Prim.Native.Nat.{ℕ, suc, _+_, _-_, _*_, _^_, _≤_, _<_}
 use native.Mathlib.Nat.{lt-of-not-le}
 use native.Mathlib.Omega.{arith}
 use lib.Dec.{T}
 use lib.ListN.{length}
-use lib.Ieee.{Float, ofBits, le, lt}
+use lib.Ieee.{Float, ofBits, le, lt, isNan}
 use lib.Ieee.Bits.{is-true}
 use lib.Ieee.Scale.{finite}
 use Rattle.float.specs.F32.{_⊖_, f0}
-use Rattle.float.proofs.Order.{lt→le, le→not-lt, finite-between}
+use Rattle.float.proofs.Order.{as-T, lt-is, lt→le, le→not-lt, no-nan-l, finite-between}
 use Rattle.float.proofs.Rounding.{sub-mono, sub-rising}
-use Rattle.float.proofs.Placed.{Placed, le-place}
+use Rattle.float.proofs.Placed.{Placed, placed, le-place}
 use Rattle.blend.specs.declared.Rgba.{Rgba}
 use Rattle.difference.proofs.Measuring.{ClearColour}
 use Rattle.stops.specs.Lent.{Ramp}
 use Rattle.stops.specs.Stops.{posAt, colourAt}
-use Rattle.stops.specs.Place.{Rising}
+use Rattle.stops.specs.Place.{Rising, firstAt}
+use Rattle.stops.specs.Pair.{colourIn}
 use Rattle.stops.specs.declared.Kind.the-variants.{Linear}
+use Rattle.stops.proofs.Valid.{first-le, first-pos}
+use Rattle.stops.proofs.Choice.{first-reaches, before-first, place-first, place-last}
 use Rattle.gradient.specs.Ramp.{colourOf}
 use Rattle.word.proofs.Singles.{Single}
+use Rattle.word.proofs.Weighed.{not-le}
 use Rattle.word.proofs.TwoLines.{MixedFour}
 use Rattle.word.proofs.ClearDistance.{unitsOf}
 use Rattle.word.proofs.LinearPairs.{mixAt, on-pair, mixed-at, mix-clear}
@@ -70,3 +74,57 @@ module _ (ramp : Ramp) (of-kind : ramp .kind ≡ Linear) (s : Ladder (ramp .posi
   pair-clear x from to before =
       subst ClearColour (sym (pair-is x from to before))
       (mix-clear (posAt ps j) (posAt ps (suc j)) x (s .singles j (omega arith)) (s .singles (suc j) inside) (s .whole j (omega arith)) (s .whole (suc j) inside) from to (step-finite ps s j inside) c e wc we)
+
+-- ---- the pair that t lies in
+pub record Found (xs : List Float) (t : Float) : Type 0 where
+  pub j : ℕ
+  pub inside : suc j < length xs
+  pub from : T (lt (posAt xs j) t)
+  pub to : T (le t (posAt xs (suc j)))
+
+below : (x t : Float) → isNan x ≡ false → isNan t ≡ false → le t x ≡ false → T (lt x t)
+below x t n k h = subst T (sym (lt-is x t n k)) (rw h tt)
+
+pub found : (xs : List Float) → Ladder xs → 2 ≤ length xs → (t : Float) → T (lt (posAt xs 0) t) → T (lt t (posAt xs (length xs - 1))) → Found xs t
+found xs w two t low high =
+    let k = firstAt t xs in
+    let a = first-pos t xs (omega arith) (not-le (posAt xs 0) t low) in
+    let b = first-le t xs (length xs - 1) (omega arith) (is-true _ (lt→le t (posAt xs (length xs - 1)) high)) in
+    let e : suc (k - 1) ≡ k = omega arith in
+    record {
+      j = k - 1;
+      inside = omega arith;
+      from = below (posAt xs (k - 1)) t (no-nan-l _ _ (w .rising (k - 1) (k - 1) (omega arith) (omega arith))) (no-nan-l t _ (lt→le t (posAt xs (length xs - 1)) high)) (before-first t xs (k - 1) (omega arith));
+      to = subst (λ (n : ℕ). T (le t (posAt xs n))) (sym e) (as-T _ (first-reaches t xs (omega arith)));
+    }
+
+-- ---- where the stops are clear, the colour is clear throughout
+module _ (ramp : Ramp) (of-kind : ramp .kind ≡ Linear) (s : Ladder (ramp .positions)) (two : 2 ≤ length (ramp .positions)) (stop-clear : (i : ℕ) → i < length (ramp .positions) → ClearColour (colourAt (ramp .channels) i)) where
+  abbrev xs : List Float
+  xs = ramp .positions
+
+  number-at : (i : ℕ) → i < length xs → isNan (posAt xs i) ≡ false
+  number-at i l = no-nan-l _ _ (s .rising i i (omega arith) l)
+
+  at-first : (t : Float) → le t (posAt xs 0) ≡ true → colourOf ramp t ≡ colourAt (ramp .channels) 0
+  unfolding colourOf colourIn
+  at-first t d = rw (of-kind, place-first xs t d)
+
+  at-last : (t : Float) → le t (posAt xs 0) ≡ false → le (posAt xs (length xs - 1)) t ≡ true → colourOf ramp t ≡ colourAt (ramp .channels) (length xs - 1)
+  unfolding colourOf colourIn
+  at-last t d k = rw (of-kind, place-last xs t d k)
+
+  pub clear-at : (t : Float) → isNan t ≡ false → ClearColour (colourOf ramp t)
+  clear-at t n = go (le t (posAt xs 0)) (le (posAt xs (length xs - 1)) t) refl refl
+    where
+      go : (a b : Bool) → le t (posAt xs 0) ≡ a → le (posAt xs (length xs - 1)) t ≡ b → ClearColour (colourOf ramp t)
+      go true b d k = subst ClearColour (sym (at-first t d)) (stop-clear 0 (omega arith))
+      go false true d k = subst ClearColour (sym (at-last t d k)) (stop-clear (length xs - 1) (omega arith))
+      go false false d k =
+          let high = below t (posAt xs (length xs - 1)) n (number-at (length xs - 1) (omega arith)) k in
+          let w = found xs s two t (below (posAt xs 0) t (number-at 0 (omega arith)) n d) high in
+          let l = w .inside in
+          let j = w .j in
+          let p = placed (posAt xs j) (s .singles j (omega arith)) (s .whole j (omega arith)) in
+          let q = placed (posAt xs (suc j)) (s .singles (suc j) l) (s .whole (suc j) l) in
+          pair-clear ramp of-kind s j l _ _ refl refl (stop-clear j (omega arith)) (stop-clear (suc j) l) _ _ _ (p .1) (q .1) t (w .from) (w .to) high

@@ -34,3 +34,4 @@ pub mod LinearPairs
 pub mod Knots
 pub mod Ladders
 pub mod Inside
+pub mod Everywhere
