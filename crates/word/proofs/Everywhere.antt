@@ -70,7 +70,7 @@ module _ (ramp : Ramp) (unit : UnitRamp ramp) (passes : checkOf ramp ≡ Fine) (
   unfolding minIn maxIn
   own = record { rising = ok .rising; singles = unit .places; whole = λ i l. as-T _ (ok .finite-at i l); span = rw of-stops at (span-finite (minOf ramp) (maxOf ramp) domain) }
 
-  clear : (t : Float) → ClearColour (colourOf ramp t)
+  pub clear : (t : Float) → ClearColour (colourOf ramp t)
   clear t =
       let s = colour-single ramp (every-of (ramp .channels) (unit .channels)) t in
       let u = unit-everywhere ramp ok (unit .places) (own .span) (unit .linear) (unit .within) (unit .channels) t in

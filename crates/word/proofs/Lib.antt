@@ -35,3 +35,4 @@ pub mod Knots
 pub mod Ladders
 pub mod Inside
 pub mod Everywhere
+pub mod EverywhereCalls

@@ -42,7 +42,7 @@ module _ (P : Site → Type 0) where
   each-get (s ∷ ss) zero d w l = w .0
   each-get (s ∷ ss) (suc i) d w l = each-get ss i d (w .1) (omega arith)
 
-  each-drop : (r : ℕ) (ss : List Site) → Each P ss → Each P (drop r ss)
+  pub each-drop : (r : ℕ) (ss : List Site) → Each P ss → Each P (drop r ss)
   each-drop zero ss w = w
   each-drop (suc r) [] w = w
   each-drop (suc r) (s ∷ ss) w = each-drop r ss (w .1)
