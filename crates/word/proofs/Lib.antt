@@ -27,6 +27,16 @@ pub mod EndDistance
 pub mod Depths
 pub mod Asked
 pub mod NeverMerged
+pub mod FewStops
+pub mod MixSteps
+pub mod MixLine
+pub mod Straight
+pub mod StraightPair
+pub mod StraightRamp
+pub mod LentSites
+pub mod LinearSteps
+pub mod FewEnough
+pub mod NeverRefused
 pub mod TwoLines
 pub mod ThreePlaces
 pub mod ClearDistance
