@@ -19,16 +19,12 @@ use Rattle.float.proofs.OperationsOff.{counted-up, sub-off, add-off, mul-off, h
 use Rattle.sqrt.specs.Root.{rootOf}
 use Rattle.sqrt.proofs.Squared.{root-single, root-squared}
 use Rattle.blend.specs.declared.Rgba.{Rgba}
+use Rattle.blend.proofs.Clear.{Clear, clear-finite, clear-counted}
 use Rattle.difference.specs.Difference.{clampedOf, squaresOf, distanceOf}
 use Rattle.difference.proofs.Errors.{Squarely, Measured}
 use Rattle.difference.proofs.Sizes.{From0, from0-finite, square-small, Room, Small, most2, most3, most4, two-small, three-small, squares-small, half-mono, root-from0, half-root}
 
--- ---- an f32 from 0 to 1
-pub record Clear (x : Float) : Type 0 where
-  pub single : T (fits binary32 x)
-  pub low : T (le f0 x)
-  pub high : T (le x f1)
-
+-- ---- a colour whose channels are from 0 to 1
 pub record ClearColour (c : Rgba) : Type 0 where
   pub red : Clear (c .r)
   pub green : Clear (c .g)
@@ -46,12 +42,6 @@ room1 = record { whole = tt; one = tt; two = tt; three = tt; four = tt }
 root4 : T (finite (rootOf (most4 f1))) × T (finite (rootOf (most4 f1) ⊘ f2)) × T (le (rootOf (most4 f1) ⊘ f2) f1)
 unfolding rootOf ofBits mul add sum div round le
 root4 = (tt, tt, tt)
-
-clear-finite : (x : Float) → Clear x → T (finite x)
-clear-finite x w = order.finite-between f0 x f1 (unit-facts .0) (unit-facts .1) (w .low) (w .high)
-
-clear-counted : (x : Float) → Clear x → Counted x (count x) 0
-clear-counted x w = counted-up x (w .single) (clear-finite x w) (w .low)
 
 module _ (a b : Float) (wa : Clear a) (wb : Clear b) where
   small : Small (a ⊖ b) f1

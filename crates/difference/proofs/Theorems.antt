@@ -19,9 +19,10 @@ use Rattle.float.proofs.UnitSums.{Counted, le-units}
 use Rattle.float.proofs.RoundOff.{gap}
 use Rattle.float.proofs.OperationsOff.{counted-up}
 use Rattle.blend.specs.declared.Rgba.{Rgba}
+use Rattle.blend.proofs.Clear.{Clear}
 use Rattle.difference.specs.Difference.{clampedOf, distanceOf}
 use Rattle.difference.specs.Measure.{SingleColour, Plain, AtMost, Beyond}
-use Rattle.difference.proofs.Measuring.{Clear, ClearColour, half-from0, half-finite, measured}
+use Rattle.difference.proofs.Measuring.{ClearColour, half-from0, half-finite, measured}
 use Rattle.difference.proofs.Legs.{Four, Leg, two-legs, three-legs}
 use Rattle.difference.proofs.Numbers.{Number, Numbers, numbers}
 

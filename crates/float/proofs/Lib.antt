@@ -25,3 +25,6 @@ pub mod Quotients
 pub mod Chains
 pub mod RoundOff
 pub mod OperationsOff
+pub mod Beside
+pub mod SignedOff
+pub mod Placed

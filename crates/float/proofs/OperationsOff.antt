@@ -38,18 +38,18 @@ counted-up (fin true zero e) t f h =
 counted-up (fin true (suc m) e) t f h = absurd (above-zero m (up e) (up-pos e) (no-con (fin true (suc m) e) f h))
 
 -- ---- differences and sums of what is not negative
-gap-times : (a b k : ℕ) → gap a b * k ≡ gap (a * k) (b * k)
+pub gap-times : (a b k : ℕ) → gap a b * k ≡ gap (a * k) (b * k)
 gap-times a b k = add-mul (a - b) (b - a) k ∙ ap₂ _+_ (minus-times a b) (minus-times b a)
   where
     minus-times : (x y : ℕ) → (x - y) * k ≡ x * k - y * k
     minus-times x y = mul-comm (x - y) k ∙ mul-sub k x y ∙ ap₂ _-_ (mul-comm k x) (mul-comm k y)
 
 -- p / c and n / c are x and y units
-in-units : (r p n c x y u : ℕ) → 0 < c → p * u ≡ x * c → n * u ≡ y * c → Off r (gap p n * u) c → Part r (gap x y)
+pub in-units : (r p n c x y u : ℕ) → 0 < c → p * u ≡ x * c → n * u ≡ y * c → Off r (gap p n * u) c → Part r (gap x y)
 in-units r p n c x y u C ep en h =
     whole-off r (gap x y) (same-off r (gap p n * u) c (gap x y) 1 C (mul-one (gap p n * u) ∙ gap-times p n u ∙ ap₂ gap ep en ∙ sym (gap-times x y c)) h)
 
-crossed : (a e c f x y u : ℕ) → a * u ≡ x * c → e * u ≡ y * f → (a * f + e * c) * u ≡ (x + y) * (c * f)
+pub crossed : (a e c f x y u : ℕ) → a * u ≡ x * c → e * u ≡ y * f → (a * f + e * c) * u ≡ (x + y) * (c * f)
 crossed a e c f x y u p q = omega (arith, ap (λ (n : ℕ). n * f) p, ap (λ (n : ℕ). n * c) q)
 
 bare : (x y : ℕ) → gap (x + 0) (0 + y) ≡ gap x y

@@ -39,3 +39,12 @@ pub mod LinearSteps
 pub mod LinearEnd
 pub mod FewEnough
 pub mod NeverRefused
+pub mod TwoLines
+pub mod ThreePlaces
+pub mod ClearDistance
+pub mod LinearPairs
+pub mod Knots
+pub mod Ladders
+pub mod Inside
+pub mod Everywhere
+pub mod EverywhereCalls

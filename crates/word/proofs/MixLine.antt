@@ -22,7 +22,7 @@ use Rattle.float.proofs.Rounding.{sub-mono, sub-rising, mul-mono, neg-finite, d
 use Rattle.float.proofs.SignedRound.{pro, con, le→linear, rounds-le, zero-rounds, neg-le}
 use Rattle.float.proofs.Spans.{mul-under, mul-over, mul-swap, sub-rounds, div-rounds, quotient-low, quotient-high}
 use Rattle.blend.specs.Blend.{linear1}
-use Rattle.difference.proofs.Measuring.{Clear}
+use Rattle.blend.proofs.Clear.{Clear}
 use Rattle.word.proofs.MixSteps.{Mixed}
 
 -- ---- quotients of what is not negative, in units

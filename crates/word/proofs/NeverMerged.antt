@@ -88,7 +88,7 @@ constants : T (finite leastThreshold) × T (finite mostThreshold) × T (le f0 le
 unfolding ofBits le
 constants = (tt, tt, tt)
 
-hold-plain : (asked hold : Float) → Single asked → Single hold → Plain (holdOf asked hold)
+pub hold-plain : (asked hold : Float) → Single asked → Single hold → Plain (holdOf asked hold)
 hold-plain asked hold sa sh =
     record {
       single = hold-single;

@@ -9,7 +9,7 @@ use Rattle.float.specs.F32.{_⊖_, _⊘_, f0}
 use Rattle.float.specs.Units.{count}
 use Rattle.float.proofs.Order as order
 use Rattle.blend.specs.Blend.{linear1}
-use Rattle.difference.proofs.Measuring.{Clear}
+use Rattle.blend.proofs.Clear.{Clear}
 use Rattle.word.proofs.MixSteps.{Line, mixed-line, straight}
 use Rattle.word.proofs.MixLine.{counts-le, one-most, mixed-at}
 

@@ -17,7 +17,8 @@ use Rattle.blend.specs.Blend.{linear, linear1}
 use Rattle.blend.specs.declared.Rgba.{Rgba}
 use Rattle.difference.specs.Difference.{distanceOf}
 use Rattle.difference.proofs.Sizes.{Small}
-use Rattle.difference.proofs.Measuring.{Clear, ClearColour}
+use Rattle.blend.proofs.Clear.{Clear}
+use Rattle.difference.proofs.Measuring.{ClearColour}
 use Rattle.sampling.specs.Constants.{leastThreshold}
 use Rattle.ordinary.proofs.UnitBlend.{blend-low, blend-high}
 use Rattle.word.proofs.EndSums.{clamp-id, slack, slack-units, sum-over}

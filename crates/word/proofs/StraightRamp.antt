@@ -18,7 +18,8 @@ use Rattle.blend.specs.Blend.{linear}
 use Rattle.blend.specs.Pair.{linearPair}
 use Rattle.blend.specs.declared.Rgba.{Rgba}
 use Rattle.difference.specs.Difference.{distanceOf}
-use Rattle.difference.proofs.Measuring.{Clear, ClearColour}
+use Rattle.blend.proofs.Clear.{Clear}
+use Rattle.difference.proofs.Measuring.{ClearColour}
 use Rattle.stops.specs.Lent.{Ramp}
 use Rattle.stops.specs.Stops.{posAt, colourAt}
 use Rattle.stops.specs.Place.{firstAt, placeOf}

@@ -39,7 +39,7 @@ limits : T (le (neg tame) f0) × T (le f1 tame)
 unfolding ofBits neg le
 limits = (tt, tt)
 
-unit-tame : (x : Float) → Single x → T (le f0 x) → T (le x f1) → Tame x
+pub unit-tame : (x : Float) → Single x → T (le f0 x) → T (le x f1) → Tame x
 unit-tame x s a b = record { single = s; least = le-trans (neg tame) f0 x (limits .0) a; most = le-trans x f1 tame b (limits .1) }
 
 pub ordinary-tame : (ramp : Ramp) → Ordinary ramp → TameOnDomain ramp
