@@ -108,7 +108,8 @@ function label(page) {
     setText($('ramp-label'), `Ramp: ${KINDS[ramp.kind]}, ${counted(ramp)}`);
     setText($('list-label'), `List: ${count}`);
     const [min, max] = page.ends.map(brief);
-    setAttributes($('ramp-band'), { 'aria-label': `The ramp, ${KINDS[ramp.kind]}, ${counted(ramp)}, from ${min} to ${max}. The table of stops has its colours.` });
+    const words = `The ramp, ${KINDS[ramp.kind]}, ${counted(ramp)}, from ${min} to ${max}. The table of stops has its colours.`;
+    setAttributes($('ramp-band'), { 'aria-label': words });
     setAttributes($('list-band'), { 'aria-label': `Its list, ${count}.` });
     const marks = children($('axis'), 5, () => make('span'));
     marks.forEach((mark, i) => setText(mark, brief(page.at(i / 4))));
