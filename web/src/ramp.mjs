@@ -46,7 +46,8 @@ export function asList(ramp) {
 /** GIMP segments are mixed linearly where each is plain, RGB, and has its middle half-way; where two do not meet in one
  * colour, the position comes twice. */
 function joined({ positions, channels, codes }) {
-    const isCentred = i => Math.abs(Math.fround(Math.fround(positions[i + 1] - positions[i]) - Math.fround(positions[i + 2] - positions[i + 1]))) <= Math.fround(1e-6);
+    const gap = i => Math.fround(positions[i + 1] - positions[i]);
+    const isCentred = i => Math.abs(Math.fround(gap(i) - gap(i + 1))) <= Math.fround(1e-6);
     const starts = Array.from({ length: positions.length / 3 }, (_, i) => 3 * i);
     if (codes.some(code => code !== 0) || !starts.every(isCentred)) return null;
     const stops = [];

@@ -8,7 +8,10 @@ import { Opened } from './opened.mjs';
 
 const RAMP = 'examples/lost-band.tsv';
 const CONTROLS = 'a[href], button, input, select, textarea, summary, [tabindex="0"]';
-const ROLES = ['button', 'textbox', 'slider', 'combobox', 'radio', 'checkbox', 'spinbutton', 'link', 'ColorWell', 'DisclosureTriangle', 'option', 'region'];
+const ROLES = ['button', 'textbox', 'slider', 'combobox', 'radio', 'checkbox', 'spinbutton', 'link', 'ColorWell', 'DisclosureTriangle',
+    'option', 'region'];
+const HEADINGS = ['Guineaplume', 'Ramp and list', 'Swell profile', 'Stops', 'Channels', 'Depths to tell apart', 'How the list is made',
+    'Save and open', 'What is proved here'];
 
 let page;
 let browser;
@@ -32,7 +35,7 @@ test('whatever takes the focus or shows something has a role and a name', async 
     assert.deepEqual(focusable.filter(node => !node.name.trim() || !ROLES.includes(node.role)), []);
     assert.deepEqual(said.filter(node => ['img', 'image', 'table', 'group', 'region'].includes(node.role) && !node.name.trim()), []);
     const headings = said.filter(node => node.role === 'heading').map(node => node.name);
-    assert.deepEqual(headings, ['Guineaplume', 'Ramp and list', 'Swell profile', 'Stops', 'Channels', 'Depths to tell apart', 'How the list is made', 'Save and open', 'What is proved here']);
+    assert.deepEqual(headings, HEADINGS);
     assert.equal(said.filter(node => node.role === 'status').length, 1);
     assert.equal(said.filter(node => node.role === 'alert').length, 1);
     assert.equal(said.filter(node => node.role === 'columnheader').length, 13);
@@ -45,7 +48,8 @@ test('the document has a language, a title, one main part, and every name that i
         const pointed = [...document.querySelectorAll('[aria-labelledby], [aria-describedby], [for]')]
             .flatMap(element => ['aria-labelledby', 'aria-describedby', 'for'].flatMap(name => (element.getAttribute(name) ?? '').split(' ')));
         const lost = pointed.filter(id => id && !ids.includes(id));
-        return [document.documentElement.lang, document.title, document.querySelectorAll('main').length, document.querySelectorAll('h1').length, twice, lost];
+        const parts = ['main', 'h1'].map(name => document.querySelectorAll(name).length);
+        return [document.documentElement.lang, document.title, ...parts, twice, lost];
     });
     assert.deepEqual(faults, ['en', 'lost-band – Guineaplume', 1, 1, [], []]);
 });

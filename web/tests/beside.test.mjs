@@ -40,7 +40,8 @@ function made(name, bytes) {
 
 /** What plume says of each file, as it says it of all at once, by the name. */
 function saidBy(folder, names, format, out) {
-    const { stderr, error } = spawnSync(PLUME, ['flatten', ...names, '--to', format, '-o', `${out}/`], { cwd: folder, encoding: 'utf8', maxBuffer: 1 << 28 });
+    const options = { cwd: folder, encoding: 'utf8', maxBuffer: 1 << 28 };
+    const { stderr, error } = spawnSync(PLUME, ['flatten', ...names, '--to', format, '-o', `${out}/`], options);
     assert.equal(error, undefined);
     const said = new Map(names.map(name => [name, []]));
     for (const line of stderr.split('\n')) {

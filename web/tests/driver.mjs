@@ -4,8 +4,13 @@ import { once } from 'node:events';
 import { createServer } from 'node:net';
 import { setTimeout as pause } from 'node:timers/promises';
 
+/** A machine may have much else to do. */
+export const TRIES = 600;
 const ELEMENT = 'element-6066-11e4-a52e-4f735466cecf';
-export const KEYS = { enter: '\ue007', escape: '\ue00c', tab: '\ue004', right: '\ue014', left: '\ue012', up: '\ue013', down: '\ue015', delete: '\ue017', insert: '\ue016', shift: '\ue008', control: '\ue009', home: '\ue011', end: '\ue010' };
+export const KEYS = {
+    enter: '\ue007', escape: '\ue00c', tab: '\ue004', delete: '\ue017', insert: '\ue016', home: '\ue011', end: '\ue010',
+    right: '\ue014', left: '\ue012', up: '\ue013', down: '\ue015', shift: '\ue008', control: '\ue009',
+};
 
 async function freePort() {
     const server = createServer().listen(0, '127.0.0.1');
@@ -23,23 +28,32 @@ export class Browser {
         const port = await freePort();
         browser.base = `http://127.0.0.1:${port}`;
         browser.driver = spawn('chromedriver', [`--port=${port}`], { stdio: 'ignore' });
-        await browser.ready();
-        // a container has no sandbox of its own for root, and a small /dev/shm
-        const args = ['--headless=new', '--no-sandbox', '--disable-dev-shm-usage', '--force-color-profile=srgb', `--window-size=${width},${height}`];
-        const prefs = downloads ? { 'download.default_directory': downloads, 'download.prompt_for_download': false } : {};
-        const wanted = { alwaysMatch: { browserName: 'chrome', 'goog:chromeOptions': { args, prefs } } };
-        const { sessionId } = await browser.send('POST', '/session', { capabilities: wanted });
-        browser.session = `/session/${sessionId}`;
+        try {
+            await browser.ready();
+            await browser.begin(width, height, downloads);
+        } catch (error) {
+            browser.driver.kill();
+            throw error;
+        }
         return browser;
     }
 
     async ready() {
-        for (let tries = 0; tries < 100; tries++) {
+        for (let tries = 0; tries < TRIES; tries++) {
             const answer = await fetch(`${this.base}/status`).then(said => said.json(), () => null);
             if (answer?.value.ready) return;
             await pause(50);
         }
         throw new Error('chromedriver does not answer');
+    }
+
+    async begin(width, height, downloads) {
+        // a container has no sandbox of its own for root, and a small /dev/shm
+        const args = ['--headless=new', '--no-sandbox', '--disable-dev-shm-usage', '--force-color-profile=srgb', `--window-size=${width},${height}`];
+        const prefs = downloads ? { 'download.default_directory': downloads, 'download.prompt_for_download': false } : {};
+        const wanted = { alwaysMatch: { browserName: 'chrome', 'goog:chromeOptions': { args, prefs } } };
+        const { sessionId } = await this.send('POST', '/session', { capabilities: wanted });
+        this.session = `/session/${sessionId}`;
     }
 
     async send(method, path, body) {
@@ -106,7 +120,8 @@ export class Browser {
     /** Keys pressed where the focus is; `held` stays down meanwhile. */
     press(keys, held = '') {
         const step = type => value => ({ type, value });
-        const actions = [...[...held].map(step('keyDown')), ...[...keys].flatMap(key => [step('keyDown')(key), step('keyUp')(key)]), ...[...held].map(step('keyUp'))];
+        const pressed = [...keys].flatMap(key => [step('keyDown')(key), step('keyUp')(key)]);
+        const actions = [...[...held].map(step('keyDown')), ...pressed, ...[...held].map(step('keyUp'))];
         return this.ask('POST', '/actions', { actions: [{ type: 'key', id: 'keys', actions }] });
     }
 
@@ -117,7 +132,7 @@ export class Browser {
 
     /** What a condition in the page gives, once it holds. */
     async until(f, ...args) {
-        for (let tries = 0; tries < 100; tries++) {
+        for (let tries = 0; tries < TRIES; tries++) {
             const value = await this.run(f, ...args);
             if (value) return value;
             await pause(30);

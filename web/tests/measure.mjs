@@ -11,7 +11,8 @@ const [stops = 2048, edits = 120] = process.argv.slice(2).map(Number);
 function ramp(kind) {
     let seed = 7;
     const random = () => (seed = (seed * 48271) % 2147483647) / 2147483647;
-    const lines = Array.from({ length: stops }, (_, i) => `stop\t${(i / (stops - 1)).toFixed(7)}\t${[random(), random(), random()].map(x => x.toFixed(4)).join('\t')}\t1\n`);
+    const color = () => [random(), random(), random()].map(x => x.toFixed(4)).join('\t');
+    const lines = Array.from({ length: stops }, (_, i) => `stop\t${(i / (stops - 1)).toFixed(7)}\t${color()}\t1\n`);
     return `kind\t${kind}\n${lines.join('')}`;
 }
 
@@ -21,7 +22,8 @@ async function dragged(edits) {
     const { left, width, top } = track.getBoundingClientRect();
     const [min, max, now] = ['min', 'max', 'now'].map(name => Number(handle.getAttribute(`aria-value${name}`)));
     const x = left + (width * (now - min)) / (max - min);
-    const send = (type, clientX) => track.dispatchEvent(new PointerEvent(type, { clientX, clientY: top + 9, button: 0, pointerId: 1, bubbles: true, cancelable: true }));
+    const common = { clientY: top + 9, button: 0, pointerId: 1, bubbles: true, cancelable: true };
+    const send = (type, clientX) => track.dispatchEvent(new PointerEvent(type, { ...common, clientX }));
     track.setPointerCapture = () => {};
     const frame = () => new Promise(done => requestAnimationFrame(done));
     send('pointerdown', x);
@@ -75,9 +77,10 @@ async function measure(opened, kind) {
     const before = await metric();
     await browser.runAsync(dragged, edits);
     const after = await metric();
-    const each = name => ((after[name] - before[name]) / edits).toFixed(1);
+    const each = (...names) => (names.reduce((sum, name) => sum + after[name] - before[name], 0) / edits).toFixed(1);
     console.log(`${kind}, ${stops} stops, ${edits} edits: an edit with its drawing by the page ${told(spent)}; ` +
-        `all of the main thread, per edit of a drag, ${each('TaskDuration')} ms, of it script ${each('ScriptDuration')}, layout and style ${(Number(each('LayoutDuration')) + Number(each('RecalcStyleDuration'))).toFixed(1)}`);
+        `all of the main thread, per edit of a drag, ${each('TaskDuration')} ms, of it script ${each('ScriptDuration')}, ` +
+        `layout and style ${each('LayoutDuration', 'RecalcStyleDuration')}`);
 }
 
 const opened = await Opened.start();

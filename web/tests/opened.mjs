@@ -5,7 +5,7 @@ import { tmpdir } from 'node:os';
 import { dirname, join } from 'node:path';
 import { setTimeout as pause } from 'node:timers/promises';
 import { fileURLToPath } from 'node:url';
-import { Browser } from './driver.mjs';
+import { Browser, TRIES } from './driver.mjs';
 
 export const ROOT = join(dirname(fileURLToPath(import.meta.url)), '../..');
 const PAGE = join(ROOT, 'target/web/guineaplume.html');
@@ -53,7 +53,7 @@ export class Opened {
         const name = `${await this.browser.text('#title')}.${ending}`;
         assert.match(await this.status(), new RegExp(`^Saved as ${name}`));
         const file = join(this.folder, name);
-        for (let tries = 0; tries < 200; tries++) {
+        for (let tries = 0; tries < TRIES; tries++) {
             if (existsSync(file) && !readdirSync(this.folder).some(one => one.endsWith('.crdownload'))) break;
             await pause(20);
         }

@@ -29,7 +29,8 @@ test('it asks for nothing, and can ask for nothing', async () => {
     });
     assert.deepEqual(asked, [0, 'TypeError']);
     const policy = await browser.run(() => document.querySelector('meta[http-equiv]').content);
-    assert.match(policy, /^default-src 'none'; script-src 'sha256-[^ ]+' 'wasm-unsafe-eval'; style-src 'sha256-[^ ]+'; base-uri 'none'; form-action 'none'$/);
+    const hash = /'sha256-[^ ]+'/g;
+    assert.equal(policy.replace(hash, 'HASH'), "default-src 'none'; script-src HASH 'wasm-unsafe-eval'; style-src HASH; base-uri 'none'; form-action 'none'");
 });
 
 for (const path of RAMPS) {
@@ -64,7 +65,8 @@ test('a stop that is dragged stops at its neighbour; Escape takes the drag back'
     assert.equal(await page.position(3), '0.3333');
     await browser.click('#undo');
     const { x, y } = await page.place(3);
-    await browser.mouse({ type: 'pointerMove', x, y }, { type: 'pointerDown', button: 0 }, { type: 'pointerMove', x: x + 20, y }, { type: 'pointerMove', x: x + 30, y });
+    const moves = [20, 30].map(by => ({ type: 'pointerMove', x: x + by, y }));
+    await browser.mouse({ type: 'pointerMove', x, y }, { type: 'pointerDown', button: 0 }, ...moves);
     assert.notEqual(await page.position(3), '0.25');
     await browser.press(KEYS.escape);
     assert.equal(await page.position(3), '0.25');
@@ -182,12 +184,14 @@ test('kinds, thresholds and holds are steps of their own; a GIMP ramp can be tak
 
 test('the swell profile is read in words, and inverted', async () => {
     await page.load(DEPTHS);
-    assert.equal(await browser.text('#profile-words'), 'Height of 100, where the dark rises: starts at 95, falls to 6.7 at 1. The list has the same heights.');
+    const words = () => browser.text('#profile-words');
+    assert.equal(await words(), 'Height of 100, where the dark rises: starts at 95, falls to 6.7 at 1. The list has the same heights.');
     await browser.click('#invert');
-    assert.equal(await browser.text('#profile-words'), 'Height of 100, where the light rises: starts at 4.6, rises to 93 at 1. The list has the same heights.');
+    assert.equal(await words(), 'Height of 100, where the light rises: starts at 4.6, rises to 93 at 1. The list has the same heights.');
     await browser.run(() => document.getElementById('reader').focus());
     await browser.press(KEYS.home);
-    assert.equal(await browser.run(() => document.getElementById('reader').getAttribute('aria-valuetext')), '0: ramp #080d2b, list #080d2b, 0 off; height 5');
+    const read = await browser.run(() => document.getElementById('reader').getAttribute('aria-valuetext'));
+    assert.equal(read, '0: ramp #080d2b, list #080d2b, 0 off; height 5');
 });
 
 test('the profile is listened to; what is not saved is told', async () => {
@@ -230,7 +234,8 @@ test('whatever is dropped and pressed, nothing goes wrong unsaid', async () => {
     assert.equal(await browser.text('#title'), 'ramp');
 });
 
-test('after edits every format is byte for byte what plume writes of the ramp, flattened anew', { skip: !existsSync(PLUME) && `plume is not at hand: ${PLUME}` }, async () => {
+const skip = !existsSync(PLUME) && `plume is not at hand: ${PLUME}`;
+test('after edits every format is byte for byte what plume writes of the ramp, flattened anew', { skip }, async () => {
     await page.load('examples/shelf.tsv');
     await page.drag(1, 120);
     await browser.enter('[data-stop="1"] [aria-label$="colour"]', '#1a6fa8');

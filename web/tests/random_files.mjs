@@ -47,7 +47,8 @@ export class Files {
     }
 
     text() {
-        const lines = this.stops().map(x => `stop\t${[x, this.channel(), this.channel(), this.channel(), this.one(['1', '1', this.channel()])].join('\t')}`);
+        const color = () => [this.channel(), this.channel(), this.channel(), this.one(['1', '1', this.channel()])];
+        const lines = this.stops().map(x => `stop\t${[x, ...color()].join('\t')}`);
         const threshold = this.one([[], [], [`threshold\t${this.random().toFixed(3)}`]]);
         const edit = this.one([[], [], [`edit\t${this.below(14)}\t0.1\t0.2\t0.3\t1`]]);
         return [`kind\t${this.one(KINDS)}`, ...threshold, ...lines, ...edit, ''].join(this.one(['\n', '\n', '\r\n']));
@@ -63,7 +64,8 @@ export class Files {
     }
 
     cpt() {
-        const color = () => this.one([() => [this.below(256), this.below(256), this.below(256)].join('/'), () => this.one(['white', 'gray', 'gray37', 'snow', 'mauve'])])();
+        const slashed = () => [this.below(256), this.below(256), this.below(256)].join('/');
+        const color = () => this.one([slashed, () => this.one(['white', 'gray', 'gray37', 'snow', 'mauve'])])();
         const places = this.stops();
         const lines = places.slice(1).map((x, i) => `${places[i]}\t${color()}\t${x}\t${color()}${this.one(['', '', '\tL', ' ; shelf'])}`);
         return ['# table', '# COLOR_MODEL = RGB', ...lines, 'B black', ''].join('\n');
@@ -87,7 +89,8 @@ export class Files {
 
     /** A list with any numbers at all, powers of two among them, below which numbers lie closer than above. */
     wild() {
-        const number = () => this.one([() => 2 ** (this.below(270) - 149), () => this.random() * 10 ** (this.below(80) - 44), () => -this.random() * 1e4])();
+        const sorts = [() => 2 ** (this.below(270) - 149), () => this.random() * 10 ** (this.below(80) - 44), () => -this.random() * 1e4];
+        const number = () => this.one(sorts)();
         const places = Array.from({ length: 2 + this.below(5) }, number).sort((x, y) => x - y);
         const lines = places.map(x => `stop\t${[x, number(), number(), this.random(), 1].map(bitsOf).join('\t')}`);
         return [`stops\t${lines.length}\tevaluations\t7`, ...lines, ''].join('\n');
@@ -104,8 +107,8 @@ export class Files {
 
     /** The next one. */
     next() {
-        const forms = [() => this.text(), () => this.text(), () => this.csv(), () => this.cpt(), () => this.ggr(), () => this.printed(), () => this.wild()];
-        const text = this.isRare() ? this.none() : this.one(forms)();
+        const form = this.one(['text', 'text', 'csv', 'cpt', 'ggr', 'printed', 'wild']);
+        const text = this.isRare() ? this.none() : this[form]();
         return this.below(4) ? text : this.damaged(text);
     }
 }

@@ -11,8 +11,6 @@ const [MOST_MARKS, LEAST_GAP, MARK] = [96, 22, 7];
 const OUT = 12;
 /** Pixels of a line that stands for a stop. */
 const TICK = 10;
-/** Small pictures that change with each frame are quicker made where they are written. */
-const ON_PROCESSOR = { willReadFrequently: true };
 
 export function bands(page) {
     let ink = inkOf();
@@ -43,7 +41,7 @@ const inkOf = () => getComputedStyle(document.documentElement).getPropertyValue(
 /** A row of pixels, by their bytes. */
 function fill(canvas, bytes, width) {
     if (canvas.width !== width) Object.assign(canvas, { width, height: 1 });
-    const context = canvas.getContext('2d', ON_PROCESSOR);
+    const context = canvas.getContext('2d');
     const image = context.createImageData(width, 1);
     image.data.set(bytes);
     context.putImageData(image, 0, 0);
@@ -61,8 +59,11 @@ function ticks(page, positions, width, ink) {
 function drawMarks(page, canvas, ink) {
     const [width, height] = [page.width + 2 * OUT, page.trackHeight];
     const pixels = [width, height].map(length => Math.max(1, Math.round(length * devicePixelRatio)));
-    [canvas.width, canvas.height] = pixels;
-    const context = canvas.getContext('2d', ON_PROCESSOR);
+    // a new size takes new memory, so it is not set where it stays
+    if (canvas.width !== pixels[0] || canvas.height !== pixels[1]) [canvas.width, canvas.height] = pixels;
+    const context = canvas.getContext('2d');
+    context.resetTransform();
+    context.clearRect(0, 0, ...pixels);
     context.scale(pixels[0] / width, pixels[1] / height);
     context.translate(OUT, 0);
     Object.assign(context, { strokeStyle: ink, fillStyle: ink, lineWidth: 1.5, font: '600 11px system-ui, sans-serif', textAlign: 'center' });
@@ -107,7 +108,8 @@ function label(page) {
     setText($('ramp-label'), `Ramp: ${KINDS[ramp.kind]}, ${counted(ramp)}`);
     setText($('list-label'), `List: ${count}`);
     const [min, max] = page.ends.map(brief);
-    setAttributes($('ramp-band'), { 'aria-label': `The ramp, ${KINDS[ramp.kind]}, ${counted(ramp)}, from ${min} to ${max}. The table of stops has its colours.` });
+    const words = `The ramp, ${KINDS[ramp.kind]}, ${counted(ramp)}, from ${min} to ${max}. The table of stops has its colours.`;
+    setAttributes($('ramp-band'), { 'aria-label': words });
     setAttributes($('list-band'), { 'aria-label': `Its list, ${count}.` });
     const marks = children($('axis'), 5, () => make('span'));
     marks.forEach((mark, i) => setText(mark, brief(page.at(i / 4))));

@@ -18,5 +18,6 @@ function words(page, redone) {
     const [first, last] = [cells[0], cells.at(-1)];
     const [from, to] = [first, last + 1].map(cell => brief(page.at(cell / CELLS)));
     const which = cells.length === 1 ? `cell ${first}` : `cells ${first} to ${last}`;
-    return `Hatched: the last edit redid ${cells.length} of 36 cells, ${which} counted from 0, from ${from} to ${to}. All others were left as they were.`;
+    return `Hatched: the last edit redid ${cells.length} of 36 cells, ${which} counted from 0, from ${from} to ${to}. ` +
+        'All others were left as they were.';
 }

@@ -129,5 +129,6 @@ function drawOff(page, part, ts, [ramp, list]) {
     part.rule.setAttribute('d', `M0 ${HEIGHT * (1 - threshold / high)}H${WIDTH}`);
     const cut = farthest > high ? `, cut at ${about(high)}` : '';
     setText(part.words[0], `${part.name}${cut}; dotted: the threshold, ${short(threshold)}`);
-    setAttributes(part.svg, { 'aria-label': `${part.name}: at most ${about(farthest)} at the points that are drawn; the threshold is ${short(threshold)}` });
+    const words = `${part.name}: at most ${about(farthest)} at the points that are drawn; the threshold is ${short(threshold)}`;
+    setAttributes(part.svg, { 'aria-label': words });
 }

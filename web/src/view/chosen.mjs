@@ -79,7 +79,10 @@ function draw(page) {
 
 function hint(page, allowed, isInner) {
     const kind = KINDS[page.sheet.kind];
-    if (!allowed.has(COLOUR)) return `A ${kind} ramp has no edits. Take it as a linear ramp to change it: it gets the stops of its list, or its own where it is mixed straight already.`;
+    if (!allowed.has(COLOUR)) {
+        return `A ${kind} ramp has no edits. Take it as a linear ramp to change it: it gets the stops of its list, or its own ` +
+            'where it is mixed straight already.';
+    }
     if (!allowed.has(ADD)) return `Of a ${kind} ramp colours can be changed, and stops keep their places. Another kind lets them move.`;
     return isInner ? '' : 'The first stop and the last hold the ends: their colours can be changed, their places not.';
 }

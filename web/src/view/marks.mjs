@@ -19,7 +19,10 @@ export function marks(page) {
     page.parts.push(() => {
         const { width, said: { apart } } = page;
         const rows = apart ? [['moved', runs(page, apart, isMoved, 0)], ['merged', runs(page, apart, isMerged, 1)]] : [];
-        const all = rows.flatMap(([name, found], row) => found.flatMap(run => mark(label(page, name, run), name, run, GAP + row * (MARK + 2), width)));
+        const all = rows.flatMap(([name, found], row) => {
+            const y = GAP + row * (MARK + 2);
+            return found.flatMap(run => mark(label(page, name, run), name, run, y, width));
+        });
         drawn.replaceChildren(...(all.length ? all : [makeSvg('text', { class: 'none', x: 0, y: MARK + GAP }, 'None moved, none merged.')]));
         svg.setAttribute('viewBox', `0 0 ${width} ${2 * MARK + 8}`);
     });
