@@ -53,7 +53,7 @@ impl<G: Gradient> Sheet<G> {
     }
 
     /// Makes an edit in the ramp, refreshes the record, makes the list anew, and hands out the edit that undoes this one.
-    /// Where the list is refused (7, 8, 9, 21) the edit is made all the same, and [`list`](Sheet::list) says so.
+    /// Where the list is refused (7, 8, 21) the edit is made all the same, and [`list`](Sheet::list) says so.
     ///
     /// # Errors
     /// As [`Refresh::edit`](crate::Refresh::edit), with nothing changed. 6 also of a ramp that has no edits: a sharp one, a
@@ -96,7 +96,7 @@ impl<G: Gradient> Sheet<G> {
     /// The list of the ramp as it is now; its evaluations are those of the call that made it.
     ///
     /// # Errors
-    /// 7, 8, 9 or 21, where the list was refused.
+    /// 7, 8 or 21, where the list was refused.
     pub fn list(&self) -> Result<&List, Refusal> {
         self.refused.map_or(Ok(&self.list), Err)
     }

@@ -30,6 +30,10 @@ pub use ggr_writing::write;
 pub use refresh::refresh;
 pub use refresh::refresh_list;
 
+// The way to edit: ramp, record and list as one thing, of one ramp through any number of edits.
+pub use sheet::edit;
+pub use sheet::open;
+
 // A list that was made elsewhere: whether it shows a ramp within a threshold, and what is wrong if not.
 pub use judge::judge;
 

@@ -5,10 +5,11 @@ use Prim.Native.Nat.{ℕ}
 use mathlib.Core.Path.{sym, _∙_, ap}
 use Rattle.sqrt.proofs.Theorems.{cutoff-unique}
 use Rattle.stops.specs.declared.Kind.{Kind}
+use Rattle.stops.specs.declared.Kind.the-variants.{Linear}
 use Rattle.colorgrad_c.specs.plain.Kinds.{kindOf, onKind, Shows, ShowsOf}
 use Rattle.colorgrad_c.specs.declared.plain.kinds.Coded.{Coded}
 use Rattle.colorgrad_c.specs.declared.plain.kinds.Coded.the-variants.{Of, Unknown}
-use Rattle.promises.proofs.Parts.{rows-of, counts-of, marks-of, positions-of, channels-of}
+use Rattle.promises.proofs.Parts.{rows-of, counts-of, marks-of, positions-of, channels-of, ramp-positions, ramp-channels}
 use Rattle.promises.proofs.Segment as stored
 use Rattle.promises.specs.Law.{Coincide, coincide, answer, _with_, both}
 use Rattle.colorgrad_c.proofs.leaves.colorgrad_root.Reads as of-root
@@ -37,6 +38,8 @@ use Rattle.colorgrad_c.proofs.judging.colorgrad_judge_told.Reads as of-judge
 use Rattle.colorgrad_c.proofs.judging.colorgrad_apart_told.Reads as of-apart
 use Rattle.colorgrad_c.proofs.edits.colorgrad_edit_told.Reads as of-edit
 use Rattle.colorgrad_c.proofs.edits.colorgrad_edit_list_told.Reads as of-edit-list
+use Rattle.colorgrad_c.proofs.sheets.colorgrad_sheet_open_told.Reads as of-sheet-open
+use Rattle.colorgrad_c.proofs.sheets.colorgrad_sheet_edit_told.Reads as of-sheet-edit
 
 pub root : (κs : Lfts 0) (a : _) → Coincide (of-root.Learnt κs a) answer
 root κs a = coincide (λ r e w. w)
@@ -146,6 +149,19 @@ edit-list κs a =
     by-code _ (a .0)
     (λ kind. coincide (λ r e w. both (w .told .answer) (both (rows-of (w .left)) (both (counts-of (w .left)) (both (marks-of (w .left)) (both (positions-of (w .output)) (channels-of (w .output))))))))
     (coincide (λ r e w. both (w .0) (both (rows-of (w .1 .0)) (both (counts-of (w .1 .0)) (both (marks-of (w .1 .0)) (both (positions-of (w .1 .1)) (channels-of (w .1 .1))))))))
+
+pub sheet-open : (κs : Lfts 9) (a : _) → Coincide (of-sheet-open.Learnt κs a) (λ r e. (r with now (e .1 .1 .1 .1 .1 .1 .1 .1 .1 .1 .1 .1 .1 .0)) with now (e .1 .1 .1 .1 .1 .1 .1 .1 .0) with now (e .1 .1 .1 .1 .1 .1 .1 .1 .1 .0) with now (e .1 .1 .1 .1 .1 .1 .1 .1 .1 .1 .0) with now (e .1 .1 .1 .1 .1 .1 .1 .1 .1 .1 .1 .0) with now (e .1 .1 .1 .1 .1 .1 .1 .1 .1 .1 .1 .1 .0))
+sheet-open κs a =
+    by-code _ (a .0)
+    (λ kind. coincide (λ r e w. both (w .answer) (both (rows-of (w .left)) (both (counts-of (w .left)) (both (marks-of (w .left)) (both (positions-of (w .output)) (channels-of (w .output))))))))
+    (coincide (λ r e w. both (w .0) (both (rows-of (w .1 .0)) (both (counts-of (w .1 .0)) (both (marks-of (w .1 .0)) (both (positions-of (w .1 .1)) (channels-of (w .1 .1))))))))
+
+-- and with the ramp
+pub sheet-edit : (κs : Lfts 9) (a : _) → Coincide (of-sheet-edit.Learnt κs a) (λ r e. (r with now (e .1 .1 .1 .1 .1 .1 .1 .1 .1 .1 .1 .1 .1 .1 .1 .1 .1 .1 .1 .1 .0)) with now (e .1 .0) with now (e .1 .1 .0) with now (e .1 .1 .1 .1 .1 .1 .1 .1 .1 .1 .1 .1 .1 .1 .1 .0) with now (e .1 .1 .1 .1 .1 .1 .1 .1 .1 .1 .1 .1 .1 .1 .1 .1 .0) with now (e .1 .1 .1 .1 .1 .1 .1 .1 .1 .1 .1 .1 .1 .1 .1 .1 .1 .0) with now (e .1 .1 .1 .1 .1 .1 .1 .1 .1 .1 .1 .1 .1 .1 .1 .1 .1 .1 .0) with now (e .1 .1 .1 .1 .1 .1 .1 .1 .1 .1 .1 .1 .1 .1 .1 .1 .1 .1 .1 .0))
+sheet-edit κs a =
+    by-code _ (a .0)
+    (λ kind. coincide (λ r e w. both (w .answer) (both (ramp-positions (w .ramp)) (both (ramp-channels (w .ramp)) (both (rows-of (w .left)) (both (counts-of (w .left)) (both (marks-of (w .left)) (both (positions-of (w .output)) (channels-of (w .output))))))))))
+    (coincide (λ r e w. both (w .0) (both (ramp-positions (w .1 .0 Linear)) (both (ramp-channels (w .1 .0 Linear)) (both (rows-of (w .1 .1 .0)) (both (counts-of (w .1 .1 .0)) (both (marks-of (w .1 .1 .0)) (both (positions-of (w .1 .1 .1)) (channels-of (w .1 .1 .1))))))))))
 
 -- with the lent output
 pub paint : (κs : Lfts 5) (a : _) → Coincide (of-paint.Learnt κs a) (λ r e. r with now (e .1 .1 .1 .1 .1 .0))

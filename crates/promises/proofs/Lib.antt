@@ -26,6 +26,7 @@ pub mod Weighed
 pub mod Within
 pub mod NextStop
 pub mod Refresh
+pub mod Sheet
 pub mod Judge
 pub mod Apart
 pub mod Paint

@@ -11,6 +11,7 @@ use Rattle.refusals.specs.Refusals.{misshapen}
 use Rattle.refusals.specs.Limits.{mostStops}
 use Rattle.stops.specs.Lent.{Ramp, rampOf, Change, change}
 use Rattle.stops.specs.Answers.{onFine}
+use Rattle.stops.specs.declared.Kind.{Kind}
 use Rattle.stops.specs.declared.Checked.{Checked}
 use Rattle.stops.specs.declared.Checked.the-variants as checked
 use Rattle.gradient.proofs.Valid.{valid}
@@ -31,7 +32,7 @@ use Rattle.refresh.proofs.EditChecks.{thin-fine, own-words, allowed, same-marks
 use Rattle.refresh.proofs.RefreshAnswers.{edited-held, renewed-thins, words-stay, new-most}
 use Rattle.refresh.proofs.editing.Copying.{stop-there}
 use Rattle.refresh.proofs.editing.Splices.{written-is}
-use Rattle.sheet.specs.Room.{positionsFor, channelsFor, stopsFit, firstOf}
+use Rattle.sheet.specs.Room.{positionsFor, channelsFor, stopsFit, firstOf, rewritten}
 use Rattle.sheet.specs.Promises.{madeEdit, madeRamp, sheetCheck, editAnswer, Edits}
 use Rattle.sheet.specs.inner.Making.{MayMake, Makes, ListsBy}
 use Rattle.sheet.specs.declared.ListSort.{ListSort}
@@ -99,6 +100,9 @@ module _ (room : Ramp) (n : ℕ) (e : Edit) (asked : Float) where
           let d = refreshed-done (refreshCheck (firstOf room n) (madeEdit room n e) asked (held .entry)) (newEvaluations (firstOf room n) (madeEdit room n e) asked) spent (sym h ∙ refreshes .answer) in
           record { fine = d .0; left = refreshes .left ∙ rw (d .0); spent-is = d .1 }
 
+same-ramp : (kind : Kind) (codes : List ℕ) {ps qs cs ds : List Float} → ps ≡ qs → cs ≡ ds → rampOf kind ps cs codes ≡ rampOf kind qs ds codes
+same-ramp kind codes p q = rw (p, q)
+
 -- ---- an edit that passes
 module _ (room : Ramp) (n : ℕ) (e : Edit) (asked : Float) (was : Held)
     (fits : stopsFit (room .kind) n (length (room .positions)) (length (room .channels)) ≡ true)
@@ -139,16 +143,39 @@ module _ (room : Ramp) (n : ℕ) (e : Edit) (asked : Float) (was : Held)
       rw is
       (record { most = lent .most; there = stands; positions-before = positions-lent; channels-before = channels-lent; positions-after = room-after .0; channels-after = room-after .1 })
 
+  as-long : length (madeRamp room n e .positions) ≡ stopsAfter n (madeEdit room n e)
+  as-long = edit-ok .as-many ∙ ap (λ (k : ℕ). stopsAfter k (madeEdit room n e)) many
+
+  as-wide : length (madeRamp room n e .channels) ≡ 4 * stopsAfter n (madeEdit room n e)
+  as-wide = edit-ok .four ∙ ap (λ (k : ℕ). 4 * stopsAfter k (madeEdit room n e)) many
+
+  -- of stops, as many positions as stops
+  positions-for : (m : ℕ) → positionsFor (room .kind) m ≡ m
+  positions-for m = rw (edit-ok .stops)
+
+  channels-for : (m : ℕ) → channelsFor (room .kind) m ≡ 4 * m
+  channels-for m = rw (edit-ok .stops)
+
+  -- what is written is the ramp with the edit made
+  pub first-written : firstOf (rewritten room (madeRamp room n e)) (stopsAfter n (madeEdit room n e)) ≡ madeRamp room n e
+  first-written =
+      let m = stopsAfter n (madeEdit room n e) in
+      let ps = madeRamp room n e .positions in
+      let cs = madeRamp room n e .channels in
+      let a : take (positionsFor (room .kind) m) (sets (room .positions) 0 ps) ≡ ps = ap (λ (k : ℕ). take k (sets (room .positions) 0 ps)) (positions-for m) ∙ written-is (room .positions) ps m as-long (room-after .0) in
+      let b : take (channelsFor (room .kind) m) (sets (room .channels) 0 cs) ≡ cs = ap (λ (k : ℕ). take k (sets (room .channels) 0 cs)) (channels-for m) ∙ written-is (room .channels) cs (4 * m) as-wide (room-after .1) in
+      same-ramp (room .kind) (room .codes) a b
+
   -- ---- once it is made in place
   module _ (made : Edit) (is : made ≡ madeEdit room n e) (ps cs : List Float) (left : ℕ) (w : Makes (room .positions) (room .channels) n made ps cs left) where
     stops-left : left ≡ stopsAfter n (madeEdit room n e)
     stops-left = w .stops ∙ ap (stopsAfter n) is
 
     long : length (madeRamp room n e .positions) ≡ left
-    long = edit-ok .as-many ∙ ap (λ (k : ℕ). stopsAfter k (madeEdit room n e)) many ∙ sym stops-left
+    long = as-long ∙ sym stops-left
 
     wide : length (madeRamp room n e .channels) ≡ 4 * left
-    wide = edit-ok .four ∙ ap (λ (k : ℕ). 4 * stopsAfter k (madeEdit room n e)) many ∙ ap (λ (k : ℕ). 4 * k) (sym stops-left)
+    wide = as-wide ∙ ap (λ (k : ℕ). 4 * k) (sym stops-left)
 
     pub left-few : left ≤ 2048
     unfolding mostStops

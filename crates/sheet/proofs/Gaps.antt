@@ -4,7 +4,7 @@ use mathlib.Core.List.{List, [], _∷_, _++_}
 use Prim.Native.Nat.{ℕ, zero, suc, _+_, _-_, _*_, _≤_, _<_}
 use native.Mathlib.Omega.{arith}
 use lib.ListN.{length, getD, set, take, drop, take-append-drop, length-drop}
-use lib.Seq.{sets, sets-eq, length-sets, set-comm, getD-set-other, drop-set-lt, drop-cons, take-add, take-take, length-take-le, getD-drop}
+use lib.Seq.{sets, sets-eq, length-sets, set-comm, set-set, getD-set-other, drop-set-lt, drop-cons, take-add, take-take, length-take-le, getD-drop}
 use lib.Ieee.{Float, nan}
 use Rattle.blend.specs.declared.Rgba.{Rgba}
 use Rattle.blend.specs.Channels.{channelsOf}
@@ -32,6 +32,13 @@ past-sets l j (y ∷ ys) i h = past-sets (set l j y) (suc j) ys i (omega arith) 
 drop-sets : (m : ℕ) (l : List Float) (i : ℕ) (xs : List Float) → i + length xs ≤ m → drop m (sets l i xs) ≡ drop m l
 drop-sets m l i [] h = refl
 drop-sets m l i (x ∷ xs) h = drop-sets m (set l i x) (suc i) xs (omega arith) ∙ drop-set-lt m l i x (omega arith)
+
+-- the same stores twice
+pub sets-twice : (l : List Float) (i : ℕ) (xs : List Float) → sets (sets l i xs) i xs ≡ sets l i xs
+sets-twice l i [] = refl
+sets-twice l i (x ∷ xs) =
+    ap (λ (k : List Float). sets k (suc i) xs) (sym (set-sets (set l i x) i (suc i) x xs (omega arith)) ∙ ap (λ (k : List Float). sets k (suc i) xs) (set-set l i x x))
+    ∙ sets-twice (set l i x) (suc i) xs
 
 -- what stands at a place already
 own : (l : List Float) (i m : ℕ) → i + m ≤ length l → sets l i (take m (drop i l)) ≡ l

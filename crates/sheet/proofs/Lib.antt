@@ -4,3 +4,7 @@ pub mod Rooms
 pub mod Lists
 pub mod Opening
 pub mod Editing
+pub mod Rewriting
+pub mod Standing
+pub mod Turning
+pub mod Through

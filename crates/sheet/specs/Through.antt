@@ -65,6 +65,13 @@ unfoldable pub editedAll : Ramp → List Edit → Ramp
 editedAll ramp [] = ramp
 editedAll ramp (e ∷ es) = editedAll (edited ramp e) es
 
+-- what a flattening left in a record and in the outputs, and answered, beside a sheet: all but the evaluations
+pub record Afresh (s : Sheet) (other : Held) (out : Output) (q : Listed) : Type 0 where
+  pub same-record : other ≡ s .held
+  pub same-output : out ≡ s .list
+  pub same-number : numberOfListed q ≡ s .refusal
+  pub same-stops : stopsOfListed q ≡ s .listed
+
 -- ---- one threshold and one sort of list
 module _ (asked : Float) (sort : ListSort) where
   -- a sheet that was opened: the call was not refused, though its list may be
@@ -91,14 +98,7 @@ module _ (asked : Float) (sort : ListSort) where
   Through s [] = Unit {0}
   Through s (t ∷ ts) = Turned s t × Through (t .after) ts
 
-  -- ---- a sheet that is of one ramp, as a sampling and a flattening of that ramp leave it
-  pub record Afresh (s : Sheet) (other : Held) (out : Output) (q : Listed) : Type 0 where
-    pub same-record : other ≡ s .held
-    pub same-output : out ≡ s .list
-    pub same-number : numberOfListed q ≡ s .refusal
-    pub same-stops : stopsOfListed q ≡ s .listed
-
-  -- flattened afresh over any record of the right lengths and over its outputs, it is as it stands, but for the evaluations
+  -- a sheet that is of one ramp: flattened afresh over any record of the right lengths, and over its own outputs, it is as it stands
   pub record OfOneRamp (ramp : Ramp) (s : Sheet) : Type 0 where
     pub ramp-is : firstOf (s .room) (s .stops) ≡ ramp
     pub is-fresh : (held : Change Held) → Shaped (held .entry) → (out : Output) (q : Listed) → FlattensBy sort ramp asked held (change (s .list) out) q
