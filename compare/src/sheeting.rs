@@ -10,6 +10,7 @@ use crate::random::Random;
 use crate::refresh::REFRESHED;
 use crate::typing::striped;
 use crate::within::Asked;
+use guineaplume::{Edit, Gradient, LinearGradient, ListSort, Refresh};
 
 const REPETITIONS: usize = 21;
 const THRESHOLD: f32 = 0.007;
@@ -18,6 +19,9 @@ const GRAY: [f32; 4] = [0.5, 0.5, 0.5, 1.0];
 
 /// A colour of each kind, a stop moved, and one that comes and goes; few stops and many; lists of both sorts.
 pub fn table(_: &mut Random) {
+    for n in [4, 64, MOST_STOPS - 1] {
+        by_crate(&striped(Kind::Linear, n));
+    }
     for hold in [None, Some(HOLD)] {
         for kind in REFRESHED {
             coloured(&striped(kind, 64), hold);
@@ -82,6 +86,17 @@ fn coloured(ramp: &Ramp, hold: Option<f32>) {
     let (ours, other) =
         timed(REPETITIONS, || used(ours::sheet_edit(&mut sheet, &edit)), || used(loose.edit(&after, &after, &edit)));
     row(&name("a colour", ramp, hold), "edit_list, or edit and thin_within", ours, other);
+}
+
+/// The Rust crate's sheet, beside its loose calls.
+fn by_crate(ramp: &Ramp) {
+    let mut alone = LinearGradient::from_rgba_data(ramp.stops()).expect("a ramp that passes the check");
+    let edit = Edit::Color { stop: ramp.positions.len() / 2, color: GRAY.into() };
+    let mut record = alone.sample(THRESHOLD).expect("a ramp that is taken");
+    let opened = guineaplume::Sheet::open(alone.clone(), THRESHOLD, ListSort::Thinned);
+    let mut sheet = opened.expect("a ramp that is taken");
+    let (ours, other) = timed(REPETITIONS, || used(sheet.edit(edit)), || used(alone.edit_list(edit, &mut record)));
+    row(&name("in Rust, a colour", ramp, None), "Refresh::edit_list", ours, other);
 }
 
 /// A stop is added and removed again, in turn: of the loose calls the two ramps are at hand.

@@ -3,6 +3,7 @@
 use alloc::string::String;
 use alloc::vec;
 use alloc::vec::Vec;
+use core::fmt;
 
 use crate::color::{flat, flat_mut};
 use crate::gradient::is_gradient;
@@ -10,11 +11,37 @@ use crate::slices::{self, Kind, MOST_POINTS, MOST_WRITTEN};
 use crate::{Apart, Color, Gradient, LinearGradient, Refusal};
 
 /// Stops that stand for a ramp when they are mixed linearly: a ramp itself, whose colours can be asked.
-#[derive(Clone, PartialEq, Debug)]
 pub struct List {
+    /// As many as there are stops, and room past them where a sheet holds the list.
     positions: Vec<f32>,
     colors: Vec<Color>,
-    pub(crate) evaluations: usize,
+    stops: usize,
+    evaluations: usize,
+}
+
+/// Of what it shows, without the room.
+impl Clone for List {
+    fn clone(&self) -> List {
+        let List { stops, evaluations, .. } = *self;
+        List { positions: self.positions().to_vec(), colors: self.colors().to_vec(), stops, evaluations }
+    }
+}
+
+impl PartialEq for List {
+    fn eq(&self, other: &List) -> bool {
+        let shown = |list: &List| (list.evaluations, list.stops);
+        shown(self) == shown(other) && self.stops().eq(other.stops())
+    }
+}
+
+// the room is not shown
+#[allow(clippy::missing_fields_in_debug)]
+impl fmt::Debug for List {
+    fn fmt(&self, f: &mut fmt::Formatter<'_>) -> fmt::Result {
+        let (positions, colors) = (self.positions(), self.colors());
+        let mut list = f.debug_struct("List");
+        list.field("positions", &positions).field("colors", &colors).field("evaluations", &self.evaluations).finish()
+    }
 }
 
 impl List {
@@ -23,27 +50,35 @@ impl List {
         call: impl FnOnce(slices::StopsMut<'_>) -> Result<slices::Listed, Refusal>,
     ) -> Result<List, Refusal> {
         let mut list = List::empty();
-        let slices::Listed { stops, evaluations } = call(list.room())?;
-        list.cut(stops);
-        Ok(List { evaluations, ..list })
+        let listed = call(list.room())?;
+        list.keep(listed);
+        Ok(list.without_room())
     }
 
     /// A list to be filled.
     pub(crate) fn empty() -> List {
-        List { positions: Vec::new(), colors: Vec::new(), evaluations: 0 }
+        List { positions: Vec::new(), colors: Vec::new(), stops: 0, evaluations: 0 }
     }
 
-    /// Its stops, with room for every list there is.
+    /// Its stops, with room for every list there is; it is made once.
     pub(crate) fn room(&mut self) -> slices::StopsMut<'_> {
         self.positions.resize(MOST_POINTS, 0.0);
         self.colors.resize(MOST_POINTS, Color::default());
         slices::StopsMut { positions: &mut self.positions, channels: flat_mut(&mut self.colors) }
     }
 
-    /// Only so many stops of that room are the list's.
-    pub(crate) fn cut(&mut self, stops: usize) {
-        self.positions.truncate(stops);
-        self.colors.truncate(stops);
+    /// What a call told of that room.
+    pub(crate) fn keep(&mut self, listed: slices::Listed) {
+        self.stops = listed.stops;
+        self.evaluations = listed.evaluations;
+    }
+
+    pub(crate) fn without_room(mut self) -> List {
+        self.positions.truncate(self.stops);
+        self.positions.shrink_to_fit();
+        self.colors.truncate(self.stops);
+        self.colors.shrink_to_fit();
+        self
     }
 
     /// The same list, with the evaluations of the call before it added.
@@ -54,31 +89,31 @@ impl List {
     /// How many stops it has.
     #[must_use]
     pub fn len(&self) -> usize {
-        self.positions.len()
+        self.stops
     }
 
     /// Whether it has none; a list always has its first.
     #[must_use]
     pub fn is_empty(&self) -> bool {
-        self.positions.is_empty()
+        self.stops == 0
     }
 
     /// The position of each stop.
     #[must_use]
     pub fn positions(&self) -> &[f32] {
-        &self.positions
+        &self.positions[..self.stops]
     }
 
     /// The colour of each stop.
     #[must_use]
     pub fn colors(&self) -> &[Color] {
-        &self.colors
+        &self.colors[..self.stops]
     }
 
     /// Each stop with its colour.
     #[must_use]
     pub fn stops(&self) -> impl ExactSizeIterator<Item = (f32, Color)> + '_ {
-        self.positions.iter().copied().zip(self.colors.iter().copied())
+        self.positions().iter().copied().zip(self.colors().iter().copied())
     }
 
     /// How many colours the call that made it asked for.
@@ -110,8 +145,8 @@ impl List {
     /// # Ok::<(), Box<dyn std::error::Error>>(())
     /// ```
     pub fn to_ggr(&self) -> Result<String, Refusal> {
-        let mut text = vec![0; slices::written_bytes(self.positions.len().min(MOST_WRITTEN))];
-        let bytes = slices::write_ggr(&self.positions, flat(&self.colors), &mut text)?;
+        let mut text = vec![0; slices::written_bytes(self.stops.min(MOST_WRITTEN))];
+        let bytes = slices::write_ggr(self.positions(), flat(self.colors()), &mut text)?;
         text.truncate(bytes);
         // what is written is ASCII
         Ok(text.into_iter().map(char::from).collect())
@@ -128,7 +163,7 @@ impl List {
         step: f32,
         depths: &[f32],
     ) -> Result<Apart, Refusal> {
-        ramp.apart(threshold, step, depths, &self.positions, &self.colors)
+        ramp.apart(threshold, step, depths, self.positions(), self.colors())
     }
 
     /// The list as a ramp of its own.
@@ -136,13 +171,13 @@ impl List {
     /// # Errors
     /// 1 where it has more than 2,048 stops.
     pub fn gradient(&self) -> Result<LinearGradient, Refusal> {
-        LinearGradient::new(&self.positions, &self.colors)
+        LinearGradient::new(self.positions(), self.colors())
     }
 }
 
 /// A list of more than 2,048 stops has colours as any other, and is refused with 1 by what makes lists of it.
 fn as_slices(list: &List) -> slices::Ramp<'_> {
-    slices::Ramp { kind: Kind::Linear, positions: &list.positions, channels: flat(&list.colors), codes: &[] }
+    slices::Ramp { kind: Kind::Linear, positions: list.positions(), channels: flat(list.colors()), codes: &[] }
 }
 
 is_gradient!(List, list => as_slices(list));

@@ -53,7 +53,7 @@ impl<G: Gradient> Sheet<G> {
     }
 
     /// Makes an edit in the ramp, refreshes the record, makes the list anew, and hands out the edit that undoes this one.
-    /// Where the list is refused (7, 8, 9, 21) the edit is made all the same, and [`list`](Sheet::list) says so.
+    /// Where the list is refused (7, 8, 21) the edit is made all the same, and [`list`](Sheet::list) says so.
     ///
     /// # Errors
     /// As [`Refresh::edit`](crate::Refresh::edit), with nothing changed. 6 also of a ramp that has no edits: a sharp one, a
@@ -62,7 +62,7 @@ impl<G: Gradient> Sheet<G> {
         let kind = self.ramp.as_slices().kind;
         let back = edit.undone(self.ramp.as_slices()).ok_or(Refusal::BadEdit)?;
         let parts = self.ramp.parts_mut().ok_or(Refusal::BadEdit)?;
-        let (stops, listed) = (parts.positions.len(), self.list.len());
+        let stops = parts.positions.len();
         // room for a stop more, so that one too many is refused as it is without a sheet
         parts.positions.push(0.0);
         parts.channels.extend([0.0; 4]);
@@ -81,29 +81,22 @@ impl<G: Gradient> Sheet<G> {
         let stops = lent.stops;
         parts.positions.truncate(stops);
         parts.channels.truncate(4 * stops);
-        match edited {
-            Ok(edited) => self.keep(edited.list),
-            Err(refusal) => {
-                self.list.cut(listed);
-                return Err(refusal);
-            }
-        }
+        self.keep(edited?.list);
         Ok(back)
     }
 
     /// What was told of the list that was made.
     fn keep(&mut self, told: Result<Listed, Refusal>) {
-        let Listed { stops, evaluations } = told.unwrap_or(Listed { stops: 0, evaluations: 0 });
+        let listed = told.unwrap_or(Listed { stops: 0, evaluations: 0 });
         self.refused = told.err();
-        self.list.cut(stops);
-        self.list.evaluations = evaluations;
-        self.record.evaluations = evaluations;
+        self.list.keep(listed);
+        self.record.evaluations = listed.evaluations;
     }
 
     /// The list of the ramp as it is now; its evaluations are those of the call that made it.
     ///
     /// # Errors
-    /// 7, 8, 9 or 21, where the list was refused.
+    /// 7, 8 or 21, where the list was refused.
     pub fn list(&self) -> Result<&List, Refusal> {
         self.refused.map_or(Ok(&self.list), Err)
     }
@@ -145,6 +138,6 @@ impl<G: Gradient> Sheet<G> {
 
     /// Ramp, record and list, no longer tied.
     pub fn into_parts(self) -> (G, Record, Result<List, Refusal>) {
-        (self.ramp, self.record, self.refused.map_or(Ok(self.list), Err))
+        (self.ramp, self.record, self.refused.map_or(Ok(self.list.without_room()), Err))
     }
 }

@@ -66,7 +66,7 @@ class Sheet:
 
     def edit(self, edit: 'Edit') -> 'Edit':
         """Makes an edit in the ramp, refreshes the record, makes the list anew, and answers the edit that undoes this one.
-        Refused with 6, 1, 3 as `Edit` says: then nothing is changed. Where the list is refused, with 7, 8, 9 or 21, the edit is
+        Refused with 6, 1, 3 as `Edit` says: then nothing is changed. Where the list is refused, with 7, 8 or 21, the edit is
         made all the same, and `list` raises that."""
         before = self._ramp
         self._call('sheet_edit_told', *edit._plain)
