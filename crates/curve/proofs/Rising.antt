@@ -12,6 +12,7 @@ use Rattle.curve.specs.Depth.{seriesOf, partOf, levelOf, depthOf}
 use Rattle.curve.specs.Factor.{fallOf, factorOf, Curved}
 use Rattle.curve.proofs.Inside.{Inside, inside}
 use Rattle.curve.proofs.Deeper.{depth-falls}
+use Rattle.curve.proofs.Halved.{split}
 use Rattle.curve.proofs.Falling.{fall-within, fall-falls, fall-one}
 use Rattle.curve.proofs.Tested.{depth-finite, depth-low, depth-some, ratio-low, between, place-low, place-high, middle-low, middle-high, middle-inside}
 
@@ -148,4 +149,4 @@ halves m f l h =
     denied x y a b t = not-true (le y x) (sym (lt-is x y a b) ∙ is-true (lt x y) t)
 
 pub curved : Curved
-curved = record { half-deep = half-deep; within = within; rises = rises; starts = starts; ends = ends; halves = halves }
+curved = record { split = λ x f l h. split x (inside x f l h); half-deep = half-deep; within = within; rises = rises; starts = starts; ends = ends; halves = halves }

@@ -7,7 +7,7 @@ use lib.Dec.{T}
 use lib.Ieee.{Float, nan, binary32, fits, ofBits, isNan, le, lt}
 use Rattle.float.specs.F32.{_⊕_, _⊖_, _⊗_, _⊘_, f0, f1, half}
 use Rattle.float.specs.Number.{countOf, wholeOf}
-use Rattle.curve.specs.Depth.{depthOf}
+use Rattle.curve.specs.Depth.{depthOf, Split}
 
 -- 0.69315, 0.24016, 0.05584, 0.00895, 0.0019
 abbrev pub b1 : Float
@@ -51,7 +51,8 @@ factorOf place middle = cond (isNan place) nan (cond (le place f0) f0 (cond (le 
 
 -- What is proved of these definitions (`curved`, in proofs/Rising). The places and the middle are f32s.
 pub record Curved : Type 0 where
-  -- one halving leads from 1 to 1/2
+  -- a number strictly between 0 and 1 is m·2^-k, and its depth k and the part of m; one halving leads from 1 to 1/2
+  pub split : (x : Float) → T (fits binary32 x) → T (lt f0 x) → T (lt x f1) → Split x
   pub half-deep : depthOf half ≡ f1
   -- the factor lies from 0 to 1
   pub within : (place middle : Float) → T (fits binary32 place) → T (fits binary32 middle) → isNan place ≡ false → isNan middle ≡ false
