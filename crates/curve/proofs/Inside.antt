@@ -21,6 +21,7 @@ use Rattle.float.proofs.PatternOrder.{at, pattern-le, pattern-back, pattern-und
 use Rattle.float.proofs.Quotients.{above-some, some-plain, some-more}
 use Rattle.float.proofs.Chains.{Chain, first-finite, second-finite, chain-same, chain-product}
 use Rattle.curve.specs.Depth.{lift}
+use Rattle.curve.proofs.Closed.{zero-finite, one-finite}
 use Rattle.curve.proofs.Sums.{last}
 
 pub record Inside (x : Float) : Type 0 where
@@ -31,7 +32,7 @@ pub record Inside (x : Float) : Type 0 where
 
 pub inside : (x : Float) → T (fits binary32 x) → T (lt f0 x) → T (lt x f1) → Inside x
 inside x f l h =
-    let p = some-plain x (above-some x (finite-between f0 x f1 (unfold ofBits in tt) (unfold ofBits in tt) (lt→le f0 x l) (lt→le x f1 h)) l) in
+    let p = some-plain x (above-some x (finite-between f0 x f1 zero-finite one-finite (lt→le f0 x l) (lt→le x f1 h)) l) in
     record {
       one = f;
       clear = p;

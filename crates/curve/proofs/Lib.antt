@@ -1,3 +1,4 @@
+pub mod Closed
 pub mod Sums
 pub mod Inside
 pub mod Deeper

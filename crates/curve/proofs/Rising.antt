@@ -10,6 +10,7 @@ use Rattle.float.proofs.Order.{as-T, le-trans, le-refl, lt-is, lt→le, no-nan-
 use Rattle.float.proofs.Quotients.{div-mono, self-quotient}
 use Rattle.curve.specs.Depth.{seriesOf, partOf, levelOf, depthOf}
 use Rattle.curve.specs.Factor.{fallOf, factorOf, Curved}
+use Rattle.curve.proofs.Closed.{zero-zero, zero-one, one-one, one-over, zero-number, one-number}
 use Rattle.curve.proofs.Inside.{Inside, inside}
 use Rattle.curve.proofs.Deeper.{depth-falls}
 use Rattle.curve.proofs.Halved.{split}
@@ -20,30 +21,6 @@ use Rattle.curve.proofs.Tested.{depth-finite, depth-low, depth-some, ra
 half-deep : depthOf half ≡ f1
 unfolding depthOf levelOf partOf seriesOf ofBits toBits ofInt add sub mul div
 half-deep = refl
-
-zero-number : isNan f0 ≡ false
-unfolding ofBits isNan
-zero-number = refl
-
-one-number : isNan f1 ≡ false
-unfolding ofBits isNan
-one-number = refl
-
-zero-zero : T (le f0 f0)
-unfolding ofBits le
-zero-zero = tt
-
-zero-one : T (le f0 f1)
-unfolding ofBits le
-zero-one = tt
-
-one-one : T (le f1 f1)
-unfolding ofBits le
-one-one = tt
-
-one-over : le f1 f0 ≡ false
-unfolding ofBits le
-one-over = refl
 
 abbrev Within : Float → Type 0
 Within x = T (le f0 x) × T (le x f1)
