@@ -18,7 +18,7 @@ use Rattle.curve.proofs.Falling.{fall-within, fall-falls, fall-one}
 use Rattle.curve.proofs.Tested.{depth-finite, depth-low, depth-some, ratio-low, between, place-low, place-high, middle-low, middle-high, middle-inside}
 
 -- ---- closed facts
-half-deep : depthOf half ≡ f1
+pub half-deep : depthOf half ≡ f1
 unfolding depthOf levelOf partOf seriesOf ofBits toBits ofInt add sub mul div
 half-deep = refl
 
@@ -76,7 +76,7 @@ within-at p m n k (inner o) (before h) = subst Within (passed p m o k h) (zero-o
 within-at p m n k (inner o) (after a h) = subst Within (ahead p m o k a h) (zero-zero, zero-one)
 within-at p m n k (inner o) (inner w) = subst Within (curves p m o k w) (fall-within (depthOf p ⊘ depthOf m) (ratio-low p m (o .is) (w .is)))
 
-within : (p m : Float) → T (fits binary32 p) → T (fits binary32 m) → isNan p ≡ false → isNan m ≡ false → Within (factorOf p m)
+pub within : (p m : Float) → T (fits binary32 p) → T (fits binary32 m) → isNan p ≡ false → isNan m ≡ false → Within (factorOf p m)
 within p m f g n k = within-at p m n k (lies p f n) (lies m g k)
 
 -- ---- in order
@@ -88,7 +88,7 @@ open-rises p q m k o u h (inner w) =
     (subst (λ (x : Float). T (le (fallOf (depthOf p ⊘ depthOf m)) x)) (curves q m u k w)
     (fall-falls (depthOf q ⊘ depthOf m) (depthOf p ⊘ depthOf m) (ratio-low q m (u .is) (w .is)) (ratio-falls p q m (o .is) (u .is) (w .is) h)))
 
-rises : (p q m : Float) → T (fits binary32 p) → T (fits binary32 q) → T (fits binary32 m) → isNan m ≡ false → T (le p q) → T (le (factorOf p m) (factorOf q m))
+pub rises : (p q m : Float) → T (fits binary32 p) → T (fits binary32 q) → T (fits binary32 m) → isNan m ≡ false → T (le p q) → T (le (factorOf p m) (factorOf q m))
 rises p q m fp fq fm k h = go (lies p fp np) (lies q fq nq)
   where
     np : isNan p ≡ false
@@ -110,13 +110,13 @@ rises p q m fp fq fm k h = go (lies p fp np) (lies q fq nq)
     go (after a l) (inner u) = absurd (true≢false (sym (is-true (le f1 q) (le-trans f1 p q l h)) ∙ u .under))
 
 -- ---- at the ends and at the middle
-starts : (m : Float) → factorOf f0 m ≡ f0
+pub starts : (m : Float) → factorOf f0 m ≡ f0
 starts m = sym (factor-before f0 m zero-number zero-zero)
 
-ends : (m : Float) → factorOf f1 m ≡ f1
+pub ends : (m : Float) → factorOf f1 m ≡ f1
 ends m = sym (factor-after f1 m one-number one-over one-one)
 
-halves : (m : Float) → T (fits binary32 m) → T (lt f0 m) → T (lt m f1) → factorOf m m ≡ half
+pub halves : (m : Float) → T (fits binary32 m) → T (lt f0 m) → T (lt m f1) → factorOf m m ≡ half
 halves m f l h =
     let n = no-nan-r f0 m (lt→le f0 m l) in
     let o : Open m = record { number = n; over = denied f0 m zero-number n l; under = denied m f1 n one-number h; is = inside m f l h } in
