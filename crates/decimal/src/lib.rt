@@ -9,6 +9,8 @@ ghost use Rattle.decimal.specs.Decimal.{mostDigits, readOf, unsignedOf, 
 ghost use Rattle.decimal.specs.inner.Steps.{RunsTo, DoublesTo, ScalesTo, DividesTo, BitsOf};
 
 mod long;
+mod shift;
+mod tally;
 mod wide;
 
 pub use crate::long::read_long;
