@@ -1,15 +1,13 @@
 -- The difference of two colours whose channels lie from 0 to 1, in units of 2 ^ -149: what the exact one is no more than, where it is within a hold; and what it is no more than, where the exact one is known. Assumes nothing.
-use mathlib.Core.Path.{_≡_, refl, subst}
-use Prim.Native.Nat.{ℕ, _+_, _-_, _*_, _^_, _≤_, _<_}
+use mathlib.Core.Path.{_≡_, refl}
+use Prim.Native.Nat.{ℕ, _+_, _*_, _^_, _≤_}
 use native.Mathlib.Nat.{le-trans as le-trans-ℕ}
 use native.Mathlib.Omega.{arith}
 use lib.Dec.{T, lit≤}
-use lib.Ieee.{Float, binary32, ofBits, fits, le}
+use lib.Ieee.{Float, binary32, ofBits, le}
 use lib.Ieee.Bits.{ofBits-fits}
 use lib.Ieee.Fits.{div-fits}
-use Rattle.float.specs.F32.{f0, f1}
 use Rattle.float.specs.Units.{count}
-use Rattle.float.proofs.Order.{le-trans}
 use Rattle.float.proofs.UnitSums.{Counted, le-units}
 use Rattle.float.proofs.RoundOff.{gap}
 use Rattle.float.proofs.OperationsOff.{counted-up}

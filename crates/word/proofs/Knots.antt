@@ -1,6 +1,6 @@
 -- A knot is a place where a ramp's rounded colour and a list's are known, on a line from P to Q and on one from S to E. Between two knots that are near the two are near. Over whole numbers. Assumes nothing.
-use mathlib.Core.Path.{_≡_, refl}
-use Prim.Native.Nat.{ℕ, _+_, _*_, _^_, _≤_, _<_}
+use mathlib.Core.Path.{_≡_}
+use Prim.Native.Nat.{ℕ, _+_, _*_, _≤_, _<_}
 use native.Mathlib.Nat.{le-dest, le-of-lt}
 use native.Mathlib.Omega.{arith}
 use Rattle.difference.proofs.Legs.{Four}

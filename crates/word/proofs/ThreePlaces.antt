@@ -1,7 +1,7 @@
 -- Where a ramp's rounded colours and a list's are near at two places, both lines straight between, they are near at every place between, but for the rounding. Over whole numbers: the first place is i after the ramp's
 -- start and i′ after the list's, the one between j further, the last one k further, and l and l′ are left. Assumes nothing.
-use mathlib.Core.Path.{_≡_, refl, sym, subst}
-use Prim.Native.Nat.{ℕ, _+_, _-_, _*_, _^_, _≤_, _<_}
+use mathlib.Core.Path.{_≡_, refl, subst}
+use Prim.Native.Nat.{ℕ, _+_, _*_, _^_, _≤_, _<_}
 use native.Mathlib.Nat.{mul-pos}
 use native.Mathlib.Omega.{arith}
 use Rattle.float.proofs.RoundOff.{gap}

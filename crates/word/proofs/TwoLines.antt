@@ -1,8 +1,8 @@
 -- Two lines, a ramp's from P to Q and a list's from S to E, each known by rounded values: where they are near each other at two places, they are near at every place between. Over whole numbers.
 -- A line from a to b is a·σ + b·τ at τ after its start and σ before its end, times its length. Assumes nothing.
 use mathlib.Core.Path.{_≡_, refl, sym, ap, ap₂, _∙_, subst}
-use Prim.Native.Nat.{ℕ, zero, suc, _+_, _-_, _*_, _^_, _≤_, _<_}
-use native.Mathlib.Nat.{le-refl, le-trans, le-of-eq, mul-pos, mul-le-mul, mul-le-mul-right, le-of-mul-le-mul-right, zero-lt-suc}
+use Prim.Native.Nat.{ℕ, zero, suc, _+_, _*_, _^_, _≤_, _<_}
+use native.Mathlib.Nat.{le-trans, le-of-eq, mul-pos, mul-le-mul-right, le-of-mul-le-mul-right, zero-lt-suc}
 use native.Mathlib.Omega.{arith}
 use Rattle.float.proofs.RoundOff.{gap}
 use Rattle.float.proofs.OperationsOff.{gap-times}
