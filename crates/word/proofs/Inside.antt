@@ -26,7 +26,7 @@ use Rattle.judge.specs.Lists.{Offer, offerOf, offeredRamp}
 use Rattle.ordinary.proofs.Unrefused.{colour-written}
 use Rattle.word.specs.Everywhere.{missOf, NearlyHeld}
 use Rattle.word.proofs.Singles.{Single}
-use Rattle.word.proofs.TwoLines.{MixedFour, Apart}
+use Rattle.word.proofs.TwoLines.{MixedFour, ApartBy}
 use Rattle.word.proofs.ThreePlaces.{four-start, four-end, same-apart}
 use Rattle.word.proofs.ClearDistance.{unitsOf, bound, plain-distance, no-more, turned, near-apart, apart-near}
 use Rattle.word.proofs.Ladders.{Ladder, place-lt, pair-mixed, pair-clear}
@@ -113,7 +113,7 @@ module _ (ramp : Ramp) (of-kind : ramp .kind ≡ Linear) (own : Ladder (ramp .po
     both : (x : Float) (X : ℕ) → Placed m x X → T (lt p x) → T (lt x q) → T (lt s x) → T (le x e) → Meets X (unitsOf (g x)) (unitsOf (f x))
     both x X at-x after below from to = record { ramp = ramp-line x X at-x after below; list = list-line x X at-x below from to }
 
-    near-there : (x : Float) → T (lt x q) → T (lt s x) → T (le x e) → T (le (missOf ramp offer x) hold) → Apart h (unitsOf (f x)) (unitsOf (g x))
+    near-there : (x : Float) → T (lt x q) → T (lt s x) → T (le x e) → T (le (missOf ramp offer x) hold) → ApartBy h (unitsOf (f x)) (unitsOf (g x))
     near-there x below from to near =
         near-apart (g x) (f x) (clear x) (list-clear x below from to) (count hold) (no-more (g x) (f x) (clear x) (list-clear x below from to) hold plain-hold near)
 
