@@ -134,7 +134,7 @@ static void lists(long count)
             continue;
         }
         made_lists++;
-        stops = fmax(stops, (double)made.stops / (2 * (double)m + 3));
+        stops = fmax(stops, (double)made.stops / (2 * (double)m + 4));
         for (size_t i = 0; i < m; i++) {
             colour(places, colours, m, places[i], in_ramp[i]);
             colour(list.places, list.colours, made.stops, places[i], in_list[i]);
@@ -145,7 +145,7 @@ static void lists(long count)
     }
     printf("%ld lists, %ld refused, %ld pairs of own positions\n", made_lists, refused, pairs);
     passed |= refused > 0;
-    told("stops, of twice the ramp's and three", stops, 1);
+    told("stops, of twice the ramp's and four", stops, 1);
     told("nearer in the list than in the ramp", nearer, 2 * (double)HOLD + pow(2, -20));
 }
 

@@ -31,7 +31,6 @@ use Rattle.weighed.proofs.Merging.{Each, rises}
 use Rattle.within.specs.Shown.{nearWithin, lentLeft}
 use Rattle.within.specs.Kept.{Kept, keptFrom, keptAll, keptRefusal, keptRefusals}
 use Rattle.within.specs.Lists.{holdOf, keptOf, refusalWithin}
-use Rattle.word.specs.Word.{LastAlone}
 use Rattle.word.proofs.Singles.{Every, Single, each-own, each-merged, own-single}
 use Rattle.word.proofs.Values.{min-single}
 use Rattle.word.proofs.CheckNumbers.{first-other}
@@ -39,7 +38,8 @@ use Rattle.word.proofs.TameRamps.{ordinary-tame}
 use Rattle.word.proofs.OnlyRoom.{only-room}
 use Rattle.word.proofs.FewStops.{isLent, left-merged, left-own, few-kept}
 use Rattle.word.proofs.LentSites.{position-found}
-use Rattle.word.proofs.LinearSteps.{OwnAt, State, Free, on, free, straight}
+use Rattle.word.proofs.LinearSteps.{OwnAt, State, Free, on, free}
+use Rattle.word.proofs.LinearEnd.{shown-or-ends}
 
 -- ---- 7 comes only past the room
 stop-room : (room n : ℕ) (t : Float) (c : Rgba) → n < room → stopRefusal room n t t c ≡ noRoom → ⊥
@@ -63,8 +63,8 @@ kept-room g room n (k ∷ ks) l h =
     (first-other noRoom (stopRefusal room n (k .t) (k .t) (g (k .t))) (cond (k .shown) 0 notShown) (stop-room room n (k .t) (g (k .t)) (omega arith)) (shown-room (k .shown)))
     (kept-room g room (n + 1) ks (omega arith)) h
 
-module _ (ramp : Ramp) (o : Ordinary ramp) (settled : LastAlone ramp) (asked hold : Float)
-    (ts : List Float) (points : Every Single ts) where
+module _ (ramp : Ramp) (o : Ordinary ramp) (asked hold : Float)
+    (ts : List Float) (points : Every Single ts) (few-points : length (sitesOf ramp ts) < 32768) where
   abbrev ps : List Float
   ps = ramp .positions
 
@@ -83,7 +83,7 @@ module _ (ramp : Ramp) (o : Ordinary ramp) (settled : LastAlone ramp) (asked hol
       zero-one : T (lt f0 f1)
       zero-one = unfold lt ofBits in tt
 
-  start : State ramp o settled asked hold lo (sitesOf ramp ts)
+  start : State ramp o asked hold lo (sitesOf ramp ts)
   unfolding sitesOf
   start =
       let n = length ts + length (ownOf ps) in
@@ -93,23 +93,24 @@ module _ (ramp : Ramp) (o : Ordinary ramp) (settled : LastAlone ramp) (asked hol
         own = each-merged Own hi n lo ts (ownOf ps) (none ts) (each-own Own ps (λ k l e. absurd (true≢false (sym e))) (λ k l e. absurd (true≢false (sym e))) (λ k l e. record { k = k; there = l; is = refl }));
         singles = each-merged (λ s. Single (s .t)) hi n lo ts (ownOf ps) points (own-single ps (o .places));
         single = min-single ramp (o .passes) (o .places);
+        short = few-points;
         low = le-refl lo (no-nan-l lo hi (lt→le lo hi wide));
       }
     where
       Own : Site → Type 0
-      Own s = isLent s ≡ true → OwnAt ramp o settled asked hold (s .t)
+      Own s = isLent s ≡ true → OwnAt ramp o asked hold (s .t)
 
       none : (ts : List Float) → Every (λ t. Own (site t sampledMark)) ts
       none [] = tt
       none (t ∷ ts) = (λ e. absurd (true≢false (sym e)), none ts)
 
-  -- ---- two for each lent position, and three more
-  pub kept-few : length (keptOf ramp asked hold ts) ≤ 2 * length ps + 3
+  -- ---- two for each lent position, and four more
+  pub kept-few : length (keptOf ramp asked hold ts) ≤ 2 * length ps + 4
   unfolding keptOf keptAll
   kept-few =
       let sites = sitesOf ramp ts in
-      let few = few-kept (colourOf ramp) (nearWithin (thresholdOf asked) (holdOf asked hold)) hi (State ramp o settled asked hold) (Free ramp o settled asked hold) (straight ramp o settled asked hold) (on ramp o settled asked hold)
-      (free ramp o settled asked hold) (λ a rest w. w .state) (suc (length sites)) lo sites start in
+      let few = few-kept (colourOf ramp) (nearWithin (thresholdOf asked) (holdOf asked hold)) hi (State ramp o asked hold) (Free ramp o asked hold) (shown-or-ends ramp o asked hold) (on ramp o asked hold)
+      (free ramp o asked hold) (λ a rest w. w .state) (suc (length sites)) lo sites start in
       omega (arith, few, left)
     where
       left : lentLeft (sitesOf ramp ts) ≤ suc (length ps)

@@ -1,4 +1,4 @@
--- How many points are kept: two for each lent position that is left at most, where from a point that is no lent position the next lent one is always shown. Assumes nothing.
+-- How many points are kept: two for each lent position that is left at most, and one more, where from a point that is no lent position the next lent one is shown or few are kept. Assumes nothing.
 use mathlib.Core.Path.{_≡_, refl, sym, ap, _∙_, subst}
 use mathlib.Core.Bool.{Bool, true, false, cond, _&&_, true≢false}
 use mathlib.Core.List.{List, [], _∷_}
@@ -150,7 +150,7 @@ left-own ps =
     omega (arith, left-joined beside lents, left-joined (sitesBy belowOf besideMark ps) (sitesBy aboveOf besideMark ps), left-beside belowOf ps, left-beside aboveOf ps, left-lent ps)
 
 -- ---- the kept points
-module _ (g : Gradient) (near : Near) (max : Float) (State Free : Float → List Site → Type 0) (straight : (a : Float) (rest : List Site) → Free a rest → lentShown g near max a rest 1 ≡ true)
+module _ (g : Gradient) (near : Near) (max : Float) (State Free : Float → List Site → Type 0) (straight : (a : Float) (rest : List Site) → Free a rest → (lentShown g near max a rest 1 ≡ true) ⊎ ((n : ℕ) → suc (length (keptFrom g near max n a rest)) ≤ 2 * lentLeft rest + 1))
     (on : (a : Float) (rest : List Site) → State a rest → (r : ℕ) → r < length rest → State (pointAfter max rest (suc r)) (drop (suc r) rest))
     (free : (a : Float) (rest : List Site) → State a rest → (r : ℕ) → r < length rest → isLent (getD rest r (site max lentMark)) ≡ false → Free (pointAfter max rest (suc r)) (drop (suc r) rest))
     (whole : (a : Float) (rest : List Site) → Free a rest → State a rest) where
@@ -161,20 +161,20 @@ module _ (g : Gradient) (near : Near) (max : Float) (State Free : Float → List
   after n r rest = cond (leb r (length rest)) (kept n (pointAfter max rest r) (drop r rest)) []
 
   abbrev Few : ℕ → Type 0
-  Few n = (a : Float) (rest : List Site) → State a rest → length (kept n a rest) ≤ 2 * lentLeft rest
+  Few n = (a : Float) (rest : List Site) → State a rest → length (kept n a rest) ≤ 2 * lentLeft rest + 1
 
   abbrev Fewer : ℕ → Type 0
-  Fewer n = (a : Float) (rest : List Site) → Free a rest → suc (length (kept n a rest)) ≤ 2 * lentLeft rest
+  Fewer n = (a : Float) (rest : List Site) → Free a rest → suc (length (kept n a rest)) ≤ 2 * lentLeft rest + 1
 
   -- to the r-th lent position
   module _ (n : ℕ) (few : Few n) (a : Float) (rest : List Site) (w : State a rest) where
-    to-lent : (r : ℕ) → 1 ≤ r → r ≤ lentLeft rest → suc (suc (length (after n (toLent r rest) rest))) ≤ 2 * lentLeft rest
+    to-lent : (r : ℕ) → 1 ≤ r → r ≤ lentLeft rest → suc (suc (length (after n (toLent r rest) rest))) ≤ 2 * lentLeft rest + 1
     to-lent r one most = go (leb (toLent r rest) (length rest)) refl
       where
         back : (k : ℕ) → 1 ≤ k → suc (k - 1) ≡ k
         back k h = omega arith
 
-        go : (b : Bool) → leb (toLent r rest) (length rest) ≡ b → suc (suc (length (cond b (kept n (pointAfter max rest (toLent r rest)) (drop (toLent r rest) rest)) []))) ≤ 2 * lentLeft rest
+        go : (b : Bool) → leb (toLent r rest) (length rest) ≡ b → suc (suc (length (cond b (kept n (pointAfter max rest (toLent r rest)) (drop (toLent r rest) rest)) []))) ≤ 2 * lentLeft rest + 1
         go true e =
             let l = leb-true (toLent r rest) (length rest) e in
             let k = back (toLent r rest) (lent-on r rest one) in
@@ -183,19 +183,19 @@ module _ (g : Gradient) (near : Near) (max : Float) (State Free : Float → List
         go false e = omega (arith, most, one)
 
     -- to any point
-    to-any : Fewer n → (r : ℕ) → 1 ≤ r → suc (length (after n r rest)) ≤ 2 * lentLeft rest
+    to-any : Fewer n → (r : ℕ) → 1 ≤ r → suc (length (after n r rest)) ≤ 2 * lentLeft rest + 1
     to-any fewer r one = go (leb r (length rest)) refl
       where
         k : suc (r - 1) ≡ r
         k = omega arith
 
-        go : (b : Bool) → leb r (length rest) ≡ b → suc (length (cond b (kept n (pointAfter max rest r) (drop r rest)) [])) ≤ 2 * lentLeft rest
+        go : (b : Bool) → leb r (length rest) ≡ b → suc (length (cond b (kept n (pointAfter max rest r) (drop r rest)) [])) ≤ 2 * lentLeft rest + 1
         go true e = by (isLent (getD rest (r - 1) (site max lentMark))) refl
           where
             l : r - 1 < length rest
             l = let h = leb-true r (length rest) e in omega (arith, h, one)
 
-            by : (c : Bool) → isLent (getD rest (r - 1) (site max lentMark)) ≡ c → suc (length (kept n (pointAfter max rest r) (drop r rest))) ≤ 2 * lentLeft rest
+            by : (c : Bool) → isLent (getD rest (r - 1) (site max lentMark)) ≡ c → suc (length (kept n (pointAfter max rest r) (drop r rest))) ≤ 2 * lentLeft rest + 1
             by true i =
                 let next : State (pointAfter max rest r) (drop r rest) = subst (λ (j : ℕ). State (pointAfter max rest j) (drop j rest)) k (on a rest w (r - 1) l) in
                 let less : suc (lentLeft (drop r rest)) ≤ lentLeft rest = subst (λ (j : ℕ). suc (lentLeft (drop j rest)) ≤ lentLeft rest) k (left-past (r - 1) rest (site max lentMark) l i) in
@@ -205,7 +205,7 @@ module _ (g : Gradient) (near : Near) (max : Float) (State Free : Float → List
                 omega (arith, fewer _ _ next, left-drop r rest)
         go false e = omega (arith, left-some rest)
 
-    lent-step : lentShown g near max a rest 1 ≡ true → suc (suc (length (after n (toLent (reachOf (lentShown g near max a rest)) rest) rest))) ≤ 2 * lentLeft rest
+    lent-step : lentShown g near max a rest 1 ≡ true → suc (suc (length (after n (toLent (reachOf (lentShown g near max a rest)) rest) rest))) ≤ 2 * lentLeft rest + 1
     lent-step e = to-lent (reachOf (lentShown g near max a rest)) (reached (lentShown g near max a rest) .least) most
       where
         asked : (r : ℕ) → lentShown g near max a rest r ≡ true → r ≤ lentLeft rest
@@ -221,15 +221,15 @@ module _ (g : Gradient) (near : Near) (max : Float) (State Free : Float → List
       let f = both n in (
         λ a rest w.
             by (lentShown g near max a rest 1) refl (to n a rest) (λ e. omega (arith, lent-step n (f .0) a rest w e)) (to-any n (f .0) a rest w (f .1) (reachOf (anyShown g near max a rest)) (reached (anyShown g near max a rest) .least)),
-        λ a rest w. rw (straight a rest w) (lent-step n (f .0) a rest (whole a rest w) (straight a rest w)),
+        λ a rest w. elim (straight a rest w) [ inl e ↦ rw e (lent-step n (f .0) a rest (whole a rest w) e) | inr h ↦ h (suc n) ],
       )
     where
       to : (n : ℕ) (a : Float) (rest : List Site) → ℕ → Type 0
-      to n a rest r = suc (length (after n r rest)) ≤ 2 * lentLeft rest
+      to n a rest r = suc (length (after n r rest)) ≤ 2 * lentLeft rest + 1
 
       by : (b : Bool) {c : Bool} {x y : ℕ} → c ≡ b → (P : ℕ → Type 0) → (c ≡ true → P x) → P y → P (cond c x y)
       by true e P p q = rw e (p e)
       by false e P p q = rw e q
 
-  pub few-kept : (n : ℕ) (a : Float) (rest : List Site) → State a rest → length (keptFrom g near max n a rest) ≤ 2 * lentLeft rest
+  pub few-kept : (n : ℕ) (a : Float) (rest : List Site) → State a rest → length (keptFrom g near max n a rest) ≤ 2 * lentLeft rest + 1
   few-kept n = both n .0

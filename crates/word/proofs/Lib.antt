@@ -34,7 +34,9 @@ pub mod Straight
 pub mod StraightPair
 pub mod StraightRamp
 pub mod LentSites
+pub mod Reaches
 pub mod LinearSteps
+pub mod LinearEnd
 pub mod FewEnough
 pub mod NeverRefused
 pub mod TwoLines

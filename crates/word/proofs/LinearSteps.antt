@@ -1,4 +1,4 @@
--- An ordinary ramp's list has two points for each lent position at most: from a point that is no lent position the next lent one is always shown. Assumes nothing.
+-- An ordinary ramp: from a kept point that is no lent position the next lent one is always shown, where it lies inside the domain. Assumes nothing.
 use mathlib.Core.Path.{_≡_, refl, sym, ap, _∙_, subst}
 use mathlib.Core.Bool.{Bool, true, false, cond, _&&_, true≢false}
 use mathlib.Core.List.{List, [], _∷_}
@@ -9,15 +9,13 @@ use native.Mathlib.Decide.{decLe}
 use native.Mathlib.Omega.{arith}
 use borrow.Author.Tests.{le-leb}
 use lib.Dec.{T, leb}
-use lib.ListN.{length, drop, take, getD}
+use lib.ListN.{length, drop, take, getD, length-drop}
 use lib.Ieee.{Float, nan, binary32, ofBits, le, lt, eq, isNan}
 use lib.Ieee.Bits.{is-true}
-use Rattle.float.specs.F32.{f0, _⊖_, _⊘_}
+use Rattle.float.specs.F32.{f0}
 use Rattle.float.proofs.Order.{as-T, le-trans, lt→le, le→not-lt, le-antisym, le-refl, no-nan-l, no-nan-r, not-lt→le, le-lt-trans, lt-le-trans, eq→le, eq→ge, eq-sym}
 use Rattle.float.proofs.UnitsOrder.{same-value}
-use Rattle.blend.specs.Blend.{linear}
 use Rattle.blend.specs.declared.Rgba.{Rgba}
-use Rattle.difference.specs.Difference.{distanceOf}
 use Rattle.stops.specs.Lent.{Ramp}
 use Rattle.stops.specs.Stops.{posAt}
 use Rattle.stops.specs.Place.{firstAt}
@@ -35,21 +33,20 @@ use Rattle.weighed.proofs.Merging.{Rises, Each, rises}
 use Rattle.within.specs.Shown.{nearWithin, offAt, fairly, shows, pointAfter, shownTo, lentLeft, toLent}
 use Rattle.within.specs.Kept.{Kept, lentShown, keptFrom, keptAll}
 use Rattle.within.specs.Lists.{holdOf, keptOf}
-use Rattle.word.specs.Word.{LastAlone}
 use Rattle.word.proofs.Singles.{Every, Single, each-own, each-merged, own-single}
 use Rattle.word.proofs.Weighed.{siteIn, pointIn, below-max, above-all, all-below, after, up-to, rest-rises}
 use Rattle.word.proofs.ShownSteps.{each-get, each-drop, off-least}
 use Rattle.word.proofs.TameRamps.{ordinary-tame}
 use Rattle.word.proofs.FewStops.{isLent, left-some, left-merged, left-own, few-kept}
 use Rattle.word.proofs.LentSites.{FoundLent, position-found, found-drop, found-alone, FirstLent, first-lent}
-use Rattle.word.proofs.StraightRamp.{first-is-min, last-is-max, near-inner, near-last}
+use Rattle.word.proofs.StraightRamp.{first-is-min, last-is-max, near-inner}
 
 past-end : (ss : List Site) (i : ℕ) (d : Site) → length ss ≤ i → getD ss i d ≡ d
 past-end [] i d l = refl
 past-end (s ∷ ss) zero d l = absurd (omega arith)
 past-end (s ∷ ss) (suc i) d l = past-end ss i d (omega arith)
 
-shows-all : (g : Gradient) (near : ℕ → Rgba → Rgba → Bool) (a b : Float) (ss : List Site) (r : ℕ) → ((j : ℕ) → j < r → j < length ss → fairly g near a b (siteIn ss j) ≡ true) → shows g near a b (take r ss) ≡ true
+pub shows-all : (g : Gradient) (near : ℕ → Rgba → Rgba → Bool) (a b : Float) (ss : List Site) (r : ℕ) → ((j : ℕ) → j < r → j < length ss → fairly g near a b (siteIn ss j) ≡ true) → shows g near a b (take r ss) ≡ true
 unfolding shows
 shows-all g near a b ss zero h = refl
 shows-all g near a b [] (suc r) h = refl
@@ -61,7 +58,7 @@ not-minus-zero a x h k e = none (le-lt-trans f0 a (ofBits binary32 2147483648) h
     none : T (lt f0 (ofBits binary32 2147483648)) → ⊥
     none t = unfold lt ofBits in t
 
-module _ (ramp : Ramp) (o : Ordinary ramp) (settled : LastAlone ramp) (asked hold : Float) where
+module _ (ramp : Ramp) (o : Ordinary ramp) (asked hold : Float) where
   abbrev ps : List Float
   ps = ramp .positions
 
@@ -92,6 +89,7 @@ module _ (ramp : Ramp) (o : Ordinary ramp) (settled : LastAlone ramp) (asked hol
     pub own : Each (λ s. isLent s ≡ true → OwnAt (s .t)) rest
     pub singles : Each (λ s. Single (s .t)) rest
     pub single : Single a
+    pub short : length rest < 32768
     pub low : T (le lo a)
 
   pub record Free (a : Float) (rest : List Site) : Type 0 where
@@ -117,6 +115,7 @@ module _ (ramp : Ramp) (o : Ordinary ramp) (settled : LastAlone ramp) (asked hol
           own = each-drop (λ s. isLent s ≡ true → OwnAt (s .t)) (suc r) rest (w .own);
           singles = each-drop (λ s. Single (s .t)) (suc r) rest (w .singles);
           single = each-get (λ s. Single (s .t)) rest r (site hi lentMark) (w .singles) l;
+          short = omega (arith, length-drop (suc r) rest, w .short);
           low = le-trans lo a b (w .low) (lt→le a b b-up);
         }
 
@@ -160,10 +159,7 @@ module _ (ramp : Ramp) (o : Ordinary ramp) (settled : LastAlone ramp) (asked hol
         go true e = let t = two in absurd (w .apart 0 (omega (arith, t)) (le-antisym a (posAt ps 0) (as-T _ e) (subst (λ (x : Float). T (le x a)) (first-is-min ramp o) (v .low))))
         go false e = refl
 
-    k : ℕ
-    k = firstAt a ps
-
-    in-past : Past ps (firstAt a ps) a
+    pub in-past : Past ps (firstAt a ps) a
     in-past =
         let t = two in
         let some = first-pos a ps (omega (arith, t)) not-first in
@@ -171,20 +167,20 @@ module _ (ramp : Ramp) (o : Ordinary ramp) (settled : LastAlone ramp) (asked hol
         let there : firstAt a ps < length ps = omega (arith, few, t) in
         record { some = some; there = there; reached = first-reaches a ps there; past = before-first a ps (firstAt a ps - 1) (omega (arith, some)) }
 
-    abbrev q : Float
+    abbrev pub q : Float
     q = posAt ps (firstAt a ps)
 
-    a-q : T (lt a q)
+    pub a-q : T (lt a q)
     a-q = go (lt a q) refl
       where
         go : (b : Bool) → lt a q ≡ b → T (lt a q)
         go true e = as-T _ e
         go false e = absurd (w .apart (firstAt a ps) (in-past .there) (le-antisym a q (as-T _ (in-past .reached)) (not-lt→le a q a-number (no-nan-r a q (as-T _ (in-past .reached))) e)))
 
-    f : FirstLent hi rest
+    pub f : FirstLent hi rest
     f = first-lent hi rest
 
-    abbrev c : Float
+    abbrev pub c : Float
     c = pointIn hi rest (f .i)
 
     max-own : OwnAt hi
@@ -207,7 +203,7 @@ module _ (ramp : Ramp) (o : Ordinary ramp) (settled : LastAlone ramp) (asked hol
     a-c : T (lt a c)
     a-c = after hi a rest (f .i) (v .rising)
 
-    q-c : T (le q c)
+    pub q-c : T (le q c)
     q-c =
         let j = c-own .k in
         let l = first-le a ps j (c-own .there) (is-true _ (subst (λ (x : Float). T (le a x)) (c-own .is) (lt→le a c a-c))) in
@@ -227,35 +223,25 @@ module _ (ramp : Ramp) (o : Ordinary ramp) (settled : LastAlone ramp) (asked hol
     same =
         same-value c q (subst Single (sym (c-own .is)) (o .places (c-own .k) (c-own .there))) (o .places (firstAt a ps) (in-past .there)) (not-minus-zero a c zero-a a-c) (not-minus-zero a q zero-a a-q) (le-antisym c q c-q q-c)
 
-    -- what lies between is shown
-    point-near : (t : Float) → Single t → T (lt a t) → T (le t q) → T (lt t hi) → T (le (distanceOf (g t) (linear (g a) (g q) ((t ⊖ a) ⊘ (q ⊖ a)))) leastThreshold)
-    point-near t st up to under = go (lt q hi) refl
-      where
-        last-k : (i n : ℕ) → i < n → (i ≤ n - 2 → ⊥) → i ≡ n - 1
-        last-k i n l h = let m = lt-of-not-le h in omega arith
-
-        go : (b : Bool) → lt q hi ≡ b → T (le (distanceOf (g t) (linear (g a) (g q) ((t ⊖ a) ⊘ (q ⊖ a)))) leastThreshold)
-        go true e = near-inner ramp o (firstAt a ps) a t q in-past (v .single) st (o .places (firstAt a ps) (in-past .there)) up to (le-refl q (no-nan-r t q to)) under (as-T _ e)
-        go false e =
-            near-last ramp o (firstAt a ps) a t in-past (v .single) st up to under
-            (last-k (firstAt a ps) (length ps) (in-past .there)
-            (λ l.
-            let t = two in
-            let h : T (le q (posAt ps (length ps - 2))) = ok .rising (firstAt a ps) (length ps - 2) l (omega (arith, t)) in
-            let u : T (lt q hi) = subst (λ (x : Float). T (lt q x)) (sym (last-is-max ramp o)) (le-lt-trans q (posAt ps (length ps - 2)) (posAt ps (length ps - 1)) h settled) in
-            subst T e u))
-
-    fair-at : (j : ℕ) → j < suc (f .i) → j < length rest → fairly g near a c (siteIn rest j) ≡ true
+    -- two points of the stretch show what lies between them
+    pub fair-between : (t e : Float) (m : ℕ) → Single t → Single e → T (lt a t) → T (le t e) → T (le e q) → T (lt e hi) → fairly g near a e (site t m) ≡ true
     unfolding fairly nearWithin
-    fair-at j i l =
-        let s = siteIn rest j in
-        let to : T (le (s .t) q) = subst (λ (x : Float). T (le (s .t) x)) same (up-to hi a rest j (f .i) (v .rising) l (omega arith)) in
-        let h = point-near (s .t) (each-get (λ s. Single (s .t)) rest j (site nan lentMark) (v .singles) l) (above-all hi a rest j (v .rising) l) to (all-below hi a rest j (v .rising) l) in
-        is-true _ (subst (λ (x : Float). T (le (distanceOf (g (s .t)) (linear (g a) (g x) ((s .t ⊖ a) ⊘ (x ⊖ a)))) (offAt (thresholdOf asked) (holdOf asked hold) (s .mark)))) (sym same)
-        (le-trans _ leastThreshold _ h (off-least ramp asked hold (ordinary-moderate ramp o .near) (ordinary-tame ramp o) (s .mark))))
+    fair-between t e m st se up to end under =
+        is-true _
+        (le-trans _ leastThreshold (offAt (thresholdOf asked) (holdOf asked hold) m)
+        (near-inner ramp o (firstAt a ps) a t e in-past (v .single) st se up to end (le-lt-trans t e hi to under) under)
+        (off-least ramp asked hold (ordinary-moderate ramp o .near) (ordinary-tame ramp o) m))
 
-    pub straight : lentShown g near hi a rest 1 ≡ true
+    -- so where it lies inside the domain, the first lent position that is left is shown
+    pub straight : T (lt q hi) → lentShown g near hi a rest 1 ≡ true
     unfolding lentShown shownTo
-    straight =
+    straight inner =
         rw (le-leb 1 (lentLeft rest) (left-some rest), f .is)
         (subst (λ (i : ℕ). shows g near a (getD rest i (site hi lentMark) .t) (take (suc (f .i)) rest) ≡ true) (sym (back (f .i))) (shows-all g near a c rest (suc (f .i)) fair-at))
+      where
+        fair-at : (j : ℕ) → j < suc (f .i) → j < length rest → fairly g near a c (siteIn rest j) ≡ true
+        fair-at j i l =
+            let s = siteIn rest j in
+            subst (λ (x : Float). fairly g near a x s ≡ true) (sym same)
+            (fair-between (s .t) q (s .mark) (each-get (λ s. Single (s .t)) rest j (site nan lentMark) (v .singles) l) (o .places (firstAt a ps) (in-past .there)) (above-all hi a rest j (v .rising) l)
+            (subst (λ (x : Float). T (le (s .t) x)) same (up-to hi a rest j (f .i) (v .rising) l (omega arith))) (le-refl q (no-nan-r a q (lt→le a q a-q))) inner)

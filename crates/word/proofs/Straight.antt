@@ -24,16 +24,6 @@ module _ (p q t b c : Float) (wp : Clear p) (wq : Clear q) (wt : Clear t) (wb : 
   pub line-at : (a r : ℕ) → count p + a ≡ count t → count t + r ≡ count q → 0 < a + r → Line (count (mixAt p q b c t)) (count b) (count c) a r (2 ^ 149)
   line-at a r first last some = mixed-line _ _ _ a r (2 ^ 149) (mixed-at p q t b c wp wq wt wb wc pt tq a r first last some unit) some large (one-most b wb) (one-most c wc)
 
--- at the end stands c itself
-pub end-itself : (b c l u : ℕ) → Line c b c l 0 u
-end-itself b c l u = record { high = high b c l u; low = low b c l u }
-  where
-    high : (b c l u : ℕ) → 2 ^ 16 * (c * (l + 0)) ≤ 2 ^ 16 * (b * 0 + c * l) + u * (l + 0)
-    high b c l u = omega arith
-
-    low : (b c l u : ℕ) → 2 ^ 16 * (b * 0 + c * l) ≤ 2 ^ 16 * (c * (l + 0)) + u * (l + 0)
-    low b c l u = omega arith
-
 module _ (p q a t e b c k : Float) (wp : Clear p) (wq : Clear q) (wa : Clear a) (wt : Clear t) (we : Clear e) (wb : Clear b) (wc : Clear c) (wk : Clear k)
     (pa : T (le p a)) (at : T (le a t)) (te : T (le t e)) (eq : T (le e q)) (some : count a < count e)
     (unit-a : Clear (mixAt p q b c a)) (unit-t : Clear (mixAt p q b c t)) (unit : Clear (mixAt a e (mixAt p q b c a) k t))

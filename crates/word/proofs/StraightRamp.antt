@@ -1,4 +1,4 @@
--- An ordinary ramp between two lent positions: two points there, or one and the second of these, show every f32 between within the least threshold. Assumes nothing.
+-- An ordinary ramp between two lent positions: two points there show every f32 between them within the least threshold. Assumes nothing.
 use mathlib.Core.Path.{_≡_, refl, sym, ap, _∙_, subst}
 use mathlib.Core.Bool.{Bool, true, false, true≢false}
 use mathlib.Core.List.{List}
@@ -26,7 +26,7 @@ use Rattle.stops.specs.Place.{firstAt, placeOf}
 use Rattle.stops.specs.Pair.{pairOf, between, colourIn}
 use Rattle.stops.specs.declared.Kind.the-variants.{Linear}
 use Rattle.stops.proofs.Valid.{Valid, first-le}
-use Rattle.stops.proofs.Choice.{first-reaches, place-last, place-between}
+use Rattle.stops.proofs.Choice.{first-reaches, place-between}
 use Rattle.gradient.specs.Ramp.{isGimp, minIn, maxIn, minOf, maxOf, colourOf}
 use Rattle.gradient.proofs.Valid.{valid}
 use Rattle.sampling.specs.Constants.{leastThreshold}
@@ -34,7 +34,7 @@ use Rattle.ordinary.specs.Ordinary.{Ordinary}
 use Rattle.ordinary.proofs.Colours.{Past}
 use Rattle.word.proofs.Singles.{Single}
 use Rattle.word.proofs.Weighed.{not-le}
-use Rattle.word.proofs.Straight.{mixAt, line-at, end-itself}
+use Rattle.word.proofs.Straight.{mixAt, line-at}
 use Rattle.word.proofs.MixSteps.{Line}
 use Rattle.word.proofs.MixLine.{le-counts}
 use Rattle.word.proofs.StraightPair.{Stands, mix-clear, colour-clear, pair-near}
@@ -129,11 +129,6 @@ module _ (ramp : Ramp) (o : Ordinary ramp) where
         let last : le (posAt ps (length ps - 1)) t ≡ false = subst (λ (x : Float). le x t ≡ false) last-is-max (not-le t (maxOf ramp) h) in
         rw (o .linear, place-between ps t not-first last past-number, first-at)
 
-  -- ---- the last lent position: its own colour stands there
-  pub colour-last : (t : Float) → le t (posAt ps 0) ≡ false → le (posAt ps (length ps - 1)) t ≡ true → colourOf ramp t ≡ colourAt cs (length ps - 1)
-  unfolding colourOf colourIn
-  colour-last t a b = rw (o .linear, place-last ps t a b)
-
   -- ---- a point a between two lent positions, another e after it up to the second of these, and t between the two
   module _ (k : ℕ) (a t e : Float) (at : Past ps k a) (sa : Single a) (st : Single t) (se : Single e) (up : T (lt a t)) (to : T (le t e)) (end : T (le e (posAt ps k))) (under : T (lt t (maxOf ramp))) where
     abbrev from : Float
@@ -205,22 +200,3 @@ module _ (ramp : Ramp) (o : Ordinary ramp) where
         one : {l d : ℕ} {x y : Float} → count from + l ≡ count e → count e + d ≡ count next → Clear x → Clear y → Line (count (mixAt from next x y e)) (count x) (count y) l d (2 ^ 149)
         one {l} {d} {x} {y} i j u v =
             line-at from next e x y wp wq we u v (below k e at-e) end (mix-clear from next e wp wq we (below k e at-e) end counts x y u v) l d i j (some (count from) l (count e) d (count next) i j counts)
-
-  -- at the very end the last colour stands
-  module _ (k : ℕ) (a t : Float) (at : Past ps k a) (sa : Single a) (st : Single t) (up : T (lt a t)) (to : T (le t (posAt ps k))) (under : T (lt t (maxOf ramp))) where
-    end-same : T (le (posAt ps k) (posAt ps k))
-    end-same = le-refl (posAt ps k) (no-nan-r t (posAt ps k) to)
-
-    end-single : Single (posAt ps k)
-    end-single = o .places k (at .there)
-
-    pub near-last : k ≡ length ps - 1 → T (le (distanceOf (colourOf ramp t) (linear (colourOf ramp a) (colourOf ramp (posAt ps k)) ((t ⊖ a) ⊘ (posAt ps k ⊖ a)))) leastThreshold)
-    near-last e =
-        let q = posAt ps k in
-        rw (colour-last q (not-first k q (at-e k a t q at sa st end-single up to end-same under)) (subst (λ (i : ℕ). le (posAt ps i) q ≡ true) e (is-true _ end-same)))
-        (subst (λ (i : ℕ). T (le (distanceOf (colourOf ramp t) (linear (colourOf ramp a) (colourAt cs i) ((t ⊖ a) ⊘ (q ⊖ a)))) leastThreshold)) e
-        (near k a t q at sa st end-single up to end-same under (colourAt cs k) (stop-clear k (at .there))
-        (λ l d i j. subst (Stands (colourAt cs (k - 1)) (colourAt cs k) (colourAt cs k) l) (nothing (count q) d j) (record { red = end-itself _ _ l _; green = end-itself _ _ l _; blue = end-itself _ _ l _; alpha = end-itself _ _ l _ }))))
-      where
-        nothing : (m d : ℕ) → m + d ≡ m → 0 ≡ d
-        nothing m d h = omega arith
