@@ -161,6 +161,22 @@ static void random_ramp(float *places, float *colours, size_t m)
     qsort(places, m, sizeof *places, by_size);
 }
 
+/* four stops, the two between beside the straight line from the first to the last, each channel by a hold: there the list is off by as much as it may, all the way from one to the other */
+static void level_ramp(float *places, float *colours, float hold)
+{
+    double size = pow(2, 20 * random01() - 10), from = size * (2 * random01() - 1), less = 1 - 1e-6 * random01();
+    for (size_t i = 0; i < 4; i++)
+        places[i] = (float)(from + size * random01());
+    qsort(places, 4, sizeof *places, by_size);
+    for (int j = 0; j < 4; j++) {
+        double first = 0.05 + 0.9 * random01(), last = 0.05 + 0.9 * random01(), beside = (random01() < 0.5 ? -hold : hold) * less;
+        for (size_t i = 0; i < 4; i++) {
+            double share = ((double)places[i] - places[0]) / ((double)places[3] - places[0]);
+            colours[4 * i + (size_t)j] = (float)(first + share * (last - first) + (i % 3 == 0 ? 0 : beside));
+        }
+    }
+}
+
 static float any_depth(const float *places, size_t m, size_t stops)
 {
     double pick = random01();
@@ -178,7 +194,10 @@ static void everywhere(long count)
     for (long n = 0; n < count; n++) {
         size_t m = 2 + (size_t)(random01() * (MOST_STOPS - 2));
         float places[MOST_STOPS], colours[4 * MOST_STOPS], hold = (float[]){0.001f, 0.007f, 0.035f}[n % 3];
-        random_ramp(places, colours, m);
+        if (random01() < 0.5)
+            random_ramp(places, colours, m);
+        else
+            level_ramp(places, colours, hold), m = 4;
         ColorgradRamp ramp = colorgrad_ramp(COLORGRAD_LINEAR, colorgrad_stops(places, colours, m));
         ColorgradListed made = colorgrad_ramp_flatten_within(ramp, 0.035f, hold, colorgrad_record(&record), colorgrad_list(&list));
         if (made.refusal != COLORGRAD_FINE)
