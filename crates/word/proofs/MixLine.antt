@@ -1,17 +1,17 @@
 -- A straight mix of two numbers from 0 to 1, between two places from 0 to 1, by its rounded steps (`mixed-at`). Assumes nothing.
 use mathlib.Core.Path.{_≡_, refl, sym, ap, _∙_, subst}
-use mathlib.Core.Bool.{Bool, true, false}
-use Prim.Native.Nat.{ℕ, _+_, _-_, _*_, _^_, _≤_, _<_}
-use native.Mathlib.Nat.{zero-mul, mul-pos, lt-of-not-le, not-le-of-lt, zero-lt-suc, eq-of-mul-eq-mul-right}
+use mathlib.Core.Bool.{true, false}
+use Prim.Native.Nat.{ℕ, _+_, _*_, _^_, _≤_, _<_}
+use native.Mathlib.Nat.{zero-mul, mul-pos, eq-of-mul-eq-mul-right}
 use native.Mathlib.Omega.{arith}
-use lib.Dec.{T, lit<, lit≤}
+use lib.Dec.{T, lit<}
 use lib.Pow.{pow-pos}
-use lib.Ieee.{Float, nan, inf, fin, binary32, ofBits, fits, neg, sub, add, sum, mul, round, le}
+use lib.Ieee.{Float, nan, inf, fin, binary32, ofBits, neg, sub, add, sum, mul, round, le}
 use lib.Ieee.Bits.{ofBits-fits}
 use lib.Ieee.Fits.{sub-fits, mul-fits, div-fits, neg-fits}
 use lib.Ieee.Positive.{den, den-pos}
 use lib.Ieee.Scale.{finite}
-use Rattle.float.specs.F32.{_⊕_, _⊖_, _⊗_, _⊘_, f0, f1}
+use Rattle.float.specs.F32.{_⊖_, _⊗_, _⊘_, f0, f1}
 use Rattle.float.specs.Units.{count}
 use Rattle.float.proofs.Order as order
 use Rattle.float.proofs.Units.{factor}

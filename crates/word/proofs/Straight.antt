@@ -1,16 +1,17 @@
 -- On the way from one place to another, mixed straight between two numbers from 0 to 1: the mix of what stands at a point of it and at its end is what stands between, but for 3 * 2 ^ -16. Assumes nothing.
-use mathlib.Core.Path.{_≡_, sym, _∙_, subst}
+use mathlib.Core.Path.{_≡_}
 use Prim.Native.Nat.{ℕ, _+_, _*_, _^_, _≤_, _<_}
 use native.Mathlib.Nat.{le-dest}
 use native.Mathlib.Omega.{arith}
 use lib.Dec.{T, lit≤}
 use lib.Ieee.{Float, le}
-use Rattle.float.specs.F32.{_⊖_, _⊘_, f0}
+use Rattle.float.specs.F32.{_⊖_, _⊘_}
 use Rattle.float.specs.Units.{count}
 use Rattle.float.proofs.Order as order
 use Rattle.blend.specs.Blend.{linear1}
 use Rattle.blend.proofs.Clear.{Clear}
-use Rattle.word.proofs.MixSteps.{Line, mixed-line, straight}
+use Rattle.word.proofs.MixSteps.{Line, mixed-line}
+use Rattle.word.proofs.ThreePoints.{straight}
 use Rattle.word.proofs.MixLine.{counts-le, one-most, mixed-at}
 
 -- the mix of b and c at t, from p to q

@@ -1,6 +1,5 @@
 -- Two colours within 0 to 1 and what is mixed straight between them: two points on the way show what lies between them within the least threshold. Assumes nothing.
 use mathlib.Core.Path.{_≡_, subst}
-use mathlib.Core.Bool.{false}
 use Prim.Native.Nat.{ℕ, _+_, _*_, _^_, _≤_, _<_}
 use native.Mathlib.Nat.{le-dest, lt-of-not-le}
 use native.Mathlib.Omega.{arith}
@@ -8,12 +7,12 @@ use lib.Dec.{T, lit≤}
 use lib.Ieee.{Float, binary32, neg, sub, le, lt}
 use lib.Ieee.Fits.{add-fits}
 use lib.Ieee.Scale.{finite}
-use Rattle.float.specs.F32.{_⊖_, _⊘_, f0, f1}
+use Rattle.float.specs.F32.{_⊖_, _⊘_}
 use Rattle.float.specs.Number.{clampOf}
 use Rattle.float.specs.Units.{count}
 use Rattle.float.proofs.Order as order
-use Rattle.float.proofs.UnitSums.{Counted, opposite, sum-under}
-use Rattle.blend.specs.Blend.{linear, linear1}
+use Rattle.float.proofs.UnitSums.{opposite, sum-under}
+use Rattle.blend.specs.Blend.{linear}
 use Rattle.blend.specs.declared.Rgba.{Rgba}
 use Rattle.difference.specs.Difference.{distanceOf}
 use Rattle.difference.proofs.Sizes.{Small}

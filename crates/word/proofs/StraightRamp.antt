@@ -1,8 +1,7 @@
 -- An ordinary ramp between two lent positions: two points there show every f32 between them within the least threshold. Assumes nothing.
-use mathlib.Core.Path.{_≡_, refl, sym, ap, _∙_, subst}
+use mathlib.Core.Path.{_≡_, refl, sym, _∙_, subst}
 use mathlib.Core.Bool.{Bool, true, false, true≢false}
 use mathlib.Core.List.{List}
-use mathlib.Core.Logic.{inl, inr}
 use Prim.Native.Nat.{ℕ, _+_, _-_, _*_, _^_, _≤_, _<_}
 use native.Mathlib.Nat.{lt-of-not-le, le-antisymm}
 use native.Mathlib.Decide.{decLe}
@@ -13,7 +12,7 @@ use lib.Ieee.{Float, nan, le, lt, isNan}
 use lib.Ieee.Bits.{is-true}
 use Rattle.float.specs.F32.{_⊖_, _⊘_, f0, f1}
 use Rattle.float.specs.Units.{count}
-use Rattle.float.proofs.Order.{as-T, le-trans, lt→le, le→not-lt, no-nan-l, no-nan-r, not-lt→le, le-refl, le-lt-trans, lt-le-trans, eq→le, eq→ge}
+use Rattle.float.proofs.Order.{as-T, le-trans, lt→le, le→not-lt, no-nan-l, not-lt→le, le-lt-trans, lt-le-trans, eq→le, eq→ge}
 use Rattle.blend.specs.Blend.{linear}
 use Rattle.blend.specs.Pair.{linearPair}
 use Rattle.blend.specs.declared.Rgba.{Rgba}
@@ -22,9 +21,8 @@ use Rattle.blend.proofs.Clear.{Clear}
 use Rattle.difference.proofs.Measuring.{ClearColour}
 use Rattle.stops.specs.Lent.{Ramp}
 use Rattle.stops.specs.Stops.{posAt, colourAt}
-use Rattle.stops.specs.Place.{firstAt, placeOf}
+use Rattle.stops.specs.Place.{firstAt}
 use Rattle.stops.specs.Pair.{pairOf, between, colourIn}
-use Rattle.stops.specs.declared.Kind.the-variants.{Linear}
 use Rattle.stops.proofs.Valid.{Valid, first-le}
 use Rattle.stops.proofs.Choice.{first-reaches, place-between}
 use Rattle.gradient.specs.Ramp.{isGimp, minIn, maxIn, minOf, maxOf, colourOf}
