@@ -33,9 +33,9 @@ use Rattle.ordinary.proofs.Colours.{Past}
 use Rattle.word.proofs.Singles.{Single}
 use Rattle.word.proofs.Weighed.{not-le}
 use Rattle.word.proofs.Straight.{mixAt, line-at}
-use Rattle.word.proofs.MixSteps.{Line}
+use Rattle.word.proofs.ThreePoints.{Line}
 use Rattle.word.proofs.MixLine.{le-counts}
-use Rattle.word.proofs.StraightPair.{Stands, mix-clear, colour-clear, pair-near}
+use Rattle.word.proofs.StraightPair.{Stands, colour-clear, pair-near}
 
 module _ (ramp : Ramp) (o : Ordinary ramp) where
   abbrev ps : List Float
@@ -197,4 +197,4 @@ module _ (ramp : Ramp) (o : Ordinary ramp) where
 
         one : {l d : ℕ} {x y : Float} → count from + l ≡ count e → count e + d ≡ count next → Clear x → Clear y → Line (count (mixAt from next x y e)) (count x) (count y) l d (2 ^ 149)
         one {l} {d} {x} {y} i j u v =
-            line-at from next e x y wp wq we u v (below k e at-e) end (mix-clear from next e wp wq we (below k e at-e) end counts x y u v) l d i j (some (count from) l (count e) d (count next) i j counts)
+            line-at from next e x y wp wq we u v (below k e at-e) end l d i j (some (count from) l (count e) d (count next) i j counts)

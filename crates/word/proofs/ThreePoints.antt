@@ -3,7 +3,11 @@ use mathlib.Core.Path.{_≡_, subst}
 use Prim.Native.Nat.{ℕ, _+_, _*_, _^_, _≤_, _<_}
 use native.Mathlib.Nat.{mul-assoc, mul-pos, mul-le-mul-right, le-of-mul-le-mul-right}
 use native.Mathlib.Omega.{arith}
-use Rattle.word.proofs.MixSteps.{Line}
+
+-- how a mix g of two numbers b and c lies, a of the way come and r of it left: off by no more than 2 ^ -16
+pub record Line (g b c a r u : ℕ) : Type 0 where
+  pub high : 2 ^ 16 * (g * (a + r)) ≤ 2 ^ 16 * (b * r + c * a) + u * (a + r)
+  pub low : 2 ^ 16 * (b * r + c * a) ≤ 2 ^ 16 * (g * (a + r)) + u * (a + r)
 
 -- a straight way from b to c: a come to the first point, s from there to the second, r to the third, d left. The mix of what stands at the first point and at the third is what stands at the second, but for the errors
 exact : (b c a s r d : ℕ) → (b * (r + d) + c * (a + s)) * (s + r) ≡ (b * (s + r + d) + c * a) * r + (b * d + c * (a + s + r)) * s
