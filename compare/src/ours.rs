@@ -4,7 +4,7 @@ use crate::apart;
 use crate::ffi;
 use crate::judge::Verdict;
 use crate::oracle::Record;
-use crate::ramps::Ramp;
+use crate::ramps::{Kind, Ramp};
 use crate::within::Asked;
 
 /// What a call tells is put over this.
@@ -264,10 +264,9 @@ pub struct Sheet {
 impl Sheet {
     /// How many positions and channels are the ramp's own.
     pub fn lengths(&self) -> (usize, usize) {
-        if self.ramp.kind.has_segments() {
-            (3 * self.stops, 8 * self.stops)
-        } else {
-            (self.stops, 4 * self.stops)
+        match self.ramp.kind {
+            Kind::Gimp => (3 * self.stops, 8 * self.stops),
+            _ => (self.stops, 4 * self.stops),
         }
     }
 

@@ -22,11 +22,6 @@ impl Kind {
         self as u32
     }
 
-    /// Its items are segments, not stops.
-    pub fn has_segments(self) -> bool {
-        self == Kind::Gimp
-    }
-
     pub fn name(self) -> &'static str {
         match self {
             Kind::Linear => "linear",
