@@ -1,8 +1,9 @@
 //! Calls on slices, with nothing allocated: `cargo test --no-default-features --tests` runs these, over the crate without
 //! `alloc`.
 
-use guineaplume::slices::{self, Kind, Ramp, Record, RecordMut, StopsMut, CELLS, MARKS, MOST_POINTS, ROWS};
-use guineaplume::{Color, Edit, Refusal, Stops, Verdict, DEFAULT_THRESHOLD};
+use guineaplume::slices::{self, Kind, Listed, Ramp, Record, RecordMut, Sheet, Sheeted, StopsMut};
+use guineaplume::slices::{CELLS, MARKS, MOST_POINTS, ROWS};
+use guineaplume::{Color, Edit, ListSort, Refusal, Stops, Verdict, DEFAULT_THRESHOLD};
 
 const CHANNELS: [f32; 12] = [0.0, 0.0, 0.0, 1.0, 0.75, 0.75, 0.75, 1.0, 1.0, 1.0, 1.0, 1.0];
 
@@ -28,6 +29,36 @@ fn a_ramp_is_flattened_refreshed_and_judged() {
     let record = RecordMut { rows: &mut rows, counts: &mut counts, marks: &mut marks };
     let edit = Edit::Move { stop: 1, position: 2.0 };
     assert_eq!(ramp().refresh(edit, DEFAULT_THRESHOLD, record), Err(Refusal::Falling));
+}
+
+#[test]
+fn a_sheet_is_edited_in_place() {
+    let (mut rows, mut counts, mut marks) = ([0.0; ROWS], [0; CELLS], [0; MARKS]);
+    let (mut places, mut colours) = ([0.0; MOST_POINTS], [0.0; 4 * MOST_POINTS]);
+    // room for one stop more
+    let (mut positions, mut channels) = ([0.0, 0.5, 1.0, 7.0], [7.0; 16]);
+    channels[..12].copy_from_slice(&CHANNELS);
+    let record = RecordMut { rows: &mut rows, counts: &mut counts, marks: &mut marks };
+    let list = StopsMut { positions: &mut places, channels: &mut colours };
+    let opened = ramp().open_sheet(DEFAULT_THRESHOLD, ListSort::Within(0.001), record, list);
+    assert!(matches!(opened, Ok(Sheeted { stops: 3, list: Ok(Listed { stops: 3, .. }) })));
+
+    let mut sheet = Sheet {
+        kind: Kind::Linear,
+        positions: &mut positions,
+        channels: &mut channels,
+        codes: &[],
+        stops: 3,
+        threshold: DEFAULT_THRESHOLD,
+        sort: ListSort::Within(0.001),
+        record: RecordMut { rows: &mut rows, counts: &mut counts, marks: &mut marks },
+        list: StopsMut { positions: &mut places, channels: &mut colours },
+    };
+    let add = Edit::Add { stop: 1, position: 0.25, color: Color::new(1.0, 0.0, 0.0, 1.0) };
+    assert!(matches!(sheet.edit(add), Ok(Sheeted { stops: 4, list: Ok(Listed { stops: 4, .. }) })));
+    assert_eq!(sheet.edit(add), Err(Refusal::BadEdit));
+    assert!(matches!(sheet.edit(Edit::Remove { stop: 2 }), Ok(Sheeted { stops: 3, .. })));
+    assert_eq!((sheet.stops, &places[..3], &positions[..3]), (3, &[0.0, 0.25, 1.0][..], &[0.0, 0.25, 1.0][..]));
 }
 
 #[test]
