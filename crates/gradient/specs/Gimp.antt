@@ -1,4 +1,4 @@
--- GIMP segments: their check, and their colour at t. The evaluation of item 6 of document 01's 'Ramps carried', and the last point of 'What a GIMP file may hold'; document 02 (i), (ix); issue 42's curved segments.
+-- GIMP segments: their check, and their colour at t. The evaluation of item 6 of document 01's 'Ramps carried', and the last point of 'What a GIMP file may hold'; document 02 (i), (ix); curved segments, an addition of our own (docs/RULES.md).
 -- Segment i has positions 3i, 3i + 1, 3i + 2 (left, middle, right), channels 8i to 8i + 7 (left r g b a, right r g b a) and codes 2i, 2i + 1 (blending, colouring).
 -- Past the end of a list a number is not-a-number and a code is 0, so that any lists at all have a colour.
 use Prim.Native.Nat.{ℕ, zero, suc, _+_, _*_, _/_}
@@ -98,7 +98,7 @@ takesCurved GimpSaved = true
 abbrev pub asksMiddle : Kind → ℕ → Bool
 asksMiddle kind blending = cond (eqb blending curvedCode) (takesCurved kind) (eqb blending sinusoidalCode)
 
--- A sinusoidal or curved segment is carried where its middle is not outside its ends: document 02 (i), issue 42. Of the others nothing is asked but the codes.
+-- A sinusoidal or curved segment is carried where its middle is not outside its ends: document 02 (i), and by our own rule. Of the others nothing is asked but the codes.
 unfoldable pub carried : Kind → ℕ → ℕ → Float → Float → Float → Bool
 carried kind blending colouring left middle right =
     leb colouring fallingCode
