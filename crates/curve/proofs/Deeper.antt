@@ -6,7 +6,7 @@ use native.Mathlib.Nat.{lt-of-not-le, eq-or-lt-of-le}
 use native.Mathlib.Decide.{decLe}
 use native.Mathlib.Omega.{arith}
 use lib.Dec.{T}
-use lib.Ieee.{Float, binary32, ofBits, toBits, ofInt, le, add, sub, mul, div}
+use lib.Ieee.{Float, binary32, ofBits, toBits, le, add, sub, mul, div}
 use lib.Ieee.Fits.{mul-fits}
 use lib.Ieee.Scale.{finite}
 use borrow.Author.Tests.{lt-ltb, le-ltb}
@@ -18,24 +18,13 @@ use Rattle.float.proofs.Rounding.{add-mono}
 use Rattle.float.proofs.Wholes.{count-held, count-mono, count-sum}
 use Rattle.float.proofs.Chains.{Chain, first-finite, second-finite}
 use Rattle.curve.specs.Depth.{lift, seriesOf, partOf, levelOf, depthOf}
+use Rattle.curve.proofs.Closed.{zero-finite, zero-count, one-count}
 use Rattle.curve.proofs.Sums.{first, last, least, part-falls}
 use Rattle.curve.proofs.Inside.{Inside, inside-mono, lifted-row, lifted-plain, lifted-field}
 
 -- ---- k whole halvings, and the part that the digits t tell
 abbrev sunk : ℕ → ℕ → Float
 sunk k t = countOf k ⊕ partOf (at (first + t))
-
-zero-count : countOf 0 ≡ f0
-unfolding ofInt ofBits
-zero-count = refl
-
-one-count : countOf 1 ≡ f1
-unfolding ofInt ofBits
-one-count = refl
-
-zero-finite : T (finite f0)
-unfolding ofBits
-zero-finite = tt
 
 least-alone : f0 ⊕ least ≡ least
 unfolding partOf seriesOf ofBits sub add mul div

@@ -19,6 +19,7 @@ use Rattle.float.proofs.Rounding.{sub-mono, sub-rising}
 use Rattle.float.proofs.Wholes.{count-held, count-mono, whole-is, whole-mono, at-least, left-least, left-most}
 use Rattle.float.proofs.Chains.{Chain, chain-product}
 use Rattle.curve.specs.Factor.{powerOf, loweredOf, bottom, fallOf}
+use Rattle.curve.proofs.Closed.{zero-finite, one-finite, zero-zero, zero-one, one-one, one-count}
 use Rattle.curve.proofs.Sums.{power-chain, power-whole, power-none}
 
 -- ---- r below 32 and its whole part
@@ -39,7 +40,7 @@ bottom-whole = refl
 pub stepped : (r : Float) → T (le f0 r) → le bottom r ≡ false → (j : ℕ) × Stepped r j
 stepped r h n =
     let up : T (le r bottom) = elim (le-total r bottom (no-nan-r f0 r h) (unfold ofBits isNan in refl)) [ inl k ↦ k | inr k ↦ absurd (true≢false (sym (is-true (le bottom r) k) ∙ n)) ] in
-    let f = finite-between f0 r bottom (unfold ofBits in tt) (unfold ofBits in tt) h up in
+    let f = finite-between f0 r bottom zero-finite (unfold ofBits in tt) h up in
     let w = whole-is r f h in
     let l = whole-mono r bottom (w .0) 32 f (unfold ofBits in tt) h up (w .1) bottom-whole (omega arith) in
     (w .0, record { bounded = f; low = h; is = w .1; few = below (w .0) l (λ e. at-least r (w .0) f h (w .1) (omega arith)) })
@@ -89,29 +90,13 @@ module _ (j : ℕ) (few : j < 32) where
     low = pattern-le 0 ((126 - j) * 2 ^ 23) (omega arith) (omega arith);
     mid = pattern-le ((126 - j) * 2 ^ 23) ((126 - j) * 2 ^ 23) (omega arith) (omega arith);
     high = scale-most;
-    bounded = unfold ofBits in tt;
+    bounded = one-finite;
   }
 
 -- ---- what is left of the last step
-one-count : countOf 1 ≡ f1
-unfolding ofInt ofBits
-one-count = refl
-
 one-left : f1 ⊖ f0 ≡ f1
 unfolding ofBits sub
 one-left = refl
-
-one-finite : T (finite f1)
-unfolding ofBits
-one-finite = tt
-
-zero-finite : T (finite f0)
-unfolding ofBits
-zero-finite = tt
-
-one-one : T (le f1 f1)
-unfolding ofBits le
-one-one = tt
 
 abbrev rest : Float → ℕ → Float
 rest r j = f1 ⊖ (r ⊖ countOf j)
@@ -138,7 +123,7 @@ scaled j few c = chain-product (scale-row j few) (power-chain c) (unfold powerOf
 
 module _ (r : Float) (j : ℕ) (s : Stepped r j) where
   from-none : Chain f0 (rest r j) f1
-  from-none = record { low = unfold ofBits le in tt; mid = rest-low r j s; high = rest-high r j s; bounded = one-finite }
+  from-none = record { low = zero-zero; mid = rest-low r j s; high = rest-high r j s; bounded = one-finite }
 
   to-one : Chain (rest r j) f1 f1
   to-one = record { low = rest-low r j s; mid = rest-high r j s; high = one-one; bounded = one-finite }
@@ -204,7 +189,7 @@ pub fall-within : (r : Float) → T (le f0 r) → T (le f0 (fallOf r)) × T (le 
 fall-within r h = go (le bottom r) refl
   where
     go : (b : Bool) → le bottom r ≡ b → T (le f0 (fallOf r)) × T (le (fallOf r) f1)
-    go true e = subst (λ (x : Float). T (le f0 x) × T (le x f1)) (fall-none r e) (unfold ofBits le in (tt, tt))
+    go true e = subst (λ (x : Float). T (le f0 x) × T (le x f1)) (fall-none r e) (zero-zero, zero-one)
     go false e = let w = stepped r h e in subst (λ (x : Float). T (le f0 x) × T (le x f1)) (fall-stepped r (w .0) (w .1) e) (lowered-within r (w .0) (w .1))
 
 pub fall-falls : (q r : Float) → T (le f0 q) → T (le q r) → T (le (fallOf r) (fallOf q))

@@ -9,40 +9,18 @@ use Rattle.float.specs.F32.{_⊘_, f0, f1, half}
 use Rattle.float.proofs.Order.{as-T, le-trans, le-refl, lt-is, lt→le, no-nan-l, no-nan-r}
 use Rattle.float.proofs.Quotients.{div-mono, self-quotient}
 use Rattle.curve.specs.Depth.{seriesOf, partOf, levelOf, depthOf}
-use Rattle.curve.specs.Factor.{fallOf, factorOf, Curved}
+use Rattle.curve.specs.Factor.{fallOf, factorOf, FactorLaws}
+use Rattle.curve.proofs.Closed.{zero-zero, zero-one, one-one, one-over, zero-number, one-number}
 use Rattle.curve.proofs.Inside.{Inside, inside}
 use Rattle.curve.proofs.Deeper.{depth-falls}
+use Rattle.curve.proofs.Halved.{split}
 use Rattle.curve.proofs.Falling.{fall-within, fall-falls, fall-one}
 use Rattle.curve.proofs.Tested.{depth-finite, depth-low, depth-some, ratio-low, between, place-low, place-high, middle-low, middle-high, middle-inside}
 
 -- ---- closed facts
-half-deep : depthOf half ≡ f1
+pub half-deep : depthOf half ≡ f1
 unfolding depthOf levelOf partOf seriesOf ofBits toBits ofInt add sub mul div
 half-deep = refl
-
-zero-number : isNan f0 ≡ false
-unfolding ofBits isNan
-zero-number = refl
-
-one-number : isNan f1 ≡ false
-unfolding ofBits isNan
-one-number = refl
-
-zero-zero : T (le f0 f0)
-unfolding ofBits le
-zero-zero = tt
-
-zero-one : T (le f0 f1)
-unfolding ofBits le
-zero-one = tt
-
-one-one : T (le f1 f1)
-unfolding ofBits le
-one-one = tt
-
-one-over : le f1 f0 ≡ false
-unfolding ofBits le
-one-over = refl
 
 abbrev Within : Float → Type 0
 Within x = T (le f0 x) × T (le x f1)
@@ -98,8 +76,8 @@ within-at p m n k (inner o) (before h) = subst Within (passed p m o k h) (zero-o
 within-at p m n k (inner o) (after a h) = subst Within (ahead p m o k a h) (zero-zero, zero-one)
 within-at p m n k (inner o) (inner w) = subst Within (curves p m o k w) (fall-within (depthOf p ⊘ depthOf m) (ratio-low p m (o .is) (w .is)))
 
-within : (p m : Float) → T (fits binary32 p) → T (fits binary32 m) → isNan p ≡ false → isNan m ≡ false → Within (factorOf p m)
-within p m f g n k = within-at p m n k (lies p f n) (lies m g k)
+pub factor-within : (p m : Float) → T (fits binary32 p) → T (fits binary32 m) → isNan p ≡ false → isNan m ≡ false → Within (factorOf p m)
+factor-within p m f g n k = within-at p m n k (lies p f n) (lies m g k)
 
 -- ---- in order
 open-rises : (p q m : Float) → isNan m ≡ false → Open p → Open q → T (le p q) → Lies m → T (le (factorOf p m) (factorOf q m))
@@ -110,8 +88,8 @@ open-rises p q m k o u h (inner w) =
     (subst (λ (x : Float). T (le (fallOf (depthOf p ⊘ depthOf m)) x)) (curves q m u k w)
     (fall-falls (depthOf q ⊘ depthOf m) (depthOf p ⊘ depthOf m) (ratio-low q m (u .is) (w .is)) (ratio-falls p q m (o .is) (u .is) (w .is) h)))
 
-rises : (p q m : Float) → T (fits binary32 p) → T (fits binary32 q) → T (fits binary32 m) → isNan m ≡ false → T (le p q) → T (le (factorOf p m) (factorOf q m))
-rises p q m fp fq fm k h = go (lies p fp np) (lies q fq nq)
+pub factor-rising : (p q m : Float) → T (fits binary32 p) → T (fits binary32 q) → T (fits binary32 m) → isNan m ≡ false → T (le p q) → T (le (factorOf p m) (factorOf q m))
+factor-rising p q m fp fq fm k h = go (lies p fp np) (lies q fq nq)
   where
     np : isNan p ≡ false
     np = no-nan-l p q h
@@ -120,10 +98,10 @@ rises p q m fp fq fm k h = go (lies p fp np) (lies q fq nq)
     nq = no-nan-r p q h
 
     to-one : le q f0 ≡ false → T (le f1 q) → T (le (factorOf p m) (factorOf q m))
-    to-one a l = subst (λ (x : Float). T (le (factorOf p m) x)) (factor-after q m nq a l) (within p m fp fm np k .1)
+    to-one a l = subst (λ (x : Float). T (le (factorOf p m) x)) (factor-after q m nq a l) (factor-within p m fp fm np k .1)
 
     go : Lies p → Lies q → T (le (factorOf p m) (factorOf q m))
-    go (before l) z = subst (λ (x : Float). T (le x (factorOf q m))) (factor-before p m np l) (within q m fq fm nq k .0)
+    go (before l) z = subst (λ (x : Float). T (le x (factorOf q m))) (factor-before p m np l) (factor-within q m fq fm nq k .0)
     go (inner o) (after a l) = to-one a l
     go (after b j) (after a l) = to-one a l
     go (inner o) (inner u) = open-rises p q m k o u h (lies m fm k)
@@ -132,14 +110,14 @@ rises p q m fp fq fm k h = go (lies p fp np) (lies q fq nq)
     go (after a l) (inner u) = absurd (true≢false (sym (is-true (le f1 q) (le-trans f1 p q l h)) ∙ u .under))
 
 -- ---- at the ends and at the middle
-starts : (m : Float) → factorOf f0 m ≡ f0
-starts m = sym (factor-before f0 m zero-number zero-zero)
+pub factor-starts : (m : Float) → factorOf f0 m ≡ f0
+factor-starts m = sym (factor-before f0 m zero-number zero-zero)
 
-ends : (m : Float) → factorOf f1 m ≡ f1
-ends m = sym (factor-after f1 m one-number one-over one-one)
+pub factor-ends : (m : Float) → factorOf f1 m ≡ f1
+factor-ends m = sym (factor-after f1 m one-number one-over one-one)
 
-halves : (m : Float) → T (fits binary32 m) → T (lt f0 m) → T (lt m f1) → factorOf m m ≡ half
-halves m f l h =
+pub factor-middle : (m : Float) → T (fits binary32 m) → T (lt f0 m) → T (lt m f1) → factorOf m m ≡ half
+factor-middle m f l h =
     let n = no-nan-r f0 m (lt→le f0 m l) in
     let o : Open m = record { number = n; over = denied f0 m zero-number n l; under = denied m f1 n one-number h; is = inside m f l h } in
     sym (curves m m o n o) ∙ ap fallOf (self-quotient (depthOf m) (depth-some m (o .is))) ∙ fall-one
@@ -147,5 +125,13 @@ halves m f l h =
     denied : (x y : Float) → isNan x ≡ false → isNan y ≡ false → T (lt x y) → le y x ≡ false
     denied x y a b t = not-true (le y x) (sym (lt-is x y a b) ∙ is-true (lt x y) t)
 
-pub curved : Curved
-curved = record { half-deep = half-deep; within = within; rises = rises; starts = starts; ends = ends; halves = halves }
+pub factor-laws : FactorLaws
+factor-laws = record {
+  split = λ x f l h. split x (inside x f l h);
+  half-deep = half-deep;
+  factor-within = factor-within;
+  factor-rising = factor-rising;
+  factor-starts = factor-starts;
+  factor-middle = factor-middle;
+  factor-ends = factor-ends;
+}

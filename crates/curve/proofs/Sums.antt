@@ -13,6 +13,7 @@ use Rattle.float.proofs.SignedRound.{pro}
 use Rattle.float.proofs.Chains.{Chain, second-finite, chain-same, chain-sum, chain-product, chain-quotient}
 use Rattle.curve.specs.Depth.{a0, a1, a2, a3, seriesOf, partOf}
 use Rattle.curve.specs.Factor.{b1, b2, b3, b4, b5, powerOf}
+use Rattle.curve.proofs.Closed.{one-finite, zero-one, one-one}
 
 -- ---- 2 to the power u, from 0 to 1
 pub power-chain : {u v : Float} → Chain u v f1 → Chain (powerOf u) (powerOf v) (powerOf f1)
@@ -23,7 +24,7 @@ power-chain {u} {v} c =
     let third = chain-product c (chain-sum (chain-same b3 (unfold ofBits in tt) (unfold ofBits le in tt)) fourth (unfold ofBits mul add in tt)) (unfold ofBits mul add in tt) in
     let second = chain-product c (chain-sum (chain-same b2 (unfold ofBits in tt) (unfold ofBits le in tt)) third (unfold ofBits mul add in tt)) (unfold ofBits mul add in tt) in
     let first = chain-product c (chain-sum (chain-same b1 (unfold ofBits in tt) (unfold ofBits le in tt)) second (unfold ofBits mul add in tt)) (unfold ofBits mul add in tt) in
-    chain-sum (chain-same f1 (unfold ofBits in tt) (unfold ofBits le in tt)) first (unfold ofBits mul add in tt)
+    chain-sum (chain-same f1 one-finite zero-one) first (unfold ofBits mul add in tt)
 
 pub power-whole : powerOf f1 ≡ f2
 unfolding powerOf ofBits mul add
@@ -66,14 +67,6 @@ one-last : T (le (at last) f1)
 unfolding ofBits le
 one-last = tt
 
-one-one : T (le f1 f1)
-unfolding ofBits le
-one-one = tt
-
-one-finite : T (finite f1)
-unfolding ofBits
-one-finite = tt
-
 half-finite : T (finite half)
 unfolding ofBits
 half-finite = tt
@@ -88,7 +81,7 @@ module _ (m n : Float) (h : T (le half m)) (k : T (le m n)) (l : T (le n f1)) wh
 
   divisors : Chain (f1 ⊕ half) (f1 ⊕ m) (f1 ⊕ n)
   divisors =
-      let one = chain-same f1 one-finite (unfold ofBits le in tt) in
+      let one = chain-same f1 one-finite zero-one in
       chain-sum one lower (second-finite (chain-sum one upper (unfold ofBits add in tt)))
 
   rests : Chain (f1 ⊖ n) (f1 ⊖ m) (f1 ⊖ half)

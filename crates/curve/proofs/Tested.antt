@@ -1,12 +1,12 @@
 -- The factor by the tests that the code makes, and the quotient of two depths. Assumes nothing.
-use mathlib.Core.Path.{_≡_, refl, sym, ap, _∙_, subst}
+use mathlib.Core.Path.{_≡_, sym, ap, _∙_, subst}
 use mathlib.Core.Bool.{true, false, not}
 use Prim.Native.Nat.{_<_}
 use native.Mathlib.Omega.{arith}
 use lib.Dec.{T}
 use lib.IntN.{ℤ, natAbs}
 use lib.Signed.{nonNeg}
-use lib.Ieee.{Float, nan, binary32, fits, ofBits, isNan, le, lt, ne}
+use lib.Ieee.{Float, nan, binary32, fits, isNan, le, lt, ne}
 use lib.Ieee.Scale.{finite}
 use mir.Syntax.{w32}
 use mir.Val.{Fits}
@@ -19,6 +19,7 @@ use Rattle.float.proofs.Quotients.{some-more}
 use Rattle.float.proofs.Chains.{Chain, first-finite}
 use Rattle.curve.specs.Depth.{depthOf}
 use Rattle.curve.specs.Factor.{bottom, fallOf, factorAt, factorOf}
+use Rattle.curve.proofs.Closed.{zero-number, one-number}
 use Rattle.curve.proofs.Sums.{last, least, least-some, part-falls}
 use Rattle.curve.proofs.Inside.{Inside, inside}
 use Rattle.curve.proofs.Deeper.{depth-least}
@@ -49,14 +50,6 @@ pub ratio-low : (x y : Float) → Inside x → Inside y → T (le f0 (depthOf x 
 ratio-low x y i j = quotient-low (depthOf x) (depthOf y) (depth-finite x i) (depth-finite y j) (depth-some y j) (depth-low x i)
 
 -- ---- what the three tests of a number leave
-zero-number : isNan f0 ≡ false
-unfolding ofBits isNan
-zero-number = refl
-
-one-number : isNan f1 ≡ false
-unfolding ofBits isNan
-one-number = refl
-
 pub number : (x : Float) → ne x x ≡ false → isNan x ≡ false
 number x h = sym (ne-self x) ∙ h
 

@@ -7,7 +7,7 @@ use lib.Dec.{T}
 use lib.Ieee.{Float, nan, binary32, fits, ofBits, isNan, le, lt}
 use Rattle.float.specs.F32.{_⊕_, _⊖_, _⊗_, _⊘_, f0, f1, half}
 use Rattle.float.specs.Number.{countOf, wholeOf}
-use Rattle.curve.specs.Depth.{depthOf}
+use Rattle.curve.specs.Depth.{depthOf, Split}
 
 -- 0.69315, 0.24016, 0.05584, 0.00895, 0.0019
 abbrev pub b1 : Float
@@ -41,7 +41,7 @@ bottom = ofBits binary32 0x4200_0000
 unfoldable pub fallOf : Float → Float
 fallOf r = cond (le bottom r) f0 (loweredOf r (natAbs (wholeOf r)))
 
--- at a place strictly between 0 and 1. A middle at or before 0 leaves the place all behind it, and one at or after 1 all before it.
+-- at a place strictly between 0 and 1. A middle at or before 0 is passed at once, and one at or after 1 never; not-a-number stays so.
 unfoldable pub factorAt : Float → Float → Float
 factorAt place middle = cond (isNan middle) nan (cond (le middle f0) f1 (cond (le f1 middle) f0 (fallOf (depthOf place ⊘ depthOf middle))))
 
@@ -49,17 +49,18 @@ factorAt place middle = cond (isNan middle) nan (cond (le middle f0) f1 (cond (l
 unfoldable pub factorOf : Float → Float → Float
 factorOf place middle = cond (isNan place) nan (cond (le place f0) f0 (cond (le f1 place) f1 (factorAt place middle)))
 
--- What is proved of these definitions (`curved`, in proofs/Rising). The places and the middle are f32s.
-pub record Curved : Type 0 where
-  -- one halving leads from 1 to 1/2
+-- What is proved of these definitions (`factor-laws`, in proofs/Rising). The places and the middle are f32s.
+pub record FactorLaws : Type 0 where
+  -- a number strictly between 0 and 1 is m·2^-k, and its depth k and the part of m; one halving leads from 1 to 1/2
+  pub split : (x : Float) → T (fits binary32 x) → T (lt f0 x) → T (lt x f1) → Split x
   pub half-deep : depthOf half ≡ f1
   -- the factor lies from 0 to 1
-  pub within : (place middle : Float) → T (fits binary32 place) → T (fits binary32 middle) → isNan place ≡ false → isNan middle ≡ false
+  pub factor-within : (place middle : Float) → T (fits binary32 place) → T (fits binary32 middle) → isNan place ≡ false → isNan middle ≡ false
       → T (le f0 (factorOf place middle)) × T (le (factorOf place middle) f1)
   -- it never falls as the place grows
-  pub rises : (place next middle : Float) → T (fits binary32 place) → T (fits binary32 next) → T (fits binary32 middle) → isNan middle ≡ false
+  pub factor-rising : (place next middle : Float) → T (fits binary32 place) → T (fits binary32 next) → T (fits binary32 middle) → isNan middle ≡ false
       → T (le place next) → T (le (factorOf place middle) (factorOf next middle))
   -- it is 0 at 0, 1 at 1, and exactly 1/2 at a middle that is inside
-  pub starts : (middle : Float) → factorOf f0 middle ≡ f0
-  pub ends : (middle : Float) → factorOf f1 middle ≡ f1
-  pub halves : (middle : Float) → T (fits binary32 middle) → T (lt f0 middle) → T (lt middle f1) → factorOf middle middle ≡ half
+  pub factor-starts : (middle : Float) → factorOf f0 middle ≡ f0
+  pub factor-ends : (middle : Float) → factorOf f1 middle ≡ f1
+  pub factor-middle : (middle : Float) → T (fits binary32 middle) → T (lt f0 middle) → T (lt middle f1) → factorOf middle middle ≡ half

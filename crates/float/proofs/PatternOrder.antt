@@ -23,7 +23,7 @@ at b = ofBits binary32 b
 
 -- ---- a larger pattern is a larger number
 
-count-at : (b : ℕ) → 8388608 ≤ b → b < 2139095040 → count (ofBits binary32 b) ≡ (8388608 + b % 8388608) * 2 ^ (b / 8388608 - 1)
+pub count-at : (b : ℕ) → 8388608 ≤ b → b < 2139095040 → count (ofBits binary32 b) ≡ (8388608 + b % 8388608) * 2 ^ (b / 8388608 - 1)
 count-at b l h = count-of (ofBits binary32 b) false ((8388608 + b % 8388608) * 2 ^ (b / 8388608 - 1)) (value-at b l h)
 
 count-below : (b : ℕ) → b < 8388608 → count (ofBits binary32 b) ≡ b
