@@ -13,10 +13,11 @@ ghost use Prim.Native.Nat.{_*_, _≤_, _<_};
 ghost use lib.ListN.{length, getD};
 ghost use Rattle.refusals.specs.Limits.{mostSegments};
 ghost use Rattle.stops.specs.Answers.{Checks};
-ghost use Rattle.gradient.specs.Gimp.{segments, inOrder, takesCurved, asksMiddle, carried, carriedAt, allCarried, gimpShaped, gimpCheck, segmentFound, gimpSegment, offDomain, gimpColour};
+ghost use Rattle.gradient.specs.Gimp.{segments, carriedAt, allCarried, gimpShaped, gimpCheck, segmentFound, gimpSegment, offDomain, gimpColour};
 pub use crate::blending::blend;
 pub use crate::blending::blend_wave;
 pub use crate::blending::place_along;
+pub use crate::carried::is_carried;
 pub use crate::hued::blend_costly;
 pub use crate::hued::is_costly;
 
@@ -49,69 +50,6 @@ pub struct Segment {
     pub rcolor: Rgba,
     pub blending: u8,
     pub colouring: u8,
-}
-
-// Whether the middle is not outside the ends.
-fn is_in_order(left: f32, middle: f32, right: f32) -> bool
-    ensures { λ r. ⌜ r ≡ inOrder left middle right ⌝ }
-{
-    if left <= middle {
-        return middle <= right;
-    }
-    false
-}
-
-fn takes_curved(kind: Kind) -> bool
-    ensures { λ r. ⌜ r ≡ takesCurved kind ⌝ }
-{
-    match kind {
-        Kind::Linear => false,
-        Kind::Smoothstep => false,
-        Kind::Sharp => false,
-        Kind::Basis => false,
-        Kind::CatmullRom => false,
-        Kind::Gimp => false,
-        Kind::GimpSaved => true,
-    }
-}
-
-fn asks_middle(kind: Kind, blending: u8) -> bool
-    ensures { λ r. ⌜ r ≡ asksMiddle kind blending ⌝ }
-{
-    if blending == CURVED {
-        return takes_curved(kind);
-    }
-    blending == SINUSOIDAL
-}
-
-// Whether a ramp of the kind carries a segment with these codes and positions. Of a sinusoidal or curved one the positions
-// are asked too.
-pub fn is_carried(
-    kind: Kind,
-    blending: u8,
-    colouring: u8,
-    left: f32,
-    middle: f32,
-    right: f32,
-) -> bool
-    ensures { λ r. ⌜ r ≡ carried kind blending colouring left middle right ⌝ }
-{
-    if colouring > HSV_CLOCKWISE {
-        return false;
-    }
-    if asks_middle(kind, blending) {
-        return is_in_order(left, middle, right);
-    }
-    if blending == LINEAR {
-        return true;
-    }
-    if blending == SPHERICAL_INCREASING {
-        return true;
-    }
-    if blending == SPHERICAL_DECREASING {
-        return true;
-    }
-    blending == STEP
 }
 
 // The same of segment i of the lists.

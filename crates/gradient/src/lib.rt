@@ -8,6 +8,7 @@ ghost use Rattle.stops.specs.Answers.{Checks};
 ghost use Rattle.gradient.specs.Ramp.{isGimp, checkOf, anyColour, minIn, maxIn};
 
 pub mod blending;
+pub mod carried;
 pub mod gimp;
 pub mod hued;
 

@@ -13,7 +13,7 @@ use Rattle.gradient.proofs.blending.blend_wave.Reads as of-blend-wave
 use Rattle.gradient.proofs.hued.is_costly.Reads as of-is-costly
 use Rattle.gradient.proofs.hued.blend_costly.Reads as of-blend-costly
 use Rattle.gradient.proofs.gimp.is_off_domain.Reads as of-is-off-domain
-use Rattle.gradient.proofs.gimp.is_carried.Reads as of-is-carried
+use Rattle.gradient.proofs.carried.is_carried.Reads as of-is-carried
 use Rattle.gradient.proofs.gimp.check.Reads as of-check-segments
 use Rattle.gradient.proofs.gimp.colour_at.Reads as of-colour-at-segments
 

@@ -1,10 +1,10 @@
--- `gimp::is_carried` meets its contract: the tests decide the definition's equations. Assumes nothing.
+-- `carried::is_carried` meets its contract: the tests decide the definition's equations. Assumes nothing.
 use borrow.Author.Needs.{needs}
 use borrow.Author.Tests.{eq-eqb, ne-eqb, le-leb, lt-leb}
 use mathlib.Core.Path.{sym, _∙_}
 use Rattle.gradient.specs.Gimp.{carried}
-use Rattle.gradient.proofs.gimp.is_carried.Statement.{statement}
-use Rattle.gradient.proofs.gimp.is_carried.Tie as tie
+use Rattle.gradient.proofs.carried.is_carried.Statement.{statement}
+use Rattle.gradient.proofs.carried.is_carried.Tie as tie
 
 returns : tie.Need-returns
 unfolding carried

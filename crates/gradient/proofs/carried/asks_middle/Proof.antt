@@ -1,9 +1,9 @@
--- `gimp::asks_middle` meets its contract: the test decides the definition. Assumes nothing.
+-- `carried::asks_middle` meets its contract: the test decides the definition. Assumes nothing.
 use mathlib.Core.Path.{_∙_}
 use borrow.Author.Needs.{needs}
 use borrow.Author.Tests.{eq-eqb, ne-eqb}
-use Rattle.gradient.proofs.gimp.asks_middle.Statement.{statement}
-use Rattle.gradient.proofs.gimp.asks_middle.Tie as tie
+use Rattle.gradient.proofs.carried.asks_middle.Statement.{statement}
+use Rattle.gradient.proofs.carried.asks_middle.Tie as tie
 
 returns : tie.Need-returns
 returns c = c .takes-curved .ensures ∙ simp (eq-eqb (c .before .before .args .blending) 1 (c .before .if1 .taken))
