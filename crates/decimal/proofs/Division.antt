@@ -8,7 +8,7 @@ use lib.Dec.{lit≤}
 use lib.Pow.{pow-add, pow-mono}
 
 -- ---- how often a number is doubled
-few : (p x k n : ℕ) → 0 < p → p * 2 ^ x ≡ n → n < 2 ^ k → x < k
+pub few : (p x k n : ℕ) → 0 < p → p * 2 ^ x ≡ n → n < 2 ^ k → x < k
 few p x k n h e l = lt-of-not-le (λ (g : k ≤ x). not-le-of-lt l (le-trans (pow-mono g) (le-trans (under p (2 ^ x) h) (le-of-eq e))))
   where
     under : (p x : ℕ) → 0 < p → x ≤ p * x

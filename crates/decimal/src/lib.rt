@@ -1,11 +1,17 @@
 // A token read as a number: a decimal, rounded once to the nearest f32, or no number.
 ghost use mathlib.Core.Path.{_≡_};
+ghost use mathlib.Core.Bool.{cond};
 ghost use Prim.Native.Nat.{_+_, _*_, _^_, _<_, _≤_, compare};
 ghost use lib.ListN.{length};
 ghost use lib.Ieee as Ieee;
 ghost use lib.Ieee.{binary32};
 ghost use Rattle.decimal.specs.Decimal.{mostDigits, readOf, unsignedOf, numberOf};
 ghost use Rattle.decimal.specs.inner.Steps.{RunsTo, DoublesTo, ScalesTo, DividesTo, BitsOf};
+
+mod long;
+mod wide;
+
+pub use crate::long::read_long;
 
 pub enum Token {
     Number(f32),
@@ -121,7 +127,14 @@ fn nearest(neg: bool, d: u64, places: usize, five: u64) -> f32
             return short(neg, d, five << places);
         }
     }
-    let bits = magnitude(d, places, five);
+    signed(neg, magnitude(d, places, five))
+}
+
+// The f32 of these bits, negative where neg.
+fn signed(neg: bool, bits: u32) -> f32
+    requires { ⌜ bits ≤ 2139095040 ⌝ }
+    ensures { λ r. ⌜ r ≡ Ieee.ofBits binary32 (cond neg (2 ^ 31) 0 + bits) ⌝ }
+{
     if neg {
         f32::from_bits(2147483648 + bits)
     } else {

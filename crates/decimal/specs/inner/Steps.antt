@@ -44,7 +44,7 @@ pub record DividesTo (num den m rest down : ℕ) : Type 0 where
   pub hi : m < 16777216
   pub few : down ≤ 65
 
--- r has the bits of d / p rounded to binary32, which is finite, but for the sign's
+-- r has the bits of d / p rounded to binary32, but for the sign's
 pub record BitsOf (d p r : ℕ) : Type 0 where
-  pub small : r < 2139095040
+  pub small : r ≤ 2139095040
   pub signed : (s : Bool) → cond s (2 ^ 31) 0 + r ≡ toBits binary32 (round binary32 s d p)
