@@ -17,7 +17,7 @@ use Rattle.stops.specs.Stops.{finiteRgba}
 use Rattle.stops.specs.declared.Kind.{Kind}
 use Rattle.gradient.specs.Ramp.{isGimp}
 use Rattle.text.specs.Text.{same, starts, fields, lines}
-use Rattle.rows.specs.declared.Form.the-variants.{Short}
+use Rattle.rows.specs.declared.Notation.the-variants.{Short}
 use Rattle.rows.specs.Rows.{Numbers, all, none, numbers}
 use Rattle.rows.specs.declared.digits.Digits.{Digits}
 use Rattle.rows.specs.declared.digits.Digits.the-variants.{Bad, Is}

@@ -11,7 +11,7 @@ use borrow.Author.Tests.{eq-eqb, ne-eqb, le-leb, lt-leb}
 use Rattle.text.specs.declared.Class.the-variants.{NotTab}
 use Rattle.rows.specs.declared.digits.Digits.{Digits}
 use Rattle.rows.specs.declared.digits.Digits.the-variants.{Bad, Is}
-use Rattle.rows.specs.declared.Form.the-variants.{Short}
+use Rattle.rows.specs.declared.Notation.the-variants.{Short}
 use Rattle.rows.specs.declared.Parting.the-variants.{Tabs}
 use Rattle.text.specs.Text.{fields, same, starts}
 use Rattle.rows.specs.Digits.{digitsWith}

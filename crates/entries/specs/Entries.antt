@@ -11,7 +11,7 @@ use Rattle.stops.specs.declared.Kind.the-variants.{Linear, Smoothstep}
 use Rattle.text.specs.Text.{fields, same, starts}
 use Rattle.rows.specs.Digits.{digitsWith}
 use Rattle.rows.specs.Rows.{Numbers, all, none, numbers}
-use Rattle.rows.specs.declared.Form.the-variants.{Short}
+use Rattle.rows.specs.declared.Notation.the-variants.{Short}
 use Rattle.rows.specs.declared.digits.Digits.{Digits}
 use Rattle.rows.specs.declared.digits.Digits.the-variants.{Bad, Is}
 use Rattle.entries.specs.declared.fields.Entry.{Entry}

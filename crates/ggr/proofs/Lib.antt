@@ -5,4 +5,3 @@ mod Fitting
 mod Finish
 pub mod Given
 pub mod Orderly
-pub mod Same

@@ -13,7 +13,7 @@ use Rattle.blend.specs.declared.Rgba.{Rgba}
 use Rattle.decimal.specs.declared.Token.{Token}
 use Rattle.decimal.specs.declared.Token.the-variants.{Number}
 use Rattle.decimal.specs.Decimal.{readOf}
-use Rattle.rows.specs.declared.Form.the-variants.{Short}
+use Rattle.rows.specs.declared.Notation.the-variants.{Short}
 use Rattle.rows.specs.Rows.{all, tokenOf, addNumber, numbers}
 use Rattle.text.specs.Text.{words, white, inWord, onFirst}
 use Rattle.gradient.specs.declared.gimp.Segment.{Segment}

@@ -1,26 +1,26 @@
--- The numbers of words or fields: how many, the first of them, that each is finite, and that those read short are read long. Assumes nothing.
+-- The numbers of words or fields: how many, the first of them, and that each is finite. Assumes nothing.
 use Prim.Native.Nat.{ℕ, zero, suc, _<_}
 use native.Mathlib.Omega.{arith}
-use mathlib.Core.Path.{_≡_, refl, sym, ap, ap₂, _∙_}
+use mathlib.Core.Path.{_≡_, refl, sym, ap, _∙_}
 use mathlib.Core.Bool.{Bool, true, false, cond, true≢false}
 use mathlib.Core.List.{List, [], _∷_}
 use lib.ListN.{length, getD}
 use lib.Ieee.{Float, nan}
 use lib.Ieee.Scale.{finite}
-use Rattle.decimal.specs.Decimal.{readOf}
+use Rattle.decimal.specs.Long.{readLongOf}
 use Rattle.decimal.specs.declared.Token.{Token}
 use Rattle.decimal.specs.declared.Token.the-variants.{Number, NoNumber}
 use Rattle.decimal.proofs.Finite.{tokenFinite, token-finite}
 use Rattle.text.specs.Text.{firstOf}
-use Rattle.rows.specs.declared.Form.{Form}
-use Rattle.rows.specs.declared.Form.the-variants.{Short, Long}
+use Rattle.rows.specs.declared.Notation.{Notation}
+use Rattle.rows.specs.declared.Notation.the-variants.{Short, Long}
 use Rattle.rows.specs.Rows.{Numbers, all, none, finiteOnly, tokenOf, addNumber, numbers}
 
 abbrev listIn : Numbers → List Float
 listIn (all xs) = xs
 listIn none = []
 
-abbrev isAll : Numbers → Bool
+abbrev pub isAll : Numbers → Bool
 isAll (all xs) = true
 isAll none = false
 
@@ -38,15 +38,15 @@ added-first (Number x) none xs h = absurd (true≢false (sym (ap isAll h)))
 added-first NoNumber (all ys) xs h = absurd (true≢false (sym (ap isAll h)))
 added-first NoNumber none xs h = absurd (true≢false (sym (ap isAll h)))
 
-pub numbers-long : (form : Form) (ws : List (List ℕ)) (xs : List Float) → numbers form ws ≡ all xs → length xs ≡ length ws
+pub numbers-long : (notation : Notation) (ws : List (List ℕ)) (xs : List Float) → numbers notation ws ≡ all xs → length xs ≡ length ws
 unfolding numbers
-numbers-long form [] xs h = ap length (sym (ap listIn h))
-numbers-long form (w ∷ ws) xs h = added (tokenOf form w) (numbers form ws) xs (length ws) h (numbers-long form ws)
+numbers-long notation [] xs h = ap length (sym (ap listIn h))
+numbers-long notation (w ∷ ws) xs h = added (tokenOf notation w) (numbers notation ws) xs (length ws) h (numbers-long notation ws)
 
-pub head-number : (form : Form) (ws : List (List ℕ)) (xs : List Float) → numbers form ws ≡ all xs → 0 < length xs → tokenOf form (firstOf ws) ≡ Number (getD xs 0 nan)
+pub head-number : (notation : Notation) (ws : List (List ℕ)) (xs : List Float) → numbers notation ws ≡ all xs → 0 < length xs → tokenOf notation (firstOf ws) ≡ Number (getD xs 0 nan)
 unfolding numbers firstOf
-head-number form [] xs h l = absurd (omega (arith, ap (λ (ns : Numbers). length (listIn ns)) h))
-head-number form (w ∷ ws) xs h l = added-first (tokenOf form w) (numbers form ws) xs h
+head-number notation [] xs h l = absurd (omega (arith, ap (λ (ns : Numbers). length (listIn ns)) h))
+head-number notation (w ∷ ws) xs h l = added-first (tokenOf notation w) (numbers notation ws) xs h
 
 -- ---- each number that is read is finite
 unfoldable pub Finite : Numbers → Type 0
@@ -71,34 +71,12 @@ only-finite (Number x) = go (finite x) refl where
   go true e = e
   go false e = refl
 
-formed-finite : (form : Form) (w : List ℕ) → tokenFinite (tokenOf form w) ≡ true
+noted-finite : (notation : Notation) (w : List ℕ) → tokenFinite (tokenOf notation w) ≡ true
 unfolding tokenOf
-formed-finite Short w = token-finite w
-formed-finite Long w = only-finite (readOf w)
+noted-finite Short w = token-finite w
+noted-finite Long w = only-finite (readLongOf w)
 
--- ---- what is read short is read long, and the same
-only-same : (x : Float) → finite x ≡ true → finiteOnly (Number x) ≡ Number x
-unfolding finiteOnly
-only-same x h = rw h
-
-token-same : (w : List ℕ) (x : Float) → tokenOf Short w ≡ Number x → tokenOf Long w ≡ Number x
-unfolding tokenOf
-token-same w x e = ap finiteOnly e ∙ only-same x (sym (ap tokenFinite e) ∙ token-finite w)
-
-add-same : (t : Token) (u : Token) (ns ms : Numbers) (xs : List Float) → ((x : Float) → t ≡ Number x → u ≡ Number x) → ((ys : List Float) → ns ≡ all ys → ms ≡ all ys)
-    → addNumber t ns ≡ all xs → addNumber u ms ≡ all xs
-unfolding addNumber
-add-same (Number x) u (all ys) ms xs f g h = ap₂ addNumber (f x refl) (g ys refl) ∙ h
-add-same (Number x) u none ms xs f g h = absurd (true≢false (sym (ap isAll h)))
-add-same NoNumber u (all ys) ms xs f g h = absurd (true≢false (sym (ap isAll h)))
-add-same NoNumber u none ms xs f g h = absurd (true≢false (sym (ap isAll h)))
-
-pub numbers-same : (ws : List (List ℕ)) (xs : List Float) → numbers Short ws ≡ all xs → numbers Long ws ≡ all xs
-unfolding numbers
-numbers-same [] xs h = h
-numbers-same (w ∷ ws) xs h = add-same (tokenOf Short w) (tokenOf Long w) (numbers Short ws) (numbers Long ws) xs (token-same w) (numbers-same ws) h
-
-pub numbers-finite : (form : Form) (ws : List (List ℕ)) → Finite (numbers form ws)
+pub numbers-finite : (notation : Notation) (ws : List (List ℕ)) → Finite (numbers notation ws)
 unfolding Finite numbers
-numbers-finite form [] = λ i l. absurd (omega arith)
-numbers-finite form (w ∷ ws) = added-finite (tokenOf form w) (numbers form ws) (formed-finite form w) (numbers-finite form ws)
+numbers-finite notation [] = λ i l. absurd (omega arith)
+numbers-finite notation (w ∷ ws) = added-finite (tokenOf notation w) (numbers notation ws) (noted-finite notation w) (numbers-finite notation ws)

@@ -19,7 +19,7 @@ pub enum Parting {
 }
 
 // What a number may look like: short, as document 01 has it, or long, with an exponent and more digits.
-pub enum Form {
+pub enum Notation {
     Short,
     Long,
 }
@@ -107,12 +107,12 @@ fn finite_only(t: Token) -> Token
     }
 }
 
-fn token_of(s: &[u8], form: Form) -> Token
-    ensures { λ r. ⌜ r ≡ tokenOf form (now (s .entry)) ⌝ }
+fn token_of(s: &[u8], notation: Notation) -> Token
+    ensures { λ r. ⌜ r ≡ tokenOf notation (now (s .entry)) ⌝ }
 {
-    match form {
-        Form::Short => decimal::read(s),
-        Form::Long => finite_only(decimal::read(s)),
+    match notation {
+        Notation::Short => decimal::read(s),
+        Notation::Long => finite_only(decimal::read_long(s)),
     }
 }
 
@@ -135,8 +135,8 @@ fn no_row(at: usize) -> Row
 }
 
 // The row at `at`, whose end is found field by field. A field that is no number, or one too many, leaves no numbers.
-pub fn row_at(s: &[u8], at: usize, by: Parting, form: Form) -> Row
-    ensures { λ r. ⌜ RowAt form by (now (s .entry)) at (r .d) (r .n) (r .next) ⌝ }
+pub fn row_at(s: &[u8], at: usize, by: Parting, notation: Notation) -> Row
+    ensures { λ r. ⌜ RowAt notation by (now (s .entry)) at (r .d) (r .n) (r .next) ⌝ }
 {
     let mut d = [0.0f32; 15];
     let mut n = 0;
@@ -154,7 +154,7 @@ pub fn row_at(s: &[u8], at: usize, by: Parting, form: Form) -> Row
         if 15 <= n {
             return no_row(at);
         }
-        let Token::Number(x) = token_of(&s[start..end], form) else {
+        let Token::Number(x) = token_of(&s[start..end], notation) else {
             return no_row(at);
         };
         d[n] = x;

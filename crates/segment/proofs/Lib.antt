@@ -3,4 +3,3 @@ mod Rows
 mod Codes
 mod Stored
 pub mod Carried
-pub mod Both

@@ -20,7 +20,7 @@ use Rattle.blend.specs.declared.Rgba.{Rgba}
 use Rattle.segment.specs.declared.Rules.{Rules}
 use Rattle.segment.specs.declared.SegmentRead.{SegmentRead}
 use Rattle.segment.specs.declared.SegmentRead.the-variants.{Fault}
-use Rattle.segment.specs.Line.{formBy, build, fromNumbers, segmentOnLine, numberOfSegment, SegmentAt}
+use Rattle.segment.specs.Line.{notationBy, build, fromNumbers, segmentOnLine, numberOfSegment, SegmentAt}
 use Rattle.segment.specs.inner.Steps.{segmentLength}
 
 -- neither 13 numbers nor 15
@@ -38,7 +38,7 @@ by-length rules fg bg xs d n l h e = rw l (go (eqb n 13) refl (eqb n 15) refl h)
   go false f true g i = ap (build rules fg bg) (e ∙ ap (λ (m : ℕ). xs ++ replicate (15 - m) f0) (eqb-true n 15 g) ∙ append-nil xs)
   go false f false g i = no i
 
-module _ (rules : Rules) (fg bg : Rgba) {s : List ℕ} {at : ℕ} {d : List Float} {n next : ℕ} (w : RowAt (formBy rules) Spaces s at d n next) {t : Bool} (e : t ≡ segmentLength n) where
+module _ (rules : Rules) (fg bg : Rgba) {s : List ℕ} {at : ℕ} {d : List Float} {n next : ℕ} (w : RowAt (notationBy rules) Spaces s at d n next) {t : Bool} (e : t ≡ segmentLength n) where
   pub segment-none : t ≡ false → SegmentAt rules fg bg s at (Fault badSegment) next
   unfolding segmentOnLine partsAt
   segment-none h = record {

@@ -19,18 +19,18 @@ use Rattle.segment.specs.declared.Rules.{Rules}
 use Rattle.segment.specs.declared.Rules.the-variants.{Published, Saved}
 use Rattle.segment.specs.declared.SegmentRead.{SegmentRead}
 use Rattle.segment.specs.declared.SegmentRead.the-variants.{Valid, Fault}
-use Rattle.rows.specs.declared.Form.{Form}
-use Rattle.rows.specs.declared.Form.the-variants.{Short, Long}
+use Rattle.rows.specs.declared.Notation.{Notation}
+use Rattle.rows.specs.declared.Notation.the-variants.{Short, Long}
 use Rattle.rows.specs.declared.Parting.the-variants.{Spaces}
 use Rattle.text.specs.Text.{lines, firstOf, restOf, words}
 use Rattle.rows.specs.Rows.{Numbers, all, none, numbers, rowAt, rowEnd}
 
 -- ---- the rules that a file is read by: document 01's, or those for what GIMP saves
 
--- the form of its numbers
-abbrev pub formBy : Rules → Form
-formBy Published = Short
-formBy Saved = Long
+-- the notation of its numbers
+abbrev pub notationBy : Rules → Notation
+notationBy Published = Short
+notationBy Saved = Long
 
 -- the kind of ramp that its segments make, which says what is carried
 abbrev pub kindBy : Rules → Kind
@@ -97,7 +97,7 @@ fromNumbers rules fg bg (all xs) =
 
 -- the numbers are the words of the line
 unfoldable pub segmentOnLine : Rules → Rgba → Rgba → List ℕ → SegmentRead
-segmentOnLine rules fg bg l = fromNumbers rules fg bg (numbers (formBy rules) (words l))
+segmentOnLine rules fg bg l = fromNumbers rules fg bg (numbers (notationBy rules) (words l))
 
 -- document 01's number of what a line holds, 0 for a segment; its line is the reader's to tell
 abbrev pub numberOfSegment : SegmentRead → ℕ
@@ -108,5 +108,5 @@ numberOfSegment (Fault number) = number
 pub record SegmentAt (rules : Rules) (fg bg : Rgba) (s : List ℕ) (at : ℕ) (o : SegmentRead) (next : ℕ) : Type 0 where
   pub is : o ≡ segmentOnLine rules fg bg (firstOf (lines (drop at s)))
   pub number : numberOfSegment o ≡ numberOfSegment (segmentOnLine rules fg bg (firstOf (lines (drop at s))))
-  pub goes-on : next ≡ cond (eqb (length (rowAt (formBy rules) Spaces s at)) 0) at (rowEnd Spaces s at)
+  pub goes-on : next ≡ cond (eqb (length (rowAt (notationBy rules) Spaces s at)) 0) at (rowEnd Spaces s at)
   pub rest : (g : Segment) → o ≡ Valid g → lines (drop next s) ≡ restOf (lines (drop at s))

@@ -4,12 +4,12 @@ use gradient::gimp;
 use gradient::gimp::Segment;
 use refusals::BAD_SEGMENT;
 use refusals::NOT_CARRIED;
-use rows::Form;
+use rows::Notation;
 use rows::Parting;
 use rows::row_at;
 use stops::Kind;
 ghost use mathlib.Core.Path.{_≡_};
-ghost use Rattle.segment.specs.Line.{formBy, kindBy, codeOf, validCodes, withoutAlpha, endColour, build, SegmentAt};
+ghost use Rattle.segment.specs.Line.{notationBy, kindBy, codeOf, validCodes, withoutAlpha, endColour, build, SegmentAt};
 ghost use Rattle.segment.specs.inner.Steps.{segmentLength};
 
 pub mod store;
@@ -26,12 +26,12 @@ pub enum SegmentRead {
     Fault(u8),
 }
 
-fn form_by(rules: Rules) -> Form
-    ensures { λ r. ⌜ r ≡ formBy rules ⌝ }
+fn notation_by(rules: Rules) -> Notation
+    ensures { λ r. ⌜ r ≡ notationBy rules ⌝ }
 {
     match rules {
-        Rules::Published => Form::Short,
-        Rules::Saved => Form::Long,
+        Rules::Published => Notation::Short,
+        Rules::Saved => Notation::Long,
     }
 }
 
@@ -165,7 +165,7 @@ pub struct SegmentLine {
 pub fn segment_at(s: &[u8], at: usize, rules: Rules, fg: Rgba, bg: Rgba) -> SegmentLine
     ensures { λ r. ⌜ SegmentAt rules fg bg (now (s .entry)) at (r .read) (r .next) ⌝ }
 {
-    let row = row_at(s, at, Parting::Spaces, form_by(rules));
+    let row = row_at(s, at, Parting::Spaces, notation_by(rules));
     let n = row.n;
     let next = row.next;
     if !makes_segment(n) {

@@ -10,13 +10,13 @@ use Rattle.rows.proofs.row_at.Statement.{statement}
 use Rattle.rows.proofs.row_at.Tie as tie
 
 abbrev Inv-loop : tie.InvT-loop
-Inv-loop s at by form d₀ n₀ i₀ d n i = Sofar form by s at d n i
+Inv-loop s at by notation d₀ n₀ i₀ d n i = Sofar notation by s at d n i
 
 abbrev μ-loop : tie.MeasureT-loop
-μ-loop s at by form d₀ n₀ i₀ d n i = length s + 1 - i
+μ-loop s at by notation d₀ n₀ i₀ d n i = length s + 1 - i
 
 loop-holds : tie.Need-loop-holds Inv-loop μ-loop
-loop-holds c = let a = c .before .args in begun (a .form) (a .by) (a .s .now) (a .at)
+loop-holds c = let a = c .before .args in begun (a .notation) (a .by) (a .s .now) (a .at)
 
 returns : tie.Need-returns Inv-loop μ-loop
 returns c = let t = c .before .before in let w = t .before .before in

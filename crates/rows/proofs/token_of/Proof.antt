@@ -1,4 +1,4 @@
--- `token_of` meets its contract: a case for each form. Assumes nothing.
+-- `token_of` meets its contract: a case for each notation. Assumes nothing.
 use borrow.Author.Needs.{needs}
 use mathlib.Core.Path.{ap, _∙_}
 use Rattle.rows.specs.Rows.{finiteOnly, tokenOf}
@@ -11,7 +11,7 @@ returns c = rw (c .before .enum-told .given .1) (c .read .ensures)
 
 returns-2 : tie.Need-returns-2
 unfolding tokenOf
-returns-2 c = rw (c .before .before .enum-told2 .given .1) (c .finite-only .ensures ∙ ap finiteOnly (c .before .read2 .ensures))
+returns-2 c = rw (c .before .before .enum-told2 .given .1) (c .finite-only .ensures ∙ ap finiteOnly (c .before .read-long .ensures))
 
 pub token-of-spec : {M : Type 1} → statement M
 token-of-spec =

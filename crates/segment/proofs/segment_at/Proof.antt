@@ -8,11 +8,11 @@ use Rattle.segment.proofs.segment_at.Tie as tie
 
 returns : tie.Need-returns
 returns c = let m = c .before in let r = m .before in let f = r .before in let a = f .before .before .args in
-    segment-none (a .rules) (a .fg) (a .bg) (rw (f .form-by .ensures) at (r .row-at .ensures)) (m .makes-segment .ensures) (not-true _ (c .if1 .taken))
+    segment-none (a .rules) (a .fg) (a .bg) (rw (f .notation-by .ensures) at (r .row-at .ensures)) (m .makes-segment .ensures) (not-true _ (c .if1 .taken))
 
 returns-2 : tie.Need-returns-2
 returns-2 c = let e = c .before .before in let m = e .before in let r = m .before in let f = r .before in let a = f .before .before .args in
-    segment-some (a .rules) (a .fg) (a .bg) (rw (f .form-by .ensures) at (r .row-at .ensures)) (m .makes-segment .ensures) (not-false _ (e .if1 .left)) _ (c .built .ensures)
+    segment-some (a .rules) (a .fg) (a .bg) (rw (f .notation-by .ensures) at (r .row-at .ensures)) (m .makes-segment .ensures) (not-false _ (e .if1 .left)) _ (c .built .ensures)
 
 pub segment-at-spec : {M : Type 1} → statement M
 segment-at-spec =
