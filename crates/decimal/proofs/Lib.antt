@@ -6,6 +6,7 @@ pub mod Finite
 pub mod Grammar
 pub mod IsNearest
 pub mod LastDigit
+pub mod LongGrammar
 pub mod LongPlace
 pub mod LongRuns
 pub mod Moves
@@ -16,6 +17,7 @@ pub mod Place
 pub mod Rounds
 pub mod Scale
 pub mod Quick
+pub mod Significance
 pub mod Tens
 pub mod Theorems
 pub mod Words

@@ -67,14 +67,14 @@ pub point-at : (s : List ℕ) (at : ℕ) → at < length s → eqb (getD s at 0)
 point-at s at h = sym (ap isPoint (at-byte s at h))
 
 -- ---- digits
-first-run : (xs ys : List ℕ) → areDigits xs ≡ true → firstDigits (xs ++ ys) ≡ xs ++ firstDigits ys
+pub first-run : (xs ys : List ℕ) → areDigits xs ≡ true → firstDigits (xs ++ ys) ≡ xs ++ firstDigits ys
 unfolding areDigits firstDigits
 first-run [] ys h = refl
 first-run (x ∷ xs) ys h =
     ap (λ (t : Bool). cond t (x ∷ firstDigits (xs ++ ys)) []) (first-of (isDigit x) (areDigits xs) h)
     ∙ ap (λ (l : List ℕ). x ∷ l) (first-run xs ys (second-of (isDigit x) (areDigits xs) h))
 
-past-run : (xs ys : List ℕ) → areDigits xs ≡ true → pastDigits (xs ++ ys) ≡ pastDigits ys
+pub past-run : (xs ys : List ℕ) → areDigits xs ≡ true → pastDigits (xs ++ ys) ≡ pastDigits ys
 unfolding areDigits pastDigits
 past-run [] ys h = refl
 past-run (x ∷ xs) ys h = ap (λ (t : Bool). cond t (pastDigits (xs ++ ys)) (x ∷ (xs ++ ys))) (first-of (isDigit x) (areDigits xs) h) ∙ past-run xs ys (second-of (isDigit x) (areDigits xs) h)
@@ -84,11 +84,11 @@ pub record Stops (l : List ℕ) : Type 0 where
   pub none : firstDigits l ≡ []
   pub same : pastDigits l ≡ l
 
-stops-end : Stops []
+pub stops-end : Stops []
 unfolding firstDigits pastDigits
 stops-end = record { none = refl; same = refl }
 
-stops-byte : (b : ℕ) (bs : List ℕ) → isDigit b ≡ false → Stops (b ∷ bs)
+pub stops-byte : (b : ℕ) (bs : List ℕ) → isDigit b ≡ false → Stops (b ∷ bs)
 unfolding firstDigits pastDigits
 stops-byte b bs h = record { none = ap (λ (t : Bool). cond t (b ∷ firstDigits bs) []) h; same = ap (λ (t : Bool). cond t (pastDigits bs) (b ∷ bs)) h }
 
@@ -241,12 +241,12 @@ module _ (neg : Bool) (ds : List ℕ) (up down : ℕ) where
       ∙ ap (λ (t : Bool). cond (t && true) (Number (round binary32 neg (valueAfter 0 ds * 10 ^ up) (10 ^ down))) NoNumber) (le-leb 1 (length ds) h)
 
 -- ---- at a point or not
-no-point : (neg : Bool) (whole l : List ℕ) → isPoint l ≡ false → afterWhole neg whole l ≡ afterDigits neg whole 0 l
+pub no-point : (neg : Bool) (whole l : List ℕ) → isPoint l ≡ false → afterWhole neg whole l ≡ afterDigits neg whole 0 l
 unfolding afterWhole
 no-point neg whole [] e = refl
 no-point neg whole (b ∷ bs) e = ap (λ (t : Bool). cond t (afterDigits neg (whole ++ firstDigits bs) (length (firstDigits bs)) (pastDigits bs)) (afterDigits neg whole 0 (b ∷ bs))) e
 
-a-point : (neg : Bool) (whole : List ℕ) (b : ℕ) (bs : List ℕ) → eqb b 46 ≡ true → afterWhole neg whole (b ∷ bs) ≡ afterDigits neg (whole ++ firstDigits bs) (length (firstDigits bs)) (pastDigits bs)
+pub a-point : (neg : Bool) (whole : List ℕ) (b : ℕ) (bs : List ℕ) → eqb b 46 ≡ true → afterWhole neg whole (b ∷ bs) ≡ afterDigits neg (whole ++ firstDigits bs) (length (firstDigits bs)) (pastDigits bs)
 unfolding afterWhole
 a-point neg whole b bs e = ap (λ (t : Bool). cond t (afterDigits neg (whole ++ firstDigits bs) (length (firstDigits bs)) (pastDigits bs)) (afterDigits neg whole 0 (b ∷ bs))) e
 

@@ -43,7 +43,7 @@ module _ (n p k : ℕ) (k-is : k ≡ size (n / p) - 24) where
           (le-div-iff-mul-le (pow-pos k) .1 (le-trans (le-of-eq (sym (pow-add 2 23 k))) (size-reaches (n / p) (23 + k) (all k (size (n / p)) k-is l)))))
 
 -- ---- and what it makes of it
-infinite : (s : Bool) (q k : ℕ) → 2 ^ 277 ≤ q * 2 ^ k → units binary32 s q k ≡ inf s
+pub infinite : (s : Bool) (q k : ℕ) → 2 ^ 277 ≤ q * 2 ^ k → units binary32 s q k ≡ inf s
 unfolding units
 infinite s q k h = ap (λ (t : Bool). cond t (odd 25 s q k 149) (inf s)) (le-ltb (q * 2 ^ k) (2 ^ 277) h)
 
