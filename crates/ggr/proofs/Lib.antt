@@ -5,3 +5,4 @@ mod Fitting
 mod Finish
 pub mod Given
 pub mod Orderly
+pub mod Same
