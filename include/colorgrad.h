@@ -74,10 +74,12 @@ typedef enum {
 #define COLORGRAD_CLOSE 2u  /* the ramp itself does not tell it from the depth before: no fault of the list */
 #define COLORGRAD_MERGED 4u /* the ramp tells it from the depth before, and the list does not */
 
-/* ---- codes of a GIMP segment that are carried: five of blending, three of colouring. The middle of a sinusoidal segment
- * must not be outside its ends, or the segment counts as not carried. With HSV the colours are mixed as hue, saturation and
+/* ---- codes of a GIMP segment that are carried: six of blending, three of colouring. A curved segment is carried by ramps of kind
+ * COLORGRAD_GIMP_SAVED alone. The middle of a sinusoidal or curved segment must not be outside its ends, or the segment counts as
+ * not carried. With HSV the colours are mixed as hue, saturation and
  * value, by docs/HSV.md: hues rise, or fall, from the left one to the right one, and equal hues go the full turn. */
 #define COLORGRAD_BLEND_LINEAR 0u
+#define COLORGRAD_BLEND_CURVED 1u
 #define COLORGRAD_BLEND_SINUSOIDAL 2u
 #define COLORGRAD_BLEND_SPHERICAL_INCREASING 3u
 #define COLORGRAD_BLEND_SPHERICAL_DECREASING 4u
