@@ -23,7 +23,7 @@ use Rattle.segment.specs.declared.SegmentRead.the-variants.{Valid, Fault
 use Rattle.segment.specs.Line.{carriedBy, codeOf, validCodes, endColour, judge, build, fromNumbers, segmentOnLine}
 use Rattle.segment.proofs.Carried.{no-segment}
 
--- TO GO when gradient Saved has carried-too public
+-- ---- what kind 5 carries, kind 6 carries; gradient's Saved says it of whole ramps
 taken-too : (c k i s o : Bool) → (c ≡ true → o ≡ false) → (k && cond (cond c false s) i o) ≡ true → (k && cond (cond c true s) i o) ≡ true
 taken-too true true i s o w h = absurd (true≢false (sym h ∙ w refl))
 taken-too true false i s o w h = h
