@@ -3,9 +3,11 @@
 import { call, copy, meanwhile } from './library.mjs';
 import { above, plural } from './numbers.mjs';
 
-/** The kinds by their numbers; those of stops have names in files. */
-export const KINDS = ['linear', 'smoothstep', 'sharp', 'basis', 'catmull-rom', 'GIMP'];
-export const [LINEAR, GIMP] = [0, 5];
+/** The kinds by their numbers; those of stops have names in files. GIMP's segments are of the last where one is curved. */
+export const KINDS = ['linear', 'smoothstep', 'sharp', 'basis', 'catmull-rom', 'GIMP', 'GIMP'];
+export const [LINEAR, GIMP, GIMP_SAVED] = [0, 5, 6];
+/** Whether a kind has segments, and no stops. */
+export const hasSegments = kind => kind === GIMP || kind === GIMP_SAVED;
 export const MOST_STOPS = 2048;
 
 export const ofStops = (kind, stops) => ({
@@ -30,17 +32,17 @@ export const stopsOf = (positions, channels) =>
 
 /** How many stops or segments it has, in words. */
 export const counted = ({ kind, positions }) =>
-    kind === GIMP ? plural(positions.length / 3, 'segment') : plural(positions.length, 'stop');
+    hasSegments(kind) ? plural(positions.length / 3, 'segment') : plural(positions.length, 'stop');
 
 /** Its own positions; of GIMP segments their ends. */
 export function depthsOf({ kind, positions }) {
-    return kind === GIMP ? positions.filter((_, i) => i === 0 || i % 3 === 2) : positions;
+    return hasSegments(kind) ? positions.filter((_, i) => i === 0 || i % 3 === 2) : positions;
 }
 
 /** Its stops where it is mixed linearly, so that it is a list already; else null. */
 export function asList(ramp) {
     if (ramp.kind === LINEAR) return stopsOf(ramp.positions, ramp.channels);
-    return ramp.kind === GIMP ? joined(ramp) : null;
+    return hasSegments(ramp.kind) ? joined(ramp) : null;
 }
 
 /** GIMP segments are mixed linearly where each is plain, RGB, and has its middle half-way; where two do not meet in one

@@ -1,6 +1,6 @@
 // What is saved of a ramp and its list, byte for byte as plume writes it.
 import { call, copy, lend, meanwhile } from './library.mjs';
-import { asList, GIMP, LINEAR, stopsOf } from './ramp.mjs';
+import { asList, hasSegments, LINEAR, stopsOf } from './ramp.mjs';
 import { listRoom, recordRoom } from './sheet.mjs';
 import { written } from './write/write.mjs';
 
@@ -10,7 +10,7 @@ const MOST_PRINTED = 50029;
  * of its own stops as `plume convert` does, if it is mixed linearly or the format keeps its kind. */
 export function saved(editor, format, { isRamp = false, domain = null } = {}) {
     const { name, sheet: { ramp } } = editor;
-    const keepsKind = format === 'text' && ramp.kind !== GIMP;
+    const keepsKind = format === 'text' && !hasSegments(ramp.kind);
     const own = keepsKind ? stopsOf(ramp.positions, ramp.channels) : asList(ramp);
     if (isRamp && own) return written({ name, kind: keepsKind ? ramp.kind : LINEAR, stops: own, evaluations: 0, domain }, format);
     const text = format === 'bits' && !domain && printed(editor);

@@ -1,7 +1,7 @@
 // How the list is made: the kind of ramp, the sort of list, threshold and hold.
 import { call } from '../library.mjs';
 import { short } from '../numbers.mjs';
-import { GIMP, KINDS } from '../ramp.mjs';
+import { hasSegments, KINDS } from '../ramp.mjs';
 import { $, make, setText } from './dom.mjs';
 import { field, showIn } from './field.mjs';
 
@@ -31,7 +31,7 @@ function draw(page, kinds) {
     const { threshold, hold, isPublished } = page.sheet.settings;
     $('kind').value = String(page.sheet.kind);
     // segments are not stops: a GIMP ramp stays one, and none becomes one
-    kinds.forEach((option, kind) => (option.hidden = option.disabled = (kind === GIMP) !== page.isGimp));
+    kinds.forEach((option, kind) => (option.hidden = option.disabled = hasSegments(kind) ? kind !== page.sheet.kind : page.isGimp));
     $('sort').value = isPublished ? 'published' : 'within';
     showIn($('threshold'), short(threshold));
     showIn($('hold'), short(hold));

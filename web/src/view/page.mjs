@@ -3,7 +3,7 @@ import { mixed, painted } from '../asked.mjs';
 import { Editor } from '../editor.mjs';
 import { Fault } from '../fault.mjs';
 import { read, short } from '../numbers.mjs';
-import { colorAt, GIMP } from '../ramp.mjs';
+import { colorAt, hasSegments } from '../ramp.mjs';
 import { merged } from '../report.mjs';
 import { $, setText } from './dom.mjs';
 
@@ -25,7 +25,7 @@ export class Page {
     }
 
     get isGimp() {
-        return this.sheet.kind === GIMP;
+        return hasSegments(this.sheet.kind);
     }
 
     /** How many stops can be chosen: those of a GIMP ramp are the ends of its segments, which are looked at only. */
