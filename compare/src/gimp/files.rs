@@ -1,4 +1,5 @@
-//! Real GIMP files: read or refused as the Rust's reader and document 01 have it, with the Rust's colours and lists.
+//! Real GIMP files: read or refused as the Rust's reader and document 01 have it; and read as GIMP saves them, with the Rust's
+//! colours and lists.
 
 use crate::gimp::texts;
 use crate::harness::options::Options;
@@ -7,6 +8,7 @@ use crate::harness::ours;
 use crate::harness::ramps::{Kind, Ramp, MOST_SEGMENTS};
 use crate::harness::report::{all_same, Tally};
 use crate::listed::lists::{self, MOST_POINTS};
+use crate::painted::curves;
 use crate::painted::hues;
 use crate::painted::sine;
 use std::path::{Path, PathBuf};
@@ -16,15 +18,16 @@ const POINTS: usize = 4096;
 pub fn run(options: &Options, folder: &Path) -> Vec<Tally> {
     let files = sorted(folder);
     let mut tally = Tally::new("files: read", options.seed);
+    let mut saved = Tally::new("files: read as GIMP saves them", options.seed);
     let mut colours = Tally::new("files: colours", options.seed);
     let mut flat = Tally::new("files: lists", options.seed);
     for (case, file) in files.iter().enumerate() {
         match std::fs::read(file) {
-            Ok(text) => compare([&mut tally, &mut colours, &mut flat], case as u64, &text),
+            Ok(text) => compare([&mut tally, &mut saved, &mut colours, &mut flat], case as u64, &text),
             Err(e) => tally.differs(case as u64, || format!("{}: {e}", file.display())),
         }
     }
-    vec![tally.done(), colours.done(), flat.done()]
+    vec![tally.done(), saved.done(), colours.done(), flat.done()]
 }
 
 /// The segments of every file that the library reads.
@@ -70,10 +73,15 @@ fn find(folder: &Path, files: &mut Vec<PathBuf>) {
     }
 }
 
-fn compare([tally, colours, flat]: [&mut Tally; 3], case: u64, text: &[u8]) {
+fn compare([tally, saved, colours, flat]: [&mut Tally; 4], case: u64, text: &[u8]) {
     let input = whole(text.to_vec());
     texts::read(tally, case, &input);
-    let Some(ramp) = ramp(&input) else { return };
+    saved.inputs(1);
+    let Some(ramp) = ramp(&input) else {
+        saved.differs(case, || "refused".to_string());
+        return;
+    };
+    saved.answered(1);
     let Ok((g, _, _)) = oracle::read(text, input.foreground, input.background) else { return };
     let g: oracle::Boxed = Box::new(g);
     let points: Vec<f32> = (0..POINTS).map(|i| i as f32 / (POINTS - 1) as f32).collect();
@@ -82,14 +90,18 @@ fn compare([tally, colours, flat]: [&mut Tally; 3], case: u64, text: &[u8]) {
     let refusal = ours::paint(&ramp, &points, &mut got);
     colours.inputs(POINTS as u64);
     colours.answered(POINTS as u64);
-    let sine = sine::has_sine(&ramp);
-    let (most, class) =
-        if hues::has_hue(&ramp) { (hues::MOST_GAP, hues::CLASS) } else { (sine::MOST_GAP, sine::CLASS) };
+    let own = sine::has_sine(&ramp) || curves::has_curve(&ramp);
+    let (most, class) = match (curves::has_curve(&ramp), hues::has_hue(&ramp)) {
+        (false, false) => (sine::MOST_GAP, sine::CLASS),
+        (false, true) => (hues::MOST_GAP, hues::CLASS),
+        (true, false) => (sine::MOST_GAP, curves::CLASS),
+        (true, true) => (hues::MOST_GAP, curves::CLASS_BY_HUE),
+    };
     let near = got.iter().zip(&want).all(|(a, b)| (a - b).abs() <= most);
-    if refusal != 0 || !(all_same(&got, &want) || sine && near) {
+    if refusal != 0 || !(all_same(&got, &want) || own && near) {
         colours.differs(case, || format!("painted with {refusal}"));
     }
-    if sine {
+    if own {
         // its list is of its own colours
         colours.listed(class);
         return;
@@ -99,7 +111,7 @@ fn compare([tally, colours, flat]: [&mut Tally; 3], case: u64, text: &[u8]) {
     }
 }
 
-/// The segments as the library reads them.
+/// The segments as the library reads them, of the kind that carries them.
 fn ramp(input: &texts::Input) -> Option<Ramp> {
     let mut ramp = Ramp {
         kind: Kind::Gimp,
@@ -108,9 +120,12 @@ fn ramp(input: &texts::Input) -> Option<Ramp> {
         codes: vec![0; 2 * MOST_SEGMENTS],
     };
     let colours = (input.foreground, input.background);
-    let n = ours::read(&input.text, colours, &mut ramp.positions, &mut ramp.channels, &mut ramp.codes).ok()?;
+    let n = ours::read_saved(&input.text, colours, &mut ramp.positions, &mut ramp.channels, &mut ramp.codes).ok()?;
     ramp.positions.truncate(3 * n);
     ramp.channels.truncate(8 * n);
     ramp.codes.truncate(2 * n);
+    if curves::has_curve(&ramp) {
+        ramp.kind = Kind::GimpSaved;
+    }
     Some(ramp)
 }

@@ -35,9 +35,10 @@ all-too : (n i : ℕ) (ps : List Float) (ks : List ℕ) → allCarried Gimp n i 
 unfolding allCarried
 all-too zero i ps ks h = refl
 all-too (suc n) i ps ks h =
-    simp
-    (carried-too _ _ _ _ _ (both-l (carriedAt Gimp ps ks i) (allCarried Gimp n (suc i) ps ks) h),
-    all-too n (suc i) ps ks (both-r (carriedAt Gimp ps ks i) (allCarried Gimp n (suc i) ps ks) h))
+    simp (
+      carried-too _ _ _ _ _ (both-l (carriedAt Gimp ps ks i) (allCarried Gimp n (suc i) ps ks) h),
+      all-too n (suc i) ps ks (both-r (carriedAt Gimp ps ks i) (allCarried Gimp n (suc i) ps ks) h),
+    )
 
 passes-too : (s a b : Bool) (x : Checked) → (a ≡ true → b ≡ true) → cond (s && a) x (Refused misshapen) ≡ Fine → cond (s && b) x (Refused misshapen) ≡ Fine
 passes-too true true b x w h = simp (w refl) h
