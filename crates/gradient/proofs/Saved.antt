@@ -27,7 +27,8 @@ taken-too true true i s o w h = absurd (true≢false (sym h ∙ w refl))
 taken-too true false i s o w h = h
 taken-too false k i s o w h = h
 
-carried-too : (b k : ℕ) (l m r : Float) → carried Gimp b k l m r ≡ true → carried GimpSaved b k l m r ≡ true
+-- what kind 5 carries, kind 6 carries
+pub carried-too : (b k : ℕ) (l m r : Float) → carried Gimp b k l m r ≡ true → carried GimpSaved b k l m r ≡ true
 unfolding carried
 carried-too b k l m r h = taken-too (eqb b curvedCode) (leb k fallingCode) (inOrder l m r) (eqb b sinusoidalCode) (others b) (λ e. ap others (eqb-true b curvedCode e)) h
 

@@ -1,40 +1,23 @@
 -- A line that holds a segment by document 01's rules holds the same by those for what GIMP saves. Assumes nothing.
 use Prim.Native.Nat.{ℕ}
-use native.Mathlib.Omega.{arith}
-use mathlib.Core.Path.{_≡_, refl, sym, ap, _∙_}
-use mathlib.Core.Bool.{Bool, true, false, cond, _&&_, _||_, true≢false}
+use mathlib.Core.Path.{_≡_, refl, ap, _∙_}
+use mathlib.Core.Bool.{Bool, true, false, cond}
 use mathlib.Core.List.{List}
 use lib.ListN.{length, getD}
-use lib.Dec.{leb, eqb}
+use lib.Dec.{eqb}
 use lib.Ieee.{Float, nan}
 use Rattle.refusals.specs.Refusals.{badSegment, notCarried}
 use Rattle.blend.specs.declared.Rgba.{Rgba}
-use borrow.Author.Tests.{eqb-true}
-use Rattle.stops.specs.declared.Kind.the-variants.{Gimp, GimpSaved}
-use Rattle.gradient.specs.Gimp.{linearCode, curvedCode, sinusoidalCode, increasingCode, decreasingCode, stepCode, fallingCode, inOrder, carried}
 use Rattle.gradient.specs.declared.gimp.Segment.{Segment}
+use Rattle.gradient.proofs.Saved.{carried-too}
 use Rattle.text.specs.Text.{words}
 use Rattle.rows.specs.declared.Notation.the-variants.{Short, Long}
 use Rattle.rows.specs.Rows.{Numbers, all, none, numbers}
 use Rattle.rows.proofs.Longer.{numbers-same}
 use Rattle.segment.specs.declared.Rules.the-variants.{Published, Saved}
-use Rattle.segment.specs.declared.SegmentRead.{SegmentRead}
 use Rattle.segment.specs.declared.SegmentRead.the-variants.{Valid, Fault}
 use Rattle.segment.specs.Line.{carriedBy, codeOf, validCodes, endColour, judge, build, fromNumbers, segmentOnLine}
 use Rattle.segment.proofs.Carried.{no-segment}
-
--- ---- what kind 5 carries, kind 6 carries; gradient's Saved says it of whole ramps
-taken-too : (c k i s o : Bool) → (c ≡ true → o ≡ false) → (k && cond (cond c false s) i o) ≡ true → (k && cond (cond c true s) i o) ≡ true
-taken-too true true i s o w h = absurd (true≢false (sym h ∙ w refl))
-taken-too true false i s o w h = h
-taken-too false k i s o w h = h
-
-abbrev others : ℕ → Bool
-others b = eqb b linearCode || eqb b increasingCode || eqb b decreasingCode || eqb b stepCode
-
-carried-too : (b k : ℕ) (l m r : Float) → carried Gimp b k l m r ≡ true → carried GimpSaved b k l m r ≡ true
-unfolding carried
-carried-too b k l m r h = taken-too (eqb b curvedCode) (leb k fallingCode) (inOrder l m r) (eqb b sinusoidalCode) (others b) (λ e. ap others (eqb-true b curvedCode e)) h
 
 carried-same : (g : Segment) → carriedBy Published g ≡ true → carriedBy Saved g ≡ true
 carried-same g e = carried-too (g .blending) (g .colouring) (g .left) (g .middle) (g .right) e

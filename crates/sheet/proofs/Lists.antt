@@ -26,7 +26,7 @@ use Rattle.within.specs.Lists as within
 use Rattle.within.specs.Promises.{ThinsWithin}
 use Rattle.within.proofs.Counting.{evaluations-most}
 use Rattle.within.proofs.Sites.{positions-few}
-use Rattle.sheet.specs.Lists.{writtenBy, listedBy, refusalBy, keptBy, evaluationsBy, ThinsBy}
+use Rattle.sheet.specs.Lists.{writtenBy, listedBy, refusalBy, stopsBy, evaluationsBy, ThinsBy}
 use Rattle.sheet.specs.Answers.{sheetBy}
 use Rattle.sheet.specs.inner.Making.{ListsBy}
 use Rattle.sheet.specs.declared.ListSort.{ListSort}
@@ -53,7 +53,7 @@ few-evaluations (suc k) s e most h = omega arith
 module _ (ramp : Ramp) (asked : Float) (was : Held) (fine : thinCheck ramp asked was ≡ checked.Fine) (out : Change Output) where
   -- the answer of the call, the output, and few evaluations
   pub record Makes (sort : ListSort) (made : Listed) : Type 0 where
-    pub answer : made ≡ listedOf (refusalBy sort ramp asked (room (out .entry)) (pointsIn ramp was)) (keptBy sort ramp asked (pointsIn ramp was)) (evaluationsBy sort ramp asked (pointsIn ramp was))
+    pub answer : made ≡ listedOf (refusalBy sort ramp asked (room (out .entry)) (pointsIn ramp was)) (stopsBy sort ramp asked (pointsIn ramp was)) (evaluationsBy sort ramp asked (pointsIn ramp was))
     pub output : out .exit ≡ writtenBy sort ramp asked (pointsIn ramp was) (out .entry)
     pub few : evaluationsOfListed made ≤ 32146
 
@@ -79,7 +79,7 @@ module _ (ramp : Ramp) (asked : Float) (was : Held) (fine : thinCheck ramp asked
     listed-is most =
         let ts = pointsIn ramp was in
         w .answer ∙ ap (sheetBy stops)
-        (after-few spent (w .made) refl most (made-list .few) ∙ ap (withSampling spent) (made-list .answer) ∙ added spent (refusalBy sort ramp asked (room (out .entry)) ts) (keptBy sort ramp asked ts) (evaluationsBy sort ramp asked ts))
+        (after-few spent (w .made) refl most (made-list .few) ∙ ap (withSampling spent) (made-list .answer) ∙ added spent (refusalBy sort ramp asked (room (out .entry)) ts) (stopsBy sort ramp asked ts) (evaluationsBy sort ramp asked ts))
 
     pub output-is : out .exit ≡ writtenBy sort ramp asked (pointsIn ramp was) (out .entry)
     output-is = made-list .output

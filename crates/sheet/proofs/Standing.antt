@@ -26,7 +26,7 @@ use Rattle.refresh.proofs.RefreshAnswers.{edited-held}
 use Rattle.refresh.proofs.Theorem.{fresh-renewed}
 use Rattle.refresh.proofs.editing.EditRules.{remove-passes}
 use Rattle.sheet.specs.Room.{roomFits, fitted, stopsFit, firstOf}
-use Rattle.sheet.specs.Lists.{refusalBy, keptBy, evaluationsBy, writtenBy, listedBy}
+use Rattle.sheet.specs.Lists.{refusalBy, stopsBy, evaluationsBy, writtenBy, listedBy}
 use Rattle.sheet.specs.Answers.{sheetBy, numberOfSheet, listedOfSheet, stopsNow}
 use Rattle.sheet.specs.Promises.{openCheck, sheetCheck, editAnswer, madeEdit, madeRamp}
 use Rattle.sheet.specs.Through.{Sheet, Turn, listedNow, refusalNow, Opened, Turned}
@@ -109,7 +109,7 @@ module _ (asked : Float) (sort : ListSort) where
     pub held-is : s .held ≡ fresh ramp asked
     pub list-is : s .list ≡ writtenBy sort ramp asked (pointsIn ramp (fresh ramp asked)) (s .list)
     pub refusal-is : s .refusal ≡ refusalBy sort ramp asked (room (s .list)) (pointsIn ramp (fresh ramp asked))
-    pub listed-is : s .listed ≡ unlessRefused (refusalBy sort ramp asked (room (s .list)) (pointsIn ramp (fresh ramp asked))) (keptBy sort ramp asked (pointsIn ramp (fresh ramp asked)))
+    pub listed-is : s .listed ≡ unlessRefused (refusalBy sort ramp asked (room (s .list)) (pointsIn ramp (fresh ramp asked))) (stopsBy sort ramp asked (pointsIn ramp (fresh ramp asked)))
 
   -- ---- opened
   module _ (s : Sheet) (o : Opened asked sort s) where
@@ -123,7 +123,7 @@ module _ (asked : Float) (sort : ListSort) where
         let both = whole-fine (stopsFit (s .room .kind) (s .stops) (length (s .room .positions)) (length (s .room .channels))) (heldCheck first (o .was)) h in
         let ts = pointsIn first (fresh first asked) in
         let k = refusalBy sort first asked (room (o .before)) ts in
-        let kept = keptBy sort first asked ts in
+        let kept = stopsBy sort first asked ts in
         let spent = freshEvaluations first asked + evaluationsBy sort first asked ts in
         let answered : o .answer ≡ sheetBy (s .stops) (listedOf k kept spent) = o .call .answer ∙ rw h in
         let held : s .held ≡ fresh first asked = o .call .left ∙ rw h in

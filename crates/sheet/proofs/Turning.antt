@@ -15,7 +15,7 @@ use Rattle.refresh.specs.RefreshDesk.{refreshCheck, renewed, newEvaluations}
 use Rattle.refresh.proofs.RefreshAnswers.{edited-held}
 use Rattle.refresh.proofs.Theorem.{fresh-renewed}
 use Rattle.sheet.specs.Room.{stopsFit, firstOf, rewritten}
-use Rattle.sheet.specs.Lists.{refusalBy, keptBy, evaluationsBy, writtenBy}
+use Rattle.sheet.specs.Lists.{refusalBy, stopsBy, evaluationsBy, writtenBy}
 use Rattle.sheet.specs.Answers.{sheetBy, numberOfSheet, listedOfSheet, stopsNow}
 use Rattle.sheet.specs.Promises.{sheetCheck, editAnswer, madeEdit, madeRamp, madePoints}
 use Rattle.sheet.specs.Through.{Sheet, Turn, listedNow, refusalNow, Turned}
@@ -83,7 +83,7 @@ module _ (asked : Float) (sort : ListSort) (s : Sheet) (t : Turn) (w : Turned as
     refusal = refusalBy sort ramp′ asked (room (s .list)) (pointsIn ramp′ (fresh ramp′ asked))
 
     abbrev kept : ℕ
-    kept = keptBy sort ramp′ asked (pointsIn ramp′ (fresh ramp′ asked))
+    kept = stopsBy sort ramp′ asked (pointsIn ramp′ (fresh ramp′ asked))
 
     abbrev spent : ℕ
     spent = newEvaluations first (madeEdit (s .room) (s .stops) (t .edit)) asked + evaluationsBy sort ramp′ asked (pointsIn ramp′ (fresh ramp′ asked))

@@ -22,9 +22,9 @@ abbrev pub refusalBy : ListSort → Ramp → Float → ℕ → List Float → �
 refusalBy Thinned ramp asked room ts = refusalOf (colourOf ramp) (farOf asked) room ts
 refusalBy (Within hold) ramp asked room ts = within.refusalWithin ramp asked hold room ts
 
-abbrev pub keptBy : ListSort → Ramp → Float → List Float → ℕ
-keptBy Thinned ramp asked ts = length (keptOf (colourOf ramp) (farOf asked) ts)
-keptBy (Within hold) ramp asked ts = length (within.keptOf ramp asked hold ts)
+abbrev pub stopsBy : ListSort → Ramp → Float → List Float → ℕ
+stopsBy Thinned ramp asked ts = length (keptOf (colourOf ramp) (farOf asked) ts)
+stopsBy (Within hold) ramp asked ts = length (within.keptOf ramp asked hold ts)
 
 abbrev pub evaluationsBy : ListSort → Ramp → Float → List Float → ℕ
 evaluationsBy Thinned ramp asked ts = listEvaluations (colourOf ramp) (farOf asked) ts
@@ -36,7 +36,7 @@ writtenBy (Within hold) ramp asked ts out = within.writtenWithin ramp asked hold
 
 -- the answer of the list, to which the evaluations spent before it are added
 abbrev pub listedBy : ListSort → Ramp → Float → List Float → Output → ℕ → Listed
-listedBy sort ramp asked ts out spent = listedOf (refusalBy sort ramp asked (room out) ts) (keptBy sort ramp asked ts) (spent + evaluationsBy sort ramp asked ts)
+listedBy sort ramp asked ts out spent = listedOf (refusalBy sort ramp asked (room out) ts) (stopsBy sort ramp asked ts) (spent + evaluationsBy sort ramp asked ts)
 
 -- the promises of the calls that make one
 abbrev pub ThinsBy : ListSort → Ramp → Float → Held → Change Output → Listed → Type 0
