@@ -1,5 +1,4 @@
 -- A clear channel is an f32 from 0 to 1. It is finite, and a whole number of units of 2 ^ -149. Assumes nothing.
-use Prim.Native.Nat.{ℕ}
 use lib.Dec.{T}
 use lib.Ieee.{Float, binary32, ofBits, fits, le}
 use lib.Ieee.Scale.{finite}

@@ -2,7 +2,7 @@
 -- An error of 16 in 2 ^ 28 is that of one operation. Assumes nothing.
 use mathlib.Core.Path.{_≡_, sym, subst}
 use Prim.Native.Nat.{ℕ, _+_, _-_, _*_, _^_, _≤_, _<_}
-use native.Mathlib.Nat.{le-trans, mul-le-mul, mul-le-mul-right, le-of-mul-le-mul-right}
+use native.Mathlib.Nat.{mul-le-mul-right, le-of-mul-le-mul-right}
 use native.Mathlib.Omega.{arith}
 use Rattle.float.proofs.RoundOff.{Part, Off, off-high, off-low, gap}
 use Rattle.float.proofs.OperationsOff.{gap-times}

@@ -1,11 +1,11 @@
 -- How far off a mix a + x·(b - a) of channels from 0 to 1 may be, with x = (t - p) / (q - p) and t from p to q: 102 parts in 2 ^ 28 of 1 (`mix-off`), which is about 6.4 in 2 ^ 24. Assumes nothing.
-use mathlib.Core.Path.{_≡_, refl, sym, ap, _∙_, subst}
+use mathlib.Core.Path.{_≡_, refl, sym, subst}
 use mathlib.Core.Logic.{inl, inr}
 use Prim.Native.Nat.{ℕ, _+_, _-_, _*_, _^_, _≤_, _<_}
 use native.Mathlib.Omega.{arith}
 use lib.Dec.{T, lit<, lit≤}
 use lib.Pow.{pow-pos}
-use lib.Ieee.{Float, binary32, ofBits, fits, neg, add, sub, sum, mul, round, le, isNan}
+use lib.Ieee.{Float, binary32, ofBits, neg, add, sub, sum, mul, round, le}
 use lib.Ieee.Bits.{ofBits-fits}
 use lib.Ieee.Fits.{sub-fits, mul-fits, div-fits}
 use lib.Ieee.Scale.{finite}
@@ -19,7 +19,7 @@ use Rattle.float.proofs.UnitSums.{Counted, le-units}
 use Rattle.float.proofs.RoundOff.{Part, Off, gap}
 use Rattle.float.proofs.OperationsOff.{counted-up, sub-off, mul-off}
 use Rattle.float.proofs.SignedOff.{counted-down, add-signed-off, some-up, div-off}
-use Rattle.float.proofs.Placed.{Placed, place-le, place-sub}
+use Rattle.float.proofs.Placed.{Placed, place-sub}
 use Rattle.blend.specs.Blend.{linear1}
 use Rattle.blend.proofs.Clear.{Clear, clear-finite, clear-counted}
 use Rattle.blend.proofs.MixErrors.{Steps, Mixed, mixed-up, mixed-down}

@@ -1,14 +1,13 @@
 -- No f32 lies between a number and the one just above it, or just below it (`above-next`, `below-next`); and these do lie above it, and below it. Assumes nothing.
 use mathlib.Core.Path.{_≡_, refl, sym, ap, _∙_, subst}
 use mathlib.Core.Bool.{Bool, true, false, true≢false}
-use Prim.Native.Nat.{ℕ, _+_, _-_, _≤_, _<_}
+use Prim.Native.Nat.{_+_, _-_, _≤_, _<_}
 use native.Mathlib.Nat.{lt-of-not-le}
 use native.Mathlib.Decide.{decLe}
 use native.Mathlib.Omega.{arith}
 use lib.Dec.{T}
-use lib.Ieee.{Float, nan, inf, fin, binary32, ofBits, neg, lt, le, eq, isNan}
+use lib.Ieee.{Float, nan, inf, fin, ofBits, neg, lt, le, eq, isNan}
 use lib.Ieee.Bits.{is-true}
-use lib.Ieee.Scale.{finite}
 use Rattle.float.specs.F32.{f0}
 use Rattle.float.specs.Number.{magnitudeOf, aboveOf, belowOf}
 use Rattle.float.proofs.Order.{as-T, le-trans, lt→le, le-lt-trans, le→not-lt, not-lt→le, eq→le, eq→ge}

@@ -1,11 +1,10 @@
 -- How far off a difference and a sum of f32 of either sign, and a quotient, may be, in units of 2 ^ -149 (`count`). Assumes nothing.
 use mathlib.Core.Path.{_≡_, refl, sym, ap, ap₂, _∙_, subst}
-use Prim.Native.Nat.{ℕ, suc, _+_, _-_, _*_, _^_, _≤_, _<_}
+use Prim.Native.Nat.{ℕ, _+_, _*_, _^_, _≤_, _<_}
 use native.Mathlib.Nat.{mul-pos, lt-of-not-le, lt-of-lt-of-le, le-of-eq, lt-irrefl, zero-mul}
 use native.Mathlib.Decide.{decLe}
 use native.Mathlib.Omega.{arith}
-use lib.Dec.{T, lit<}
-use lib.Pow.{pow-pos}
+use lib.Dec.{T}
 use lib.Ieee.{Float, nan, inf, fin, binary32, fits, neg, le, ofBits}
 use lib.Ieee.Fits.{neg-fits}
 use lib.Ieee.Positive.{den, den-pos}
