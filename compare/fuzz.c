@@ -235,6 +235,12 @@ typedef struct {
 #define LENT_RAMP(r) \
     (r).kind, (r).positions, (r).positions_length, (r).channels, (r).channels_length, (r).codes, (r).codes_length
 
+/* Segments and not stops. */
+static int of_segments(uint32_t kind)
+{
+    return kind == COLORGRAD_GIMP || kind == COLORGRAD_GIMP_SAVED;
+}
+
 /* Kind, way, lengths, room, threshold, then items: as raw numbers, or from a byte each, in order. */
 static Ramp ramp_of(Bytes *in)
 {
@@ -242,18 +248,18 @@ static Ramp ramp_of(Bytes *in)
     float positions[3 * MOST], channels[8 * MOST], at = 0.0f;
     uint8_t codes[2 * MOST], way, twist;
     size_t n, per;
-    ramp.kind = byte(in) % 7;
+    ramp.kind = byte(in) % 8;
     way = byte(in);
     twist = byte(in);
     ramp.room = byte(in);
     ramp.threshold = number(in);
-    per = (ramp.kind == COLORGRAD_GIMP ? 11 : 5) * (way & 1 ? 4 : 1);
+    per = (of_segments(ramp.kind) ? 11 : 5) * (way & 1 ? 4 : 1);
     n = in->left / per < MOST ? in->left / per : MOST;
     if (ramp.kind == COLORGRAD_SHARP)
         n -= n % 2;
-    ramp.positions_length = (ramp.kind == COLORGRAD_GIMP ? 3 : 1) * n;
-    ramp.channels_length = (ramp.kind == COLORGRAD_GIMP ? 8 : 4) * n;
-    ramp.codes_length = ramp.kind == COLORGRAD_GIMP ? 2 * n : 0;
+    ramp.positions_length = (of_segments(ramp.kind) ? 3 : 1) * n;
+    ramp.channels_length = (of_segments(ramp.kind) ? 8 : 4) * n;
+    ramp.codes_length = of_segments(ramp.kind) ? 2 * n : 0;
     for (size_t i = 0; i < ramp.positions_length; i++) {
         at += (float)byte(in) / 256.0f;
         positions[i] = way & 1 ? number(in) : at;
@@ -503,7 +509,7 @@ static double squared(ColorgradRgba x, ColorgradRgba y)
 static void check_held(ColorgradListed made, Desk desk, Ramp ramp, float hold)
 {
     double off = colorgrad_hold(hold, ramp.threshold) * 1.000001;
-    if (made.stops < 2 || made.stops > COLORGRAD_MOST_STOPS || ramp.kind == COLORGRAD_GIMP)
+    if (made.stops < 2 || made.stops > COLORGRAD_MOST_STOPS || of_segments(ramp.kind))
         return;
     for (size_t i = 0; i < ramp.positions_length; i++) {
         float t = ramp.positions[i];

@@ -95,6 +95,20 @@ def token(text):
     return f"{bits | (MINUS if body[1] == '-' else 0):08x}"
 
 
+def long_token(text):
+    """Any number of digits, of which 19 are left without the zeros at the start and at the end; then perhaps a power of ten."""
+    body = re.fullmatch(r"([+-]?)(\d*)(?:\.(\d*))?(?:[eE]([+-]?\d+))?", text, re.ASCII)
+    if not body:
+        return "no number"
+    before, after = body[2], body[3] or ""
+    if not before + after or len((before + after).strip("0")) > 19:
+        return "no number"
+    # A power that is far out tells no more than one that is less far: the digits are at most as many as the text has bytes.
+    power = max(-500, min(500, int(body[4] or "0")))
+    bits = nearest(int(before + after) * Fraction(10) ** (power - len(after)))
+    return f"{bits | (MINUS if body[1] == '-' else 0):08x}"
+
+
 def numeral(bits):
     """Nine significant digits, to nearest, a tie to even, from 1e-6 to 1e6; `0` and `-0`; else nothing."""
     sign, size = ("-" if bits & MINUS else ""), bits & 0x7FFFFFFF
@@ -156,6 +170,27 @@ def tokens(rng):
     return out + halfway(rng)
 
 
+def long_tokens(rng):
+    """Ties and their neighbours in all of the range, both ends of it, digits that count and zeros that do not, and texts that are none."""
+    out = ["", ".", "e", "e1", ".e1", "1e", "1e+", "1e-", "1e1.", "1e1e1", "1e 1", "1_0", "0x1", "inf", "nan", "1e--1", "--1e1", "1ee1", "1.e1", ".1E1", "+1e+1", "-1E-1",
+           "0e0", "-0e9", "-0.0e-9", "0e99999999999999999999999", "1e99999999999999999999999", "-1e-99999999999999999999999", "1e000000000000000000000000000001",
+           "1234567890123456789", "12345678901234567890", "12345678901234567891", "0012345678901234567890000", "1.2345678901234567890000e5", "1.23456789012345678901", "9999999999999999999",
+           "340282346638528859811704183484516925440", "3.4028235677973366e38", "3.402823567797336616e38", "3.402823567797336617e38", "3.5e38", "1e38", "1e39", "-1e39",
+           "7.006492321624085354e-46", "7.006492321624085355e-46", "7.0064923216240854e-46", "1.4e-45", "1.1754943508222875e-38", "1e-45", "1e-46", "-1e-46",
+           "0.043478260869565216", "0.0043478260869565218", "1.3877787807814457e-17", "0.500000000000000000000000000000", "0" * 60 + "1" + "0" * 60, "0." + "0" * 60 + "1e60"]
+    for _ in range(150):
+        power = rng.randrange(-150, 104)
+        odd = 2 * rng.randrange(1 << 24) + 1 if power == -150 else 2 * rng.randrange(1 << 23, 1 << 24) + 1
+        x, count = odd * Fraction(2) ** power, rng.randrange(17, 20)
+        down = next(k for k in range(-60, 80) if x * Fraction(10) ** k >= 10 ** (count - 1))
+        for step in (-1, 0, 1):
+            digits = str(int(x * Fraction(10) ** down) + step)
+            moved = rng.choice([0, 0, rng.randrange(0, count)])
+            number = digits[:count - moved] + "." + digits[count - moved:] if moved else digits
+            out.append(rng.choice(["", "-", "+"]) + number + rng.choice("eE") + str(moved - down))
+    return out
+
+
 def main():
     rng = random.Random(20)
     jobs = []
@@ -174,6 +209,8 @@ def main():
         jobs.append((f"f {bits:08x}", "finite" if bits & 0x7FFFFFFF < INFINITY else "not finite"))
     for text in tokens(rng):
         jobs.append((f"t {text}", token(text)))
+    for text in long_tokens(random.Random(42)):
+        jobs.append((f"l {text}", long_token(text)))
     # Whole numbers: up to 2 ^ 23 and 2 ^ 24, at ties, where rounding adds a digit; and with the same digits twice, up to 2 ^ 64.
     counts = [0, 1, 2, 3, 36, 255, 0x7FFFFF, 0x800000, 0x800001, 0xFFFFFF, 0x1000000, 0x1000001, 0x1000002, 0x1000003, 0x1000005,
               0x2000002, 0x2000006, 0x1FFFFFE, 0x1FFFFFF, 0x7FFFFFFF, 0x80000000, 0x80000080, 0x80000180, 0xFFFFFF7F, 0xFFFFFF80, 0xFFFFFFFF]

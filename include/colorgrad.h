@@ -39,14 +39,16 @@ extern "C" {
 #define COLORGRAD_VERSION (1000u * (1000u * COLORGRAD_VERSION_MAJOR + COLORGRAD_VERSION_MINOR) + COLORGRAD_VERSION_PATCH)
 #define COLORGRAD_VERSION_TEXT "0.2.0"
 
-/* ---- kinds of ramp; any other number is refused with 1 */
+/* ---- kinds of ramp; any other number is refused with 1. COLORGRAD_GIMP_SAVED takes every segment that COLORGRAD_GIMP takes, with
+ * the same colours, and curved ones (blending 1) too */
 typedef enum {
     COLORGRAD_LINEAR = 0,
     COLORGRAD_SMOOTHSTEP = 1,
     COLORGRAD_SHARP = 2,
     COLORGRAD_BASIS = 3,
     COLORGRAD_CATMULL_ROM = 4,
-    COLORGRAD_GIMP = 5
+    COLORGRAD_GIMP = 5,
+    COLORGRAD_GIMP_SAVED = 6
 } ColorgradKind;
 
 /* ---- sorts of edit; any other number is refused with 6 */
@@ -79,10 +81,12 @@ typedef enum {
 #define COLORGRAD_CLOSE 2u  /* the ramp itself does not tell it from the depth before: no fault of the list */
 #define COLORGRAD_MERGED 4u /* the ramp tells it from the depth before, and the list does not */
 
-/* ---- codes of a GIMP segment that are carried: five of blending, three of colouring. The middle of a sinusoidal segment
- * must not be outside its ends, or the segment counts as not carried. With HSV the colours are mixed as hue, saturation and
+/* ---- codes of a GIMP segment that are carried: six of blending, three of colouring. A curved segment is carried by ramps of kind
+ * COLORGRAD_GIMP_SAVED alone. The middle of a sinusoidal or curved segment must not be outside its ends, or the segment counts as
+ * not carried. With HSV the colours are mixed as hue, saturation and
  * value, by docs/HSV.md: hues rise, or fall, from the left one to the right one, and equal hues go the full turn. */
 #define COLORGRAD_BLEND_LINEAR 0u
+#define COLORGRAD_BLEND_CURVED 1u
 #define COLORGRAD_BLEND_SINUSOIDAL 2u
 #define COLORGRAD_BLEND_SPHERICAL_INCREASING 3u
 #define COLORGRAD_BLEND_SPHERICAL_DECREASING 4u
@@ -329,14 +333,24 @@ static inline ColorgradStops colorgrad_list_stops(ColorgradList list, size_t sto
     return colorgrad_stops(list.places, list.colours, is_room ? stops : 0);
 }
 
-/* The ramp of the first segments: those that a call read. */
-static inline ColorgradRamp colorgrad_segments_ramp(ColorgradSegments room, size_t segments)
+/* The ramp of the first segments: those that a call read. The kind says whether they may be curved. */
+static inline ColorgradRamp colorgrad_segments_of_kind(ColorgradKind kind, ColorgradSegments room, size_t segments)
 {
     bool is_room = segments <= room.positions_length / 3 && segments <= room.channels_length / 8 &&
                    segments <= room.codes_length / 2;
     size_t n = is_room ? segments : 0;
-    ColorgradRamp made = {COLORGRAD_GIMP, room.positions, 3 * n, room.channels, 8 * n, room.codes, 2 * n};
+    ColorgradRamp made = {kind, room.positions, 3 * n, room.channels, 8 * n, room.codes, 2 * n};
     return made;
+}
+
+static inline ColorgradRamp colorgrad_segments_ramp(ColorgradSegments room, size_t segments)
+{
+    return colorgrad_segments_of_kind(COLORGRAD_GIMP, room, segments);
+}
+
+static inline ColorgradRamp colorgrad_saved_ramp(ColorgradSegments room, size_t segments)
+{
+    return colorgrad_segments_of_kind(COLORGRAD_GIMP_SAVED, room, segments);
 }
 
 /* ---- what a call answers: the refusal, or 0 and what is named here; what is not answered is 0 */
@@ -498,8 +512,19 @@ static inline ColorgradRead colorgrad_read_segments(const uint8_t *text, size_t 
     return colorgrad_read(text, text_length, foreground, background, COLORGRAD_OF_SEGMENTS(room));
 }
 
-/* colorgrad_name (colorgrad_calls.h): how long the file's name is; its bytes are written to the start of out where out holds
- * them all, else out stays as it was. 0 where the file would be refused with room for 256 segments. */
+/* The same of a file as GIMP itself saves it: its numbers may be long (17 significant digits, an exponent), its name in UTF-8, and
+ * its segments curved. The ramp is then colorgrad_saved_ramp. What colorgrad_read_segments reads is read the same. 131,072 bytes
+ * at most; what follows the segments counted is not looked at. */
+static inline ColorgradRead colorgrad_read_saved_segments(const uint8_t *text, size_t text_length,
+                                                          ColorgradRgba foreground, ColorgradRgba background,
+                                                          ColorgradSegments room)
+{
+    return colorgrad_read_saved(text, text_length, foreground, background, COLORGRAD_OF_SEGMENTS(room));
+}
+
+/* colorgrad_name and colorgrad_name_saved (colorgrad_calls.h): how long the file's name is; its bytes are written to the start of
+ * out where out holds them all, else out stays as it was. 0 where the file would be refused with room for 256 segments, by
+ * colorgrad_read_segments or colorgrad_read_saved_segments. */
 
 /* Bytes that are enough for a list of n stops: with this room, 7 is never given. 0 for fewer than 2 stops, which are refused
  * with 1. n is evaluated twice. */
@@ -780,6 +805,15 @@ static inline ColorgradToken colorgrad_token(const uint8_t *text, size_t text_le
 {
     ColorgradToken token = {false, 0.0f};
     token.is_number = colorgrad_token_told(text, text_length, &token.value, 1) != 0;
+    return token;
+}
+
+/* The same of a long token: any number of digits, of which 19 count when zeros at the start and at the end are left off, and
+ * then perhaps 'e' or 'E', a sign or none and digits. A number beyond every float is infinite. */
+static inline ColorgradToken colorgrad_long_token(const uint8_t *text, size_t text_length)
+{
+    ColorgradToken token = {false, 0.0f};
+    token.is_number = colorgrad_long_token_told(text, text_length, &token.value, 1) != 0;
     return token;
 }
 

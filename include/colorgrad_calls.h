@@ -53,8 +53,17 @@ uint32_t colorgrad_read_told(const uint8_t *text, size_t text_length, float fore
                              float *channels, size_t channels_length, uint8_t *codes, size_t codes_length, size_t *told,
                              size_t told_length);
 
-/* answers the name's length */
+/* told: line, segments; a refusal too has its line */
+uint32_t colorgrad_read_saved_told(const uint8_t *text, size_t text_length, float foreground_r, float foreground_g,
+                                   float foreground_b, float foreground_a, float background_r, float background_g,
+                                   float background_b, float background_a, float *positions, size_t positions_length,
+                                   float *channels, size_t channels_length, uint8_t *codes, size_t codes_length,
+                                   size_t *told, size_t told_length);
+
+/* each answers the name's length */
 size_t colorgrad_name(const uint8_t *text, size_t text_length, uint8_t *out, size_t out_length);
+
+size_t colorgrad_name_saved(const uint8_t *text, size_t text_length, uint8_t *out, size_t out_length);
 
 /* told: bytes */
 uint32_t colorgrad_write_ggr_told(const float *positions, size_t positions_length, const float *channels,
@@ -174,6 +183,7 @@ float colorgrad_cutoff(float t);
 
 /* answers 1 where the bytes are a number, else 0; value: the number, 0 if none */
 uint32_t colorgrad_token_told(const uint8_t *text, size_t text_length, float *value, size_t value_length);
+uint32_t colorgrad_long_token_told(const uint8_t *text, size_t text_length, float *value, size_t value_length);
 
 /* ---- messages and the version */
 

@@ -20,9 +20,16 @@ use std::path::Path;
 const REPETITIONS: usize = 21;
 const POINTS: usize = 4096;
 
-/// The blendings carried: GIMP's code, and a name. The first four, in turn, make a ramp of several.
-const BLENDINGS: [(u8, &str); 5] =
-    [(0, "linear"), (3, "spherical increasing"), (4, "spherical decreasing"), (5, "step"), (2, "sinusoidal")];
+/// The blendings carried: the kind of ramp that carries it, GIMP's code, and a name. The first four, in turn, make a ramp of
+/// several.
+const BLENDINGS: [(Kind, u8, &str); 6] = [
+    (Kind::Gimp, 0, "linear"),
+    (Kind::Gimp, 3, "spherical increasing"),
+    (Kind::Gimp, 4, "spherical decreasing"),
+    (Kind::Gimp, 5, "step"),
+    (Kind::Gimp, 2, "sinusoidal"),
+    (Kind::GimpSaved, 1, "curved"),
+];
 
 /// Every table, or the one that is asked for by name.
 pub fn run(options: &Options) {
@@ -138,14 +145,22 @@ fn tokens(random: &mut Random) {
         let rust = || texts.iter().for_each(|t| used(black_box(t.as_str()).parse::<f32>()));
         beside(&format!("token of {} digits", places + 1), "str::parse", texts.len(), ours, rust);
     }
+    // as many digits as tell a number of 53 binary digits, 17 most often
+    for size in [1.0, 1e-1, 1e-2, 1e-3, 1e-16] {
+        let texts: Vec<String> =
+            (0..1024).map(|_| format!("{:?}", size * (0.1 + 0.9 * random.unit() as f64))).collect();
+        let ours = || texts.iter().for_each(|t| used(ours::long_token(black_box(t.as_bytes()))));
+        let rust = || texts.iter().for_each(|t| used(black_box(t.as_str()).parse::<f32>()));
+        beside(&format!("long token, a tenth of {size:?} to {size:?}"), "str::parse", texts.len(), ours, rust);
+    }
 }
 
 /// Evenly spaced stops or segments of random colours.
 fn even_ramp(random: &mut Random, kind: Kind, n: usize) -> Ramp {
-    if kind == Kind::Gimp {
+    if kind.is_gimp() {
         let n = n.min(MOST_SEGMENTS);
         let positions = (0..n).flat_map(|i| [i as f32, i as f32 + 0.5, i as f32 + 1.0]).map(|x| x / n as f32).collect();
-        let codes = (0..n).flat_map(|i| [BLENDINGS[i % 4].0, 0]).collect();
+        let codes = (0..n).flat_map(|i| [BLENDINGS[i % 4].1, 0]).collect();
         return Ramp { kind, positions, channels: (0..8 * n).map(|_| random.unit()).collect(), codes };
     }
     let positions = (0..n).map(|i| i as f32 / (n - 1) as f32).collect();
@@ -193,9 +208,9 @@ fn paint(random: &mut Random) {
             paint_beside(kind.name(), &even_ramp(random, kind, n), &points);
         }
     }
-    for (blending, name) in BLENDINGS {
+    for (kind, blending, name) in BLENDINGS {
         for n in [2, 64] {
-            let mut ramp = even_ramp(random, Kind::Gimp, n);
+            let mut ramp = even_ramp(random, kind, n);
             ramp.codes.iter_mut().step_by(2).for_each(|code| *code = blending);
             paint_beside(&format!("GIMP, {name} alone"), &ramp, &points);
         }
@@ -214,7 +229,7 @@ fn paint_beside(name: &str, ramp: &Ramp, points: &[(&str, Vec<f32>)]) {
 }
 
 fn items(ramp: &Ramp) -> usize {
-    if ramp.kind == Kind::Gimp {
+    if ramp.kind.is_gimp() {
         ramp.positions.len() / 3
     } else {
         ramp.positions.len()

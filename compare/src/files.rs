@@ -33,10 +33,18 @@ pub fn ramps(folder: &Path) -> Vec<Ramp> {
     texts.filter_map(|text| ramp(&whole(text))).collect()
 }
 
-/// The segments of one file, or why there are none.
+/// The segments of one file as GIMP saves it, foreground black and background white; or why there are none.
 pub fn read_ramp(path: &Path) -> Result<Ramp, String> {
     let text = std::fs::read(path).map_err(|e| e.to_string())?;
-    ramp(&whole(text)).ok_or_else(|| "by the library".to_string())
+    let (mut positions, mut channels) = (vec![0.0; 3 * MOST_SEGMENTS], vec![0.0; 8 * MOST_SEGMENTS]);
+    let mut codes = vec![0; 2 * MOST_SEGMENTS];
+    let colours = ([0.0, 0.0, 0.0, 1.0], [1.0; 4]);
+    let segments = ours::read_saved(&text, colours, &mut positions, &mut channels, &mut codes)
+        .map_err(|(number, line)| format!("with {number}, line {line}"))?;
+    positions.truncate(3 * segments);
+    channels.truncate(8 * segments);
+    codes.truncate(2 * segments);
+    Ok(Ramp { kind: Kind::GimpSaved, positions, channels, codes })
 }
 
 /// A text to be read, with room for all that may be.

@@ -126,7 +126,7 @@ fn number(random: &mut Random, plain: bool) -> String {
         .to_string()
 }
 
-fn damage(random: &mut Random, text: &mut Vec<u8>) {
+pub fn damage(random: &mut Random, text: &mut Vec<u8>) {
     let at = random.below(text.len() + 1);
     match random.below(10) {
         0 => text.truncate(at),

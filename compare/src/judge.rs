@@ -1,10 +1,12 @@
-//! Judging lists: ours against a judge worked out here from documents 01 and 02, over the Rust's own colours.
+//! Judging lists: ours against a judge worked out here from documents 01 and 02, over the Rust's own colours; of
+//! sinusoidal and curved segments over ours.
 
 use crate::lists::{early, random_threshold, MOST_POINTS};
+use crate::lists_within::{any_ramp, colours};
 use crate::options::Options;
 use crate::oracle::{self, Record, CELLS};
 use crate::ours;
-use crate::ramps::{random_channels, random_or_spoilt, random_positions, Ramp, KINDS};
+use crate::ramps::{random_channels, random_positions, Ramp};
 use crate::random::Random;
 use crate::report::Tally;
 use std::collections::BTreeMap;
@@ -45,7 +47,7 @@ pub fn run(options: &Options) -> Vec<Tally> {
     let of = cases.end;
     for case in cases {
         let mut random = Random::of_case(options.seed, case);
-        let ramp = random_or_spoilt(&mut random, KINDS[case as usize % KINDS.len()]);
+        let ramp = any_ramp(&mut random, 2 * case);
         let threshold = random_threshold(&mut random);
         let made = own_list(&ramp, threshold);
         if let Some(list) = &made {
@@ -64,7 +66,7 @@ fn compare(tally: &mut Tally, told: &mut Told, case: u64, ramp: &Ramp, threshold
     let got = ours::judge(ramp, threshold, &list.positions, &list.channels);
     let want = match early(ramp) {
         0 => {
-            let g = oracle::gradient(ramp);
+            let g = colours(ramp);
             tally.answered(1);
             Ok(verdict(ramp.domain(), threshold, list, &|t| oracle::at(&g, t)))
         }

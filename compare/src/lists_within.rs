@@ -1,6 +1,7 @@
 //! Lists that keep their word: ours against the rule as it is worked out in `within`, over the Rust's own colours; fresh
 //! records and rubbish by halves.
 
+use crate::curves;
 use crate::lists::{early, is_record, random_record, random_room, random_threshold, RUBBISH};
 use crate::options::Options;
 use crate::oracle::{self, Boxed, Record, CELLS, MARKS, ROW};
@@ -52,11 +53,13 @@ pub fn run(options: &Options) -> Vec<Tally> {
     vec![fresh.done(), other.done()]
 }
 
-/// Every kind in turn, and sinusoidal segments.
+/// Every kind in turn, sinusoidal segments and curved ones.
 pub fn any_ramp(random: &mut Random, case: u64) -> Ramp {
-    match KINDS.get(case as usize / 2 % (KINDS.len() + 1)) {
+    let turn = case as usize / 2 % (KINDS.len() + 2);
+    match KINDS.get(turn) {
         Some(kind) => random_or_spoilt(random, *kind),
-        None => sine::random_ramp(random),
+        None if turn == KINDS.len() => sine::random_ramp(random),
+        None => curves::random_ramp(random),
     }
 }
 
@@ -104,9 +107,9 @@ pub fn refused(ramp: &Ramp, threshold: f32, record: &Record) -> u32 {
     }
 }
 
-/// The Rust's colours; of sinusoidal segments our own, which are document 02's.
+/// The Rust's colours; of sinusoidal and curved segments our own, which have rules of their own.
 pub fn colours(ramp: &Ramp) -> Boxed {
-    if sine::has_sine(ramp) {
+    if sine::has_sine(ramp) || curves::has_curve(ramp) {
         oracle::of_ours(ramp)
     } else {
         oracle::gradient(ramp)

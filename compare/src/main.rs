@@ -7,6 +7,7 @@ mod clock;
 mod colours;
 mod count;
 mod counts;
+mod curves;
 mod edits;
 #[allow(dead_code)]
 #[path = "../../bindings/rust/src/ffi.rs"]
@@ -20,6 +21,7 @@ mod list_limits;
 mod lists;
 mod lists_apart;
 mod lists_within;
+mod long_tokens;
 mod many;
 mod marks;
 mod merged;
@@ -37,6 +39,7 @@ mod report;
 mod roots;
 mod sample;
 mod sample_within;
+mod saved;
 mod sharp;
 mod sheeting;
 mod sheets;
@@ -62,13 +65,14 @@ use std::path::Path;
 use std::process::ExitCode;
 
 const USAGE: &str = "compare COMMAND [N] [--seed S] [--case I]
-  roots tokens colours sine waves hues sharp texts counts torn lists refresh edits marks many promise steps numerals written judge within apart
+  roots tokens long_tokens colours sine waves hues curves sharp texts saved counts torn lists refresh edits marks many promise steps numerals written judge within apart
   sheets views
                      one comparison, of N inputs or at its full size
   all [PERCENT]      every comparison, at its full size or at that part of it
   differences        the smallest inputs of docs/DIFFERENCES.md, with the Rust's answers and ours
   gimp FOLDER [N]    N lists written there as .ggr files (200), for compare/gimp.py
   files FOLDER       the .ggr files in it, as compare/fetch gets them
+  saved-files FOLDER the .ggr files in it by the rules for what GIMP saves, each whole and damaged
   bench [TABLE]      times beside the Rust's: root token paint files read flatten growth within apart refresh sheet
   count [TABLE]      instructions in place of times, by valgrind's callgrind
   own [N] [FOLDER]   how many of our own lists are turned down, of N random ramps and of the .ggr files in FOLDER
@@ -81,15 +85,18 @@ const USAGE: &str = "compare COMMAND [N] [--seed S] [--case I]
 type Comparison = (&'static str, fn(&Options) -> Vec<Tally>, u64);
 
 /// Each comparison with its full size.
-const COMPARISONS: [Comparison; 24] = [
+const COMPARISONS: [Comparison; 27] = [
     ("roots", roots::run, 1 << 32),
     ("tokens", tokens::run, 100_000_000),
+    ("long_tokens", long_tokens::run, 100_000_000),
     ("colours", colours::run, 2_000_000),
     ("sine", sine::run, 12_000_000),
     ("waves", sine_lists::run, 100_000),
     ("hues", hues::run, 12_000_000),
+    ("curves", curves::run, 12_000_000),
     ("sharp", sharp::run, 1_000_000),
     ("texts", texts::run, 200_000),
+    ("saved", saved::run, 400_000),
     ("counts", counts::run, 400_000),
     ("torn", torn::run, 100_000),
     ("lists", lists::run, 20_000),
@@ -134,6 +141,10 @@ fn run(words: &[String]) -> Result<bool, String> {
         "files" => {
             let folder = options.name.as_ref().ok_or("a folder is missing")?;
             Ok(report::summary(&files::run(&options, Path::new(folder))))
+        }
+        "saved-files" => {
+            let folder = options.name.as_ref().ok_or("a folder is missing")?;
+            Ok(report::summary(&saved::files(&options, Path::new(folder))))
         }
         "gimp" => {
             let folder = options.name.as_ref().ok_or("a folder is missing")?;

@@ -65,7 +65,7 @@ fn is_sampled(ramp: &Ramp, asked: f32, sampled: Result<usize, u32>, before: &Rec
 /// The same ramp, or one with an end of the other sign of zero, a unit away, or elsewhere.
 fn other_ends(random: &mut Random, ramp: &Ramp) -> Ramp {
     let mut other = ramp.clone();
-    if ramp.kind == Kind::Gimp || ramp.positions.is_empty() {
+    if ramp.kind.is_gimp() || ramp.positions.is_empty() {
         return other;
     }
     let last = other.positions.len() - 1;

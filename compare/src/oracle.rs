@@ -19,7 +19,9 @@ pub fn gradient(ramp: &Ramp) -> Boxed {
         Kind::Sharp => Box::new(door::sharp(&ramp.stops())),
         Kind::Basis => Box::new(door::basis(&ramp.stops())),
         Kind::CatmullRom => Box::new(door::catmull_rom(&ramp.stops())),
-        Kind::Gimp => Box::new(read(segments_text(ramp).as_bytes(), [0.0; 4], [0.0; 4]).expect("its own segments").0),
+        Kind::Gimp | Kind::GimpSaved => {
+            Box::new(read(segments_text(ramp).as_bytes(), [0.0; 4], [0.0; 4]).expect("its own segments").0)
+        }
     }
 }
 
@@ -60,7 +62,7 @@ pub enum Unchecked {
 pub fn unchecked(ramp: &Ramp) -> Unchecked {
     let (positions, channels, codes) = (ramp.positions.len(), ramp.channels.len(), ramp.codes.len());
     let is_whole = match ramp.kind {
-        Kind::Gimp => {
+        Kind::Gimp | Kind::GimpSaved => {
             (3 * codes, 8 * codes) == (2 * positions, 2 * channels) && ramp.codes.chunks(2).all(|c| c[1] <= 2)
         }
         Kind::Sharp => ramp.refusal() == 0,
@@ -72,7 +74,9 @@ pub fn unchecked(ramp: &Ramp) -> Unchecked {
     let made = || -> Option<Boxed> {
         match ramp.kind {
             Kind::Linear => Some(Box::new(LinearGradient::from_rgba_data(ramp.stops())?)),
-            Kind::Gimp => Some(Box::new(read(segments_text(ramp).as_bytes(), [0.0; 4], [0.0; 4]).ok()?.0)),
+            Kind::Gimp | Kind::GimpSaved => {
+                Some(Box::new(read(segments_text(ramp).as_bytes(), [0.0; 4], [0.0; 4]).ok()?.0))
+            }
             _ => Some(gradient(ramp)),
         }
     };

@@ -38,6 +38,15 @@ pub fn token(text: &[u8]) -> Option<f32> {
     }
 }
 
+pub fn long_token(text: &[u8]) -> Option<f32> {
+    let mut value = [f32::NAN];
+    match calls::long_token(text, &mut value) {
+        0 => None,
+        1 => Some(value[0]),
+        other => panic!("no such answer: {other}"),
+    }
+}
+
 /// How long the number's text is; it is written where there is room.
 pub fn numeral(x: f32, out: &mut [u8]) -> usize {
     ffi::numeral(x, out)
@@ -94,6 +103,28 @@ pub fn name(text: &[u8]) -> Vec<u8> {
     let length = ffi::name(text, &mut []);
     let mut out = vec![0; length];
     assert_eq!(length, ffi::name(text, &mut out), "one text has one name");
+    out
+}
+
+/// The same two of texts as GIMP saves them.
+pub fn read_saved(
+    text: &[u8],
+    (foreground, background): ([f32; 4], [f32; 4]),
+    positions: &mut [f32],
+    channels: &mut [f32],
+    codes: &mut [u8],
+) -> Result<usize, (u32, usize)> {
+    let mut told = [UNTOLD; 2];
+    let ([r, g, b, a], [s, h, c, o]) = (foreground, background);
+    let refusal = ffi::read_saved(text, r, g, b, a, s, h, c, o, positions, channels, codes, &mut told);
+    let [line, segments] = told;
+    answer(refusal, segments).map_err(|number| (number, line))
+}
+
+pub fn name_saved(text: &[u8]) -> Vec<u8> {
+    let length = ffi::name_saved(text, &mut []);
+    let mut out = vec![0; length];
+    assert_eq!(length, ffi::name_saved(text, &mut out), "one text has one name");
     out
 }
 

@@ -10,8 +10,10 @@ pub enum Kind {
     Basis,
     CatmullRom,
     Gimp,
+    GimpSaved,
 }
 
+/// Those whose colours are the Rust's bit for bit. `GimpSaved` is `Gimp` with curved segments, which `curves` and `waves` compare.
 pub const KINDS: [Kind; 6] = [Kind::Linear, Kind::Smoothstep, Kind::Sharp, Kind::Basis, Kind::CatmullRom, Kind::Gimp];
 
 pub const MOST_STOPS: usize = 2048;
@@ -30,7 +32,13 @@ impl Kind {
             Kind::Basis => "basis",
             Kind::CatmullRom => "Catmull-Rom",
             Kind::Gimp => "GIMP",
+            Kind::GimpSaved => "GIMP saved",
         }
+    }
+
+    /// Segments, not stops.
+    pub fn is_gimp(self) -> bool {
+        matches!(self, Kind::Gimp | Kind::GimpSaved)
     }
 }
 
@@ -48,13 +56,13 @@ impl Ramp {
         if !self.is_whole() {
             return 1;
         }
-        let (positions, channels) = if self.kind == Kind::Gimp { (3, 8) } else { (1, 4) };
+        let (positions, channels) = if self.kind.is_gimp() { (3, 8) } else { (1, 4) };
         let mut before = f32::NEG_INFINITY;
         for (p, c) in self.positions.chunks(positions).zip(self.channels.chunks(channels)) {
             if p.iter().chain(c).any(|x| !x.is_finite()) {
                 return 2;
             }
-            if self.kind != Kind::Gimp {
+            if !self.kind.is_gimp() {
                 if p[0] < before {
                     return 3;
                 }
@@ -66,11 +74,11 @@ impl Ramp {
 
     fn is_whole(&self) -> bool {
         let n = self.positions.len();
-        if self.kind == Kind::Gimp {
+        if self.kind.is_gimp() {
             let segments = n / 3;
             return (1..=MOST_SEGMENTS).contains(&segments)
                 && (n, self.channels.len(), self.codes.len()) == (3 * segments, 8 * segments, 2 * segments)
-                && self.codes.chunks(2).zip(self.positions.chunks(3)).all(|(c, p)| carried(c, p));
+                && self.codes.chunks(2).zip(self.positions.chunks(3)).all(|(c, p)| carried(self.kind, c, p));
         }
         (2..=MOST_STOPS).contains(&n)
             && self.channels.len() == 4 * n
@@ -85,15 +93,16 @@ impl Ramp {
 
     pub fn domain(&self) -> (f32, f32) {
         match self.kind {
-            Kind::Gimp => (0.0, 1.0),
+            Kind::Gimp | Kind::GimpSaved => (0.0, 1.0),
             _ => (self.positions[0], self.positions[self.positions.len() - 1]),
         }
     }
 }
 
-/// A sinusoidal segment only where its middle is not outside its ends.
-fn carried(codes: &[u8], p: &[f32]) -> bool {
-    codes[1] <= 2 && (matches!(codes[0], 0 | 3 | 4 | 5) || codes[0] == 2 && p[0] <= p[1] && p[1] <= p[2])
+/// A sinusoidal segment only where its middle is not outside its ends; a curved one so too, and of one kind alone.
+fn carried(kind: Kind, codes: &[u8], p: &[f32]) -> bool {
+    let asks = codes[0] == 2 || codes[0] == 1 && kind == Kind::GimpSaved;
+    codes[1] <= 2 && (matches!(codes[0], 0 | 3 | 4 | 5) || asks && p[0] <= p[1] && p[1] <= p[2])
 }
 
 /// A ramp that passes the check; no segment is sinusoidal, since these are compared by themselves (`sine`).
@@ -226,15 +235,15 @@ fn spoil(random: &mut Random, ramp: &mut Ramp) {
         }
         7 => {
             // one item more than may be
-            let most = if ramp.kind == Kind::Gimp { MOST_SEGMENTS } else { MOST_STOPS } + 1;
-            let (p, c, k) = if ramp.kind == Kind::Gimp { (3, 8, 2) } else { (1, 4, 0) };
+            let most = if ramp.kind.is_gimp() { MOST_SEGMENTS } else { MOST_STOPS } + 1;
+            let (p, c, k) = if ramp.kind.is_gimp() { (3, 8, 2) } else { (1, 4, 0) };
             ramp.positions = vec![0.5; p * most];
             ramp.channels = vec![0.25; c * most];
             ramp.codes = vec![0; k * most];
         }
         _ => {
             let keep = random.below(2);
-            let (p, c, k) = if ramp.kind == Kind::Gimp { (3, 8, 2) } else { (1, 4, 0) };
+            let (p, c, k) = if ramp.kind.is_gimp() { (3, 8, 2) } else { (1, 4, 0) };
             ramp.positions.truncate(p * keep);
             ramp.channels.truncate(c * keep);
             ramp.codes.truncate(k * keep);

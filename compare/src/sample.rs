@@ -213,7 +213,7 @@ pub fn run(options: &Options, folder: &Path) -> std::io::Result<()> {
 }
 
 fn items(ramp: &Ramp) -> usize {
-    if ramp.kind == Kind::Gimp {
+    if ramp.kind.is_gimp() {
         ramp.positions.len() / 3
     } else {
         ramp.positions.len()

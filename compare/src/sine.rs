@@ -34,8 +34,12 @@ pub fn has_sine(ramp: &Ramp) -> bool {
     ramp.codes.iter().step_by(2).any(|code| *code == SINUSOIDAL)
 }
 
-/// A ramp's segments run from 0 to 1, with random ends, middles and channels; or there is one from 0 to 1.
 pub fn random_ramp(random: &mut Random) -> Ramp {
+    random_segments(random, Kind::Gimp, SINUSOIDAL)
+}
+
+/// A ramp's segments run from 0 to 1, with random ends, middles and channels; or there is one from 0 to 1.
+pub fn random_segments(random: &mut Random, kind: Kind, blending: u8) -> Ramp {
     let n = random.from_to(1, 6);
     let mut ends: Vec<f32> = (1..n).map(|_| random.unit()).collect();
     ends.extend([0.0, 1.0]);
@@ -48,7 +52,7 @@ pub fn random_ramp(random: &mut Random) -> Ramp {
     };
     let positions = ends.windows(2).flat_map(|e| [e[0], middle(random, e[0], e[1]), e[1]]).collect();
     let channels = (0..8 * n).map(|_| if random.one_in(4) { random.below(2) as f32 } else { random.unit() }).collect();
-    Ramp { kind: Kind::Gimp, positions, channels, codes: [SINUSOIDAL, 0].repeat(n) }
+    Ramp { kind, positions, channels, codes: [blending, 0].repeat(n) }
 }
 
 /// Points inside a segment, each with its segment.

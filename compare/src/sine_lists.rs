@@ -1,6 +1,6 @@
-//! Lists of sinusoidal ramps. Their colours are document 02's table and not the Rust's sine, so a list can have other stops
-//! than the Rust's: how often, and how far the two are apart. Each list is bit for bit the one that the Rust's own halving
-//! and thinning make of our colours.
+//! Lists of sinusoidal and of curved ramps. Their colours go by rules of their own and not by the Rust's sine, logarithm and
+//! exponential, so a list can have other stops than the Rust's: how often, and how far the two are apart. Each list is bit for
+//! bit the one that the Rust's own halving and thinning make of our colours.
 
 use crate::lists::{agrees, random_threshold, same_stops, MOST_POINTS, RUBBISH};
 use crate::options::Options;
@@ -8,27 +8,54 @@ use crate::oracle::{self, Boxed, List, Record};
 use crate::ramps::Ramp;
 use crate::random::Random;
 use crate::report::Tally;
-use crate::{ours, sine};
+use crate::{curves, ours, sine};
 
 const ROOM: (usize, usize) = (MOST_POINTS, 4 * MOST_POINTS);
 const GRID: usize = 1000;
 
+/// What the classes of one sort of ramp are called.
+struct Sort {
+    name: &'static str,
+    near: &'static str,
+    other: &'static str,
+    random_ramp: fn(&mut Random) -> Ramp,
+}
+
+const SORTS: [Sort; 2] = [
+    Sort {
+        name: "lists of sinusoidal ramps",
+        near: "sinusoidal: the same positions, colours within 2^-18",
+        other: "sinusoidal: other stops or evaluations",
+        random_ramp: sine::random_ramp,
+    },
+    Sort {
+        name: "lists of curved ramps",
+        near: "curved: the same positions, colours within 2^-18",
+        other: "curved: other stops or evaluations",
+        random_ramp: curves::random_ramp,
+    },
+];
+
 pub fn run(options: &Options) -> Vec<Tally> {
-    let mut tally = Tally::new("lists of sinusoidal ramps", options.seed);
+    SORTS.iter().map(|sort| one_sort(options, sort)).collect()
+}
+
+fn one_sort(options: &Options, sort: &Sort) -> Tally {
+    let mut tally = Tally::new(sort.name, options.seed);
     let mut farthest = (0.0, String::new());
     let cases = options.cases();
     let of = cases.end;
     for case in cases {
         let mut random = Random::of_case(options.seed, case);
-        let ramp = sine::random_ramp(&mut random);
-        compare(&mut tally, case, &ramp, random_threshold(&mut random), &mut farthest);
+        let ramp = (sort.random_ramp)(&mut random);
+        compare(&mut tally, sort, case, &ramp, random_threshold(&mut random), &mut farthest);
         tally.progress(case, of);
     }
     println!("lists that differ are apart by at most {:e} in a channel: {}", farthest.0, farthest.1);
-    vec![tally.done()]
+    tally.done()
 }
 
-fn compare(tally: &mut Tally, case: u64, ramp: &Ramp, threshold: f32, farthest: &mut (f32, String)) {
+fn compare(tally: &mut Tally, sort: &Sort, case: u64, ramp: &Ramp, threshold: f32, farthest: &mut (f32, String)) {
     tally.inputs(1);
     let (mut positions, mut channels) = (vec![RUBBISH; ROOM.0], vec![RUBBISH; ROOM.1]);
     let got = ours::flatten(ramp, threshold, &mut Record::empty(), &mut positions, &mut channels);
@@ -41,11 +68,11 @@ fn compare(tally: &mut Tally, case: u64, ramp: &Ramp, threshold: f32, farthest: 
     let places = |list: &List| list.stops.iter().map(|s| s.0.to_bits()).collect::<Vec<_>>();
     if (places(&here), here.evaluations) == (places(&rust), rust.evaluations) {
         if !same_stops(&here.stops, &rust.stops) {
-            tally.listed("sinusoidal: the same positions, colours within 2^-18");
+            tally.listed(sort.near);
         }
         return;
     }
-    tally.listed("sinusoidal: other stops or evaluations");
+    tally.listed(sort.other);
     let gap = apart(&here, &rust);
     if gap > farthest.0 {
         let told = (here.stops.len(), here.evaluations, rust.stops.len(), rust.evaluations);

@@ -101,7 +101,7 @@ pub fn expected(input: &Input) -> (Answer, Option<&'static str>) {
     (answer, None)
 }
 
-fn number_of(message: &str) -> u32 {
+pub fn number_of(message: &str) -> u32 {
     match message {
         "invalid header" => 11,
         "invalid segment" => 12,

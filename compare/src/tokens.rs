@@ -75,7 +75,7 @@ fn token(random: &mut Random) -> Vec<u8> {
     }
 }
 
-fn sign(random: &mut Random) -> &'static str {
+pub fn sign(random: &mut Random) -> &'static str {
     random.pick(&["", "", "", "-", "-", "+"])
 }
 
@@ -131,7 +131,7 @@ fn short(random: &mut Random) -> Vec<u8> {
 }
 
 /// What the Rust reads and document 01 does not, and what neither does.
-fn foreign(random: &mut Random) -> Vec<u8> {
+pub fn foreign(random: &mut Random) -> Vec<u8> {
     let texts = [
         "inf",
         "-inf",
@@ -179,7 +179,7 @@ fn foreign(random: &mut Random) -> Vec<u8> {
     random.pick(&texts).as_bytes().to_vec()
 }
 
-fn damage(random: &mut Random, text: &mut Vec<u8>) {
+pub fn damage(random: &mut Random, text: &mut Vec<u8>) {
     let at = random.below(text.len() + 1);
     match random.below(3) {
         0 => text.insert(at, random.pick(b"+-.eE x0\t\0\xff9:/")),

@@ -19,7 +19,7 @@ const STOPS: usize = 64;
 pub fn table(random: &mut Random) {
     let asked = Asked { threshold: 0.007, hold: 0.001 };
     for kind in KINDS {
-        if kind != Kind::Gimp {
+        if !kind.is_gimp() {
             let job = striped(kind, STOPS);
             beside(&format!("{STOPS} in turn, {} (request (x))", kind.name()), &job, asked);
         }

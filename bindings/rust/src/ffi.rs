@@ -58,7 +58,13 @@ exports! {
         background_r: f32, background_g: f32, background_b: f32, background_a: f32,
         positions: &mut [f32], channels: &mut [f32], codes: &mut [u8], told: &mut [usize]
     ) -> u32;
+    read_saved = colorgrad_read_saved_told(
+        text: &[u8], foreground_r: f32, foreground_g: f32, foreground_b: f32, foreground_a: f32,
+        background_r: f32, background_g: f32, background_b: f32, background_a: f32,
+        positions: &mut [f32], channels: &mut [f32], codes: &mut [u8], told: &mut [usize]
+    ) -> u32;
     name = colorgrad_name(text: &[u8], out: &mut [u8]) -> usize;
+    name_saved = colorgrad_name_saved(text: &[u8], out: &mut [u8]) -> usize;
     write_ggr = colorgrad_write_ggr_told(positions: &[f32], channels: &[f32], text: &mut [u8], told: &mut [usize]) -> u32;
     numeral = colorgrad_numeral(x: f32, out: &mut [u8]) -> usize;
     sample = colorgrad_sample_told(
@@ -119,6 +125,7 @@ exports! {
     root = colorgrad_root(x: f32) -> f32;
     cutoff = colorgrad_cutoff(t: f32) -> f32;
     token = colorgrad_token_told(text: &[u8], value: &mut [f32]) -> u32;
+    long_token = colorgrad_long_token_told(text: &[u8], value: &mut [f32]) -> u32;
     message = colorgrad_message_told(refusal: u32, out: &mut [u8]) -> usize;
     verdict_message = colorgrad_verdict_message_told(verdict: u32, out: &mut [u8]) -> usize;
     version = colorgrad_version() -> u32;

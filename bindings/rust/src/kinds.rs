@@ -151,7 +151,7 @@ impl SharpGradient {
     }
 }
 
-/// The segments of a GIMP gradient file (.ggr).
+/// The segments of a GIMP gradient file (.ggr), as GIMP itself saves it too: long numbers, a name in any script, curved segments.
 ///
 /// ```
 /// use guineaplume::{Color, GimpGradient, Gradient, ParseGgrError, Refusal};
@@ -170,6 +170,7 @@ impl SharpGradient {
 #[derive(Clone, PartialEq, Debug)]
 pub struct GimpGradient {
     parts: Parts,
+    kind: Kind,
     name: String,
 }
 
@@ -183,11 +184,12 @@ impl GimpGradient {
         let mut channels = vec![0.0; 8 * MOST_SEGMENTS];
         let mut codes = vec![0; 2 * MOST_SEGMENTS];
         let out = slices::SegmentsMut { positions: &mut positions, channels: &mut channels, codes: &mut codes };
-        let segments = slices::read(text, *foreground, *background, out)?;
+        let segments = slices::read_saved(text, *foreground, *background, out)?;
         positions.truncate(3 * segments);
         channels.truncate(8 * segments);
         codes.truncate(2 * segments);
-        Ok(GimpGradient { parts: Parts { positions, channels, codes }, name: name_of(text) })
+        let kind = segments_kind(&codes);
+        Ok(GimpGradient { parts: Parts { positions, channels, codes }, kind, name: name_of(text) })
     }
 
     /// The name that the file gives itself.
@@ -203,11 +205,20 @@ impl GimpGradient {
     }
 }
 
-/// A text that was read is ASCII, and its name no longer than it.
-fn name_of(text: &[u8]) -> String {
-    let mut name = vec![0; text.len()];
-    let length = slices::name(text, &mut name);
-    name[..length].iter().copied().map(char::from).collect()
+/// Segments of which one is curved are lent as [`Kind::GimpSaved`], others as [`Kind::Gimp`].
+fn segments_kind(codes: &[u8]) -> Kind {
+    const CURVED: u8 = 1;
+    if codes.iter().step_by(2).any(|blending| *blending == CURVED) {
+        return Kind::GimpSaved;
+    }
+    Kind::Gimp
 }
 
-is_gradient!(GimpGradient, ramp => ramp.parts.as_slices(Kind::Gimp));
+/// The name of a text that was read is UTF-8, and no longer than it.
+fn name_of(text: &[u8]) -> String {
+    let mut name = vec![0; text.len()];
+    let length = slices::name_saved(text, &mut name);
+    String::from_utf8_lossy(&name[..length]).into_owned()
+}
+
+is_gradient!(GimpGradient, ramp => ramp.parts.as_slices(ramp.kind));

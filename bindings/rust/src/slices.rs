@@ -67,8 +67,10 @@ pub enum Kind {
     Basis = 3,
     /// A Catmull-Rom spline.
     CatmullRom = 4,
-    /// The segments of a GIMP gradient.
+    /// The segments of a GIMP gradient, none of them curved.
     Gimp = 5,
+    /// The same with the same colours, and curved segments too: all that GIMP saves.
+    GimpSaved = 6,
 }
 
 /// A ramp as it is lent.
@@ -371,7 +373,11 @@ pub struct SegmentsMut<'a> {
     pub codes: &'a mut [u8],
 }
 
-/// Reads a GIMP text: how many segments.
+fn segments_of(refusal: u32, [line, segments]: [usize; 2]) -> Result<usize, ParseGgrError> {
+    answer(refusal, segments).map_err(|refusal| ParseGgrError { refusal, line })
+}
+
+/// Reads a GIMP text by document 01's rules: how many segments.
 ///
 /// # Errors
 /// Any of 2, 10 to 16, 18, with its line; it sets all of `out` to zero.
@@ -381,14 +387,38 @@ pub fn read(text: &[u8], foreground: Color, background: Color, out: SegmentsMut<
     let Color { r: br, g: bg, b: bb, a: ba } = background;
     let mut told = [0; 2];
     let refusal = ffi::read(text, r, g, b, a, br, bg, bb, ba, positions, channels, codes, &mut told);
-    let [line, segments] = told;
-    answer(refusal, segments).map_err(|refusal| ParseGgrError { refusal, line })
+    segments_of(refusal, told)
+}
+
+/// Reads a GIMP text as GIMP itself saves it: its numbers may be long, its name in UTF-8, its segments curved. What [`read`]
+/// reads is read the same.
+///
+/// # Errors
+/// Any of 2, 10 to 16, 18, with its line; it sets all of `out` to zero.
+pub fn read_saved(
+    text: &[u8],
+    foreground: Color,
+    background: Color,
+    out: SegmentsMut<'_>,
+) -> Result<usize, ParseGgrError> {
+    let SegmentsMut { positions, channels, codes } = out;
+    let Color { r, g, b, a } = foreground;
+    let Color { r: br, g: bg, b: bb, a: ba } = background;
+    let mut told = [0; 2];
+    let refusal = ffi::read_saved(text, r, g, b, a, br, bg, bb, ba, positions, channels, codes, &mut told);
+    segments_of(refusal, told)
 }
 
 /// How long the name in a GIMP text is. Its bytes are written where `out` holds them all, else it stays as it was. 0 where
 /// the text would be refused with room for 256 segments.
 pub fn name(text: &[u8], out: &mut [u8]) -> usize {
     ffi::name(text, out)
+}
+
+/// The same of a text that [`read_saved`] reads; it is UTF-8.
+#[must_use]
+pub fn name_saved(text: &[u8], out: &mut [u8]) -> usize {
+    ffi::name_saved(text, out)
 }
 
 /// Bytes that are enough for a GIMP text of so many stops: with this room, 7 is never given.
@@ -426,6 +456,14 @@ pub fn desk(input: &[u8], output: &mut [u8]) -> usize {
 pub fn token(text: &[u8]) -> Option<f32> {
     let mut value = [0.0];
     let is_number = ffi::token(text, &mut value) != 0;
+    is_number.then_some(value[0])
+}
+
+/// The number that the bytes are as a long token: any number of digits, of which 19 count when zeros at the start and at the
+/// end are left off, and then perhaps `e` or `E`, a sign or none and digits. Beyond every `f32` it is infinite.
+pub fn long_token(text: &[u8]) -> Option<f32> {
+    let mut value = [0.0];
+    let is_number = calls::long_token(text, &mut value) != 0;
     is_number.then_some(value[0])
 }
 

@@ -24,6 +24,7 @@ fn kinds_have_the_codes_of_the_header() {
         ("BASIS", Kind::Basis),
         ("CATMULL_ROM", Kind::CatmullRom),
         ("GIMP", Kind::Gimp),
+        ("GIMP_SAVED", Kind::GimpSaved),
     ];
     let defined = HEADER.split("typedef enum {").nth(1).and_then(|rest| rest.split('}').next()).expect("the kinds");
     let own: Vec<String> = kinds.iter().map(|(name, kind)| format!("COLORGRAD_{name} = {}", *kind as u32)).collect();

@@ -8,13 +8,13 @@ use Rattle.linearize.specs.Lent.{Output}
 use Rattle.linearize.specs.declared.Listed.{Listed}
 use Rattle.refresh.specs.declared.editing.Edit.{Edit}
 use Rattle.refresh.specs.RefreshDesk.{Refreshes, RefreshLists}
-use Rattle.refresh.specs.declared.Refreshed.{Refreshed}
+use Rattle.sampling.specs.declared.Sampled.{Sampled}
 use Rattle.sheet.specs.Promises.{Opens, Edits}
 use Rattle.sheet.specs.declared.ListSort.{ListSort}
 use Rattle.sheet.specs.declared.SheetAnswer.{SheetAnswer}
 
 module _ {ramp : Ramp} {e e′ : Edit} {asked : Float} {held : Change Held} (is : e ≡ e′) where
-  pub refreshes-by : {r : Refreshed} → Refreshes ramp e asked held r → Refreshes ramp e′ asked held r
+  pub refreshes-by : {r : Sampled} → Refreshes ramp e asked held r → Refreshes ramp e′ asked held r
   refreshes-by {r} w = subst (λ (x : Edit). Refreshes ramp x asked held r) is w
 
   pub lists-by : {out : Change Output} {r : Listed} → RefreshLists ramp e asked held out r → RefreshLists ramp e′ asked held out r

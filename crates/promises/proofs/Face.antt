@@ -17,6 +17,7 @@ use Rattle.colorgrad_c.proofs.leaves.colorgrad_cutoff.Reads as of-cutoff
 use Rattle.colorgrad_c.proofs.leaves.colorgrad_threshold.Reads as of-threshold
 use Rattle.colorgrad_c.proofs.leaves.colorgrad_hold.Reads as of-hold
 use Rattle.colorgrad_c.proofs.leaves.colorgrad_token_told.Reads as of-token
+use Rattle.colorgrad_c.proofs.leaves.colorgrad_long_token_told.Reads as of-long-token
 use Rattle.colorgrad_c.proofs.about.colorgrad_version.Reads as of-version
 use Rattle.colorgrad_c.proofs.about.colorgrad_message_told.Reads as of-message
 use Rattle.colorgrad_c.proofs.about.colorgrad_verdict_message_told.Reads as of-verdict-message
@@ -26,7 +27,9 @@ use Rattle.colorgrad_c.proofs.ramps.colorgrad_at_told.Reads as of-at
 use Rattle.colorgrad_c.proofs.ramps.colorgrad_paint.Reads as of-paint
 use Rattle.colorgrad_c.proofs.ramps.colorgrad_sharp_told.Reads as of-sharp
 use Rattle.colorgrad_c.proofs.gimp.colorgrad_read_told.Reads as of-read
+use Rattle.colorgrad_c.proofs.gimp.colorgrad_read_saved_told.Reads as of-read-saved
 use Rattle.colorgrad_c.proofs.gimp.colorgrad_name.Reads as of-name
+use Rattle.colorgrad_c.proofs.gimp.colorgrad_name_saved.Reads as of-name-saved
 use Rattle.colorgrad_c.proofs.tool.colorgrad_desk.Reads as of-desk
 use Rattle.colorgrad_c.proofs.lists.colorgrad_sample_told.Reads as of-sample
 use Rattle.colorgrad_c.proofs.lists.colorgrad_thin_told.Reads as of-thin
@@ -59,6 +62,9 @@ version κs a = coincide (λ r e w. w)
 pub token : (κs : Lfts 2) (a : _) → Coincide (of-token.Learnt κs a) (λ r e. r with now (e .1 .0))
 token κs a = coincide (λ r e w. both (w .0) (w .1))
 
+pub long-token : (κs : Lfts 2) (a : _) → Coincide (of-long-token.Learnt κs a) (λ r e. r with now (e .1 .0))
+long-token κs a = coincide (λ r e w. both (w .0) (w .1))
+
 pub message : (κs : Lfts 1) (a : _) → Coincide (of-message.Learnt κs a) (λ r e. r with now (e .1 .0))
 message κs a = coincide (λ r e w. both (w .0) (w .1))
 
@@ -68,8 +74,14 @@ verdict-message κs a = coincide (λ r e w. both (w .0) (w .1))
 pub read : (κs : Lfts 5) (a : _) → Coincide (of-read.Learnt κs a) (λ r e. r with now (e .1 .1 .1 .1 .1 .1 .1 .1 .1 .1 .1 .1 .0) with now (e .1 .1 .1 .1 .1 .1 .1 .1 .1 .0) with now (e .1 .1 .1 .1 .1 .1 .1 .1 .1 .1 .0) with now (e .1 .1 .1 .1 .1 .1 .1 .1 .1 .1 .1 .0))
 read κs a = coincide (λ r e w. both (w .number) (both (w .told) (both (stored.positions-of (w .left)) (both (stored.channels-of (w .left)) (stored.codes-of (w .left))))))
 
+pub read-saved : (κs : Lfts 5) (a : _) → Coincide (of-read-saved.Learnt κs a) (λ r e. r with now (e .1 .1 .1 .1 .1 .1 .1 .1 .1 .1 .1 .1 .0) with now (e .1 .1 .1 .1 .1 .1 .1 .1 .1 .0) with now (e .1 .1 .1 .1 .1 .1 .1 .1 .1 .1 .0) with now (e .1 .1 .1 .1 .1 .1 .1 .1 .1 .1 .1 .0))
+read-saved κs a = coincide (λ r e w. both (w .number) (both (w .told) (both (stored.positions-of (w .left)) (both (stored.channels-of (w .left)) (stored.codes-of (w .left))))))
+
 pub name : (κs : Lfts 2) (a : _) → Coincide (of-name.Learnt κs a) (λ r e. r with now (e .1 .0))
 name κs a = coincide (λ r e w. both (w .0) (w .1))
+
+pub name-saved : (κs : Lfts 2) (a : _) → Coincide (of-name-saved.Learnt κs a) (λ r e. r with now (e .1 .0))
+name-saved κs a = coincide (λ r e w. both (w .0) (w .1))
 
 pub desk : (κs : Lfts 2) (a : _) → Coincide (of-desk.Learnt κs a) (λ r e. r with now (e .1 .0))
 desk κs a = coincide (λ r e w. both (w .0) (w .1))

@@ -6,6 +6,7 @@ pub mod Slices
 pub mod WholeRoot
 pub mod Sqrt
 pub mod Sine
+pub mod Curve
 pub mod Hsv
 pub mod Decimal
 pub mod Numerals

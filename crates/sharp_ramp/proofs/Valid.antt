@@ -19,10 +19,12 @@ use Rattle.stops.specs.declared.Checked.the-variants.{Fine}
 use Rattle.stops.proofs.Checking.{Shape}
 use Rattle.stops.proofs.Valid.{Valid, rises, finite-number}
 use Rattle.gradient.specs.Ramp.{checkOf}
-use Rattle.sharp_ramp.specs.Sharp.{sharpPositions, bandChannel, sharpChannels, steady, bands, buildOf}
+use Rattle.stops.specs.Stops.{steady}
+use Rattle.stops.proofs.Steady.{steady-finite, steady-rises}
+use Rattle.sharp_ramp.specs.Sharp.{sharpPositions, bandChannel, sharpChannels, bands, buildOf}
 use Rattle.sharp_ramp.specs.declared.Built.the-variants.{Stops}
 use Rattle.sharp_ramp.proofs.Filling.{listed-at}
-use Rattle.sharp_ramp.proofs.Laws.{few, room, made, steady-finite, steady-rises, length-positions, length-channels}
+use Rattle.sharp_ramp.proofs.Laws.{few, room, made, length-positions, length-channels}
 use Rattle.gradient.proofs.Valid.{passes}
 
 -- a channel of a stop is one of a colour

@@ -26,8 +26,8 @@ use Rattle.refresh.specs.editing.Rules.{editCheck}
 use Rattle.refresh.specs.editing.Sound.{Sound}
 use Rattle.refresh.specs.RefreshDesk.{refreshCheck, renewed, newEvaluations, refreshAnswer, refreshHeld, Refreshes}
 use Rattle.refresh.specs.declared.editing.Edit.{Edit}
-use Rattle.refresh.specs.declared.Refreshed.{Refreshed}
-use Rattle.refresh.specs.declared.Refreshed.the-variants as refreshed
+use Rattle.sampling.specs.declared.Sampled.{Sampled}
+use Rattle.sampling.specs.declared.Sampled.the-variants as refreshed
 use Rattle.refresh.proofs.EditChecks.{thin-fine, own-words, allowed, same-marks}
 use Rattle.refresh.proofs.RefreshAnswers.{edited-held, renewed-thins, words-stay, new-most}
 use Rattle.refresh.proofs.editing.Copying.{stop-there}
@@ -70,7 +70,7 @@ module _ (room : Ramp) (n : ℕ) (e : Edit) (asked : Float) where
   -- with the lengths and the edit that the functions within gave
   module _ (fits : stopsFit (room .kind) n (length (room .positions)) (length (room .channels)) ≡ true) (p c : ℕ) (made : Edit)
       (positions : p ≡ positionsFor (room .kind) n) (channels : c ≡ channelsFor (room .kind) n) (made-is : made ≡ madeEdit room n e)
-      (held : Change Held) (q : Refreshed) where
+      (held : Change Held) (q : Sampled) where
     abbrev part : Ramp
     part = rampOf (room .kind) (take p (room .positions)) (take c (room .channels)) (room .codes)
 

@@ -23,7 +23,7 @@ use Rattle.refresh.specs.editing.Reached.{away}
 use Rattle.refresh.specs.RefreshDesk.{refreshCheck, renewed, newEvaluations, refreshAnswer, refreshEvaluations, refreshHeld, Refreshes}
 use Rattle.refresh.specs.AfterEdit.{Shaped, SameCell}
 use Rattle.refresh.specs.declared.editing.Edit.{Edit}
-use Rattle.refresh.specs.declared.Refreshed.the-variants as refreshed
+use Rattle.sampling.specs.declared.Sampled.the-variants as refreshed
 use Rattle.refresh.proofs.Calls.{clear-cells-stay}
 use Rattle.sheet.specs.Room.{stopsFit, firstOf}
 use Rattle.sheet.specs.Lists.{FlattensBy}

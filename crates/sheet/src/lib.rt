@@ -5,7 +5,6 @@ use crate::room::channels_of;
 use crate::room::fits;
 use crate::room::positions_of;
 use crate::room::with_room;
-use refresh::Refreshed;
 use refresh::editing::Edit;
 use refresh::refresh;
 use refusals::MISSHAPEN;
@@ -132,8 +131,8 @@ pub fn edit(
         counts,
         marks,
     ) {
-        Refreshed::Refused(number) => SheetAnswer::Refused(number),
-        Refreshed::Done(spent) => {
+        Sampled::Refused(number) => SheetAnswer::Refused(number),
+        Sampled::Done(spent) => {
             let left = make(positions, channels, stops, made);
             let m = 4 * left;
             list(

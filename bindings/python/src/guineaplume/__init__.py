@@ -23,7 +23,7 @@ from .apart import Apart, Fault
 from .colour import Colour
 from .edit import Edit, Sort
 from .gradient import HOLD, STEP, THRESHOLD, Gradient
-from .leaves import cutoff, desk, hold, numeral, root, threshold, token
+from .leaves import cutoff, desk, hold, long_token, numeral, root, threshold, token
 from .lists import List
 from .ramp import Kind, Ramp
 from .record import Record
@@ -57,6 +57,7 @@ __all__ = [
     'desk',
     'hold',
     'library_version',
+    'long_token',
     'numeral',
     'root',
     'threshold',

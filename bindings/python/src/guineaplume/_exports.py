@@ -27,7 +27,9 @@ DECLARED = {
     'colorgrad_sharp_told': '(colours: &[f32], min: f32, max: f32, softness: f32, '
     'positions: &mut [f32], channels: &mut [f32], told: &mut [usize]) -> u32',
     'colorgrad_read_told': f'(text: &[u8], {_FOREGROUND}, {_BACKGROUND}, {_SEGMENTS}) -> u32',
+    'colorgrad_read_saved_told': f'(text: &[u8], {_FOREGROUND}, {_BACKGROUND}, {_SEGMENTS}) -> u32',
     'colorgrad_name': '(text: &[u8], out: &mut [u8]) -> usize',
+    'colorgrad_name_saved': '(text: &[u8], out: &mut [u8]) -> usize',
     'colorgrad_write_ggr_told': '(positions: &[f32], channels: &[f32], text: &mut [u8], told: &mut [usize]) -> u32',
     'colorgrad_numeral': '(x: f32, out: &mut [u8]) -> usize',
     'colorgrad_sample_told': f'({_RAMP}, threshold: f32, {_FILLED}, told: &mut [usize]) -> u32',
@@ -50,6 +52,7 @@ DECLARED = {
     'colorgrad_root': '(x: f32) -> f32',
     'colorgrad_cutoff': '(t: f32) -> f32',
     'colorgrad_token_told': '(text: &[u8], value: &mut [f32]) -> u32',
+    'colorgrad_long_token_told': '(text: &[u8], value: &mut [f32]) -> u32',
     'colorgrad_message_told': '(refusal: u32, out: &mut [u8]) -> usize',
     'colorgrad_verdict_message_told': '(verdict: u32, out: &mut [u8]) -> usize',
     'colorgrad_version': '() -> u32',

@@ -9,7 +9,7 @@ use lib.ListN.{length}
 use lib.Seq.{length-take-le}
 use Rattle.stops.specs.Lent.{Ramp, rampOf}
 use Rattle.refresh.specs.declared.editing.Edit.{Edit}
-use Rattle.refresh.specs.declared.Refreshed.the-variants as refreshed
+use Rattle.sampling.specs.declared.Sampled.the-variants as refreshed
 use Rattle.sheet.specs.Room.{stopsFit}
 use Rattle.sheet.proofs.Rooms.{Fit, fit-is}
 use Rattle.sheet.proofs.Editing.{edit-misshapen, edit-refused, Taken, taken, may-make, left-few, positions-hold, channels-hold, edit-done}

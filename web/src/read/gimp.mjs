@@ -1,0 +1,21 @@
+// GIMP gradients, read by the library.
+import { Refused } from '../fault.mjs';
+import { call, copy, lend, meanwhile } from '../library.mjs';
+import { GIMP } from '../ramp.mjs';
+
+const MOST_SEGMENTS = 256;
+/** What a segment names in place of a colour of its own is GIMP's own first choice: black before white. */
+const [FOREGROUND, BACKGROUND] = [[0, 0, 0, 1], [1, 1, 1, 1]];
+
+export const readGimp = file => meanwhile(() => {
+    const positions = lend(Float32Array, 3 * MOST_SEGMENTS);
+    const channels = lend(Float32Array, 8 * MOST_SEGMENTS);
+    const codes = lend(Uint8Array, 2 * MOST_SEGMENTS);
+    const told = lend(BigUint64Array, 2);
+    const text = copy(Uint8Array, file.bytes);
+    const refusal = call('read_told', text, ...FOREGROUND, ...BACKGROUND, positions, channels, codes, told);
+    const [line, n] = Array.from(told, Number);
+    if (refusal) throw new Refused(refusal, { file: file.name, line });
+    const ramp = { kind: GIMP, positions: positions.slice(0, 3 * n), channels: channels.slice(0, 8 * n), codes: codes.slice(0, 2 * n) };
+    return { ramp, notes: [] };
+});
