@@ -57,7 +57,8 @@ impl Ramp<'_> {
     ) -> Result<Sheeted, Refusal> {
         let RecordMut { rows, counts, marks } = record;
         let StopsMut { positions, channels } = out;
-        let stops = if self.kind == Kind::Gimp { self.codes.len() / 2 } else { self.positions.len() };
+        // segments have codes, and stops have none
+        let stops = if self.codes.is_empty() { self.positions.len() } else { self.codes.len() / 2 };
         let (list_sort, hold) = sort.parts();
         let mut told = [0; 3];
         let refusal = with_ramp!(
