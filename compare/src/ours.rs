@@ -4,7 +4,7 @@ use crate::apart;
 use crate::ffi;
 use crate::judge::Verdict;
 use crate::oracle::Record;
-use crate::ramps::{Kind, Ramp};
+use crate::ramps::Ramp;
 use crate::within::Asked;
 
 /// What a call tells is put over this.
@@ -40,7 +40,7 @@ pub fn token(text: &[u8]) -> Option<f32> {
 
 pub fn long_token(text: &[u8]) -> Option<f32> {
     let mut value = [f32::NAN];
-    match calls::long_token(text, &mut value) {
+    match ffi::long_token(text, &mut value) {
         0 => None,
         1 => Some(value[0]),
         other => panic!("no such answer: {other}"),
@@ -295,9 +295,10 @@ pub struct Sheet {
 impl Sheet {
     /// How many positions and channels are the ramp's own.
     pub fn lengths(&self) -> (usize, usize) {
-        match self.ramp.kind {
-            Kind::Gimp => (3 * self.stops, 8 * self.stops),
-            _ => (self.stops, 4 * self.stops),
+        if self.ramp.kind.is_gimp() {
+            (3 * self.stops, 8 * self.stops)
+        } else {
+            (self.stops, 4 * self.stops)
         }
     }
 

@@ -416,7 +416,6 @@ pub fn name(text: &[u8], out: &mut [u8]) -> usize {
 }
 
 /// The same of a text that [`read_saved`] reads; it is UTF-8.
-#[must_use]
 pub fn name_saved(text: &[u8], out: &mut [u8]) -> usize {
     ffi::name_saved(text, out)
 }
@@ -461,9 +460,10 @@ pub fn token(text: &[u8]) -> Option<f32> {
 
 /// The number that the bytes are as a long token: any number of digits, of which 19 count when zeros at the start and at the
 /// end are left off, and then perhaps `e` or `E`, a sign or none and digits. Beyond every `f32` it is infinite.
+#[must_use]
 pub fn long_token(text: &[u8]) -> Option<f32> {
     let mut value = [0.0];
-    let is_number = calls::long_token(text, &mut value) != 0;
+    let is_number = ffi::long_token(text, &mut value) != 0;
     is_number.then_some(value[0])
 }
 
