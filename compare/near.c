@@ -84,7 +84,7 @@ static void mixes(long count)
         double share = ((double)t - p) / ((double)q - p);
         most = fmax(most, fabs(mixed(p, q, b, c, t) - (b + share * ((double)c - b))));
     }
-    told("a mix, off the straight line", most, pow(2, -16));
+    told("a mix, off the straight line", most, 102 / pow(2, 28));
 }
 
 /* ---- lists: how many stops, and how much nearer two own positions are in the list than in the ramp */
@@ -149,11 +149,78 @@ static void lists(long count)
     told("nearer in the list than in the ramp", nearer, 2 * (double)HOLD + pow(2, -20));
 }
 
+/* ---- everywhere: of linear ramps on domains of every size, how much further off than the hold the list is at any f32; at random, beside an own position, beside a stop of the list */
+static void random_ramp(float *places, float *colours, size_t m)
+{
+    double wander = pow(10, -3 * random01()), size = pow(2, 20 * random01() - 10), from = size * (2 * random01() - 1);
+    for (size_t i = 0; i < m; i++) {
+        places[i] = i > 0 && random01() < 0.1 ? places[i - 1] : (float)(from + size * random01());
+        for (int j = 0; j < 4; j++)
+            colours[4 * i + j] = i == 0 ? (float)random01() : clamped((float)(colours[4 * (i - 1) + j] + wander * (2 * random01() - 1)));
+    }
+    qsort(places, m, sizeof *places, by_size);
+}
+
+/* four stops, the two between beside the straight line from the first to the last, each channel by a hold: there the list is off by as much as it may, all the way from one to the other */
+static void level_ramp(float *places, float *colours, float hold)
+{
+    double size = pow(2, 20 * random01() - 10), from = size * (2 * random01() - 1), less = 1 - 1e-6 * random01();
+    for (size_t i = 0; i < 4; i++)
+        places[i] = (float)(from + size * random01());
+    qsort(places, 4, sizeof *places, by_size);
+    for (int j = 0; j < 4; j++) {
+        double first = 0.05 + 0.9 * random01(), last = 0.05 + 0.9 * random01(), beside = (random01() < 0.5 ? -hold : hold) * less;
+        for (size_t i = 0; i < 4; i++) {
+            double share = ((double)places[i] - places[0]) / ((double)places[3] - places[0]);
+            colours[4 * i + (size_t)j] = (float)(first + share * (last - first) + (i % 3 == 0 ? 0 : beside));
+        }
+    }
+}
+
+static float any_depth(const float *places, size_t m, size_t stops)
+{
+    double pick = random01();
+    float low = places[0], high = places[m - 1];
+    float t = pick < 0.5 ? (float)(low + (high - low) * random01()) : pick < 0.75 ? places[(size_t)(random01() * (double)m)] : list.places[(size_t)(random01() * (double)stops)];
+    for (int step = (int)(4 * random01()); pick >= 0.5 && step > 0; step--)
+        t = nextafterf(t, random01() < 0.5 ? low : high);
+    return t < low ? low : t > high ? high : t;
+}
+
+static void everywhere(long count)
+{
+    double further = -1, off = 0;
+    long depths = 0, made_lists = 0;
+    for (long n = 0; n < count; n++) {
+        size_t m = 2 + (size_t)(random01() * (MOST_STOPS - 2));
+        float places[MOST_STOPS], colours[4 * MOST_STOPS], hold = (float[]){0.001f, 0.007f, 0.035f}[n % 3];
+        if (random01() < 0.5)
+            random_ramp(places, colours, m);
+        else
+            level_ramp(places, colours, hold), m = 4;
+        ColorgradRamp ramp = colorgrad_ramp(COLORGRAD_LINEAR, colorgrad_stops(places, colours, m));
+        ColorgradListed made = colorgrad_ramp_flatten_within(ramp, 0.035f, hold, colorgrad_record(&record), colorgrad_list(&list));
+        if (made.refusal != COLORGRAD_FINE)
+            continue;
+        made_lists++;
+        for (int k = 0; k < 1000; k++, depths++) {
+            float in_ramp[4], in_list[4], t = any_depth(places, m, made.stops);
+            colour(places, colours, m, t, in_ramp);
+            colour(list.places, list.colours, made.stops, t, in_list);
+            further = fmax(further, (double)difference(in_ramp, in_list) - hold);
+            off = fmax(off, (double)difference(in_ramp, in_list) / hold);
+        }
+    }
+    printf("%ld lists, %ld depths; at most %.9f of the hold\n", made_lists, depths, off);
+    told("everywhere, further off than the hold", further, pow(2, -19));
+}
+
 int main(int argc, char **argv)
 {
     long millions = argc > 1 ? atol(argv[1]) : 1;
     triangles(millions * 1000000);
     mixes(millions * 1000000);
     lists(millions * 1000);
+    everywhere(millions * 1000);
     return passed;
 }

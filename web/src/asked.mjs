@@ -3,7 +3,7 @@ import { distanceAt } from './color.mjs';
 import { Refused } from './fault.mjs';
 import { call, copy, lend, meanwhile } from './library.mjs';
 
-export const YES = 1;
+export const [YES, TOO_FAR] = [1, 6];
 const [MOVED, CLOSE, MERGED] = [1, 2, 4];
 
 /** The ramp's colours at many points, four channels each. */
@@ -44,13 +44,13 @@ export function firstFrom(places, t) {
     return low;
 }
 
-/** What the judge says of the sheet's list, by number. */
+/** What the judge says of the sheet's list: its verdict by number, and where the first point lies that is too far. */
 export const judged = sheet => meanwhile(() => {
-    const told = lend(BigUint64Array, 4);
+    const [told, t] = [lend(BigUint64Array, 4), lend(Float32Array, 1)];
     const { places, colours } = sheet.list;
-    const refusal = call('judge_told', ...sheet.lentRamp(), sheet.settings.threshold, places, colours, told, lend(Float32Array, 1));
+    const refusal = call('judge_told', ...sheet.lentRamp(), sheet.settings.threshold, places, colours, told, t);
     if (refusal) throw new Refused(refusal);
-    return Number(told[0]);
+    return { verdict: Number(told[0]), t: t[0] };
 });
 
 /** What is to be said of each depth, by the threshold and the step: how far off the list is there, for people, and the library's

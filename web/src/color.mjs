@@ -36,7 +36,7 @@ export function distanceAt(x, y, from) {
 }
 
 /** The lightness L* of a colour, 0 to 100, alpha aside: sRGB, D65. */
-export function lightness([r, g, b]) {
+function lightness([r, g, b]) {
     const linear = channel => {
         const c = clamped(channel);
         return c <= 0.04045 ? c / 12.92 : ((c + 0.055) / 1.055) ** 2.4;

@@ -1,7 +1,7 @@
 // What an editor works on: a sheet with its name and settings, what was done to it, and the depths to be told apart. Nothing
 // here knows of the page. Every change goes through `edit` or `reopen`; where one is refused it throws, and all stays as it was.
-import { apart, firstFrom, judged, painted, YES } from './asked.mjs';
-import { message, Refused } from './fault.mjs';
+import { apart, firstFrom, judged, painted, TOO_FAR, YES } from './asked.mjs';
+import { message, Refused, verdictMessage } from './fault.mjs';
 import { History } from './history.mjs';
 import { plural, short } from './numbers.mjs';
 import { asList, counted, depthsOf, LINEAR, ofStops, stopsOf } from './ramp.mjs';
@@ -10,7 +10,7 @@ import { line } from './report.mjs';
 import { ADD, COLOUR, MOVE, REMOVE, Sheet } from './sheet.mjs';
 
 /** plume's, where nothing is named. */
-export const DEFAULTS = { threshold: Math.fround(0.007), hold: Math.fround(0.001), isPublished: false };
+const DEFAULTS = { threshold: Math.fround(0.007), hold: Math.fround(0.001), isPublished: false };
 const STEP = Math.fround(0.02);
 const [BLACK, WHITE] = [[0, 0, 0, 1], [1, 1, 1, 1]];
 const [FALLING, BAD_EDIT] = [3, 6];
@@ -160,21 +160,23 @@ export class Editor {
         return this.named ? Float32Array.from(this.named, depth => depth.position) : depthsOf(this.sheet.ramp);
     }
 
-    /** What is said of the list: the line that plume says, and what `apart` says at the depths; of a list that is refused,
-     * why. */
+    /** What is said of the list: the line that plume says, what `apart` says at the depths, and why the judge says no; of a list
+     * that is refused, why. */
     said() {
         const { sheet } = this;
         if (sheet.listRefusal) {
             const words = `The list is refused, ${sheet.listRefusal}: ${message(sheet.listRefusal)}. The ramp stands as it is shown.`;
-            return { line: words, apart: null, isYes: false };
+            return { line: words, apart: null, isYes: false, why: '' };
         }
-        const isYes = judged(sheet) === YES;
+        const { verdict, t } = judged(sheet);
+        const isYes = verdict === YES;
+        const why = isYes ? '' : verdictMessage(verdict) + (verdict === TOO_FAR ? `, at ${short(t)}` : '');
         const own = apart(sheet, this.step, depthsOf(sheet.ramp));
         return {
             line: line(counted(sheet.ramp), sheet.listed, own, isYes),
             apart: this.named ? apart(sheet, this.step, this.depths) : own,
-            own,
             isYes,
+            why,
         };
     }
 }

@@ -1,7 +1,7 @@
 // What went wrong, in words.
 import { call, lend, meanwhile } from './library.mjs';
 
-const MOST_MESSAGE = 256;
+const MOST_MESSAGE = 512;
 
 /** Of a file, a line of it, or an edit. */
 export class Fault extends Error {

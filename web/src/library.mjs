@@ -44,6 +44,3 @@ export function call(name, ...given) {
     const words = given.flatMap(x => (ArrayBuffer.isView(x) ? [x.byteOffset, BigInt(x.length)] : [x]));
     return exports[`colorgrad_${name}`](...words);
 }
-
-/** Whether this library has a call. */
-export const has = name => `colorgrad_${name}` in exports;

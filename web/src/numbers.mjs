@@ -2,15 +2,20 @@
 import { call, copy, lend, meanwhile } from './library.mjs';
 
 const MOST_NUMERAL = 18;
+/** A sign, a point and 18 digits; a longer text need not be lent. */
+const MOST_TOKEN = 20;
 const encoder = new TextEncoder();
 const decoder = new TextDecoder();
 const { fround } = Math;
 
 /** The number that a text is by the library's rule, or null: a sign or none, 1 to 18 digits, a point or none. */
-export const read = text => meanwhile(() => {
-    const value = lend(Float32Array, 1);
-    return call('token_told', copy(Uint8Array, encoder.encode(text)), value) === 1 ? value[0] : null;
-});
+export function read(text) {
+    if (text.length > MOST_TOKEN) return null;
+    return meanwhile(() => {
+        const value = lend(Float32Array, 1);
+        return call('token_told', copy(Uint8Array, encoder.encode(text)), value) === 1 ? value[0] : null;
+    });
+}
 
 /** Nine significant digits by the library's proved writer. A number that it does not write, one below 1e-6 or above 1e6 in
  * size, is written with as many digits as it needs. */

@@ -5,7 +5,7 @@ import { above, plural } from './numbers.mjs';
 
 /** The kinds by their numbers; those of stops have names in files. */
 export const KINDS = ['linear', 'smoothstep', 'sharp', 'basis', 'catmull-rom', 'GIMP'];
-export const [LINEAR, SMOOTHSTEP, SHARP, BASIS, CATMULL_ROM, GIMP] = KINDS.keys();
+export const [LINEAR, GIMP] = [0, 5];
 export const MOST_STOPS = 2048;
 
 export const ofStops = (kind, stops) => ({
@@ -16,7 +16,7 @@ export const ofStops = (kind, stops) => ({
 });
 
 /** A ramp as the library is lent it, for the time of a call. */
-export const lent = ({ kind, positions, channels, codes }) =>
+const lent = ({ kind, positions, channels, codes }) =>
     [kind, copy(Float32Array, positions), copy(Float32Array, channels), copy(Uint8Array, codes)];
 
 /** 0, or the refusal. */

@@ -1,7 +1,10 @@
 // A browser driven by the WebDriver protocol: Debian's chromium and its driver, headless, with nothing in between.
 import { spawn } from 'node:child_process';
 import { once } from 'node:events';
+import { mkdtempSync, rmSync } from 'node:fs';
 import { createServer } from 'node:net';
+import { tmpdir } from 'node:os';
+import { join } from 'node:path';
 import { setTimeout as pause } from 'node:timers/promises';
 
 /** A machine may have much else to do. */
@@ -27,12 +30,14 @@ export class Browser {
         const browser = new Browser();
         const port = await freePort();
         browser.base = `http://127.0.0.1:${port}`;
-        browser.driver = spawn('chromedriver', [`--port=${port}`], { stdio: 'ignore' });
+        // all that a browser leaves behind goes with it
+        browser.home = mkdtempSync(join(tmpdir(), 'guineaplume-browser-'));
+        browser.driver = spawn('chromedriver', [`--port=${port}`], { stdio: 'ignore', env: { ...process.env, TMPDIR: browser.home } });
         try {
             await browser.ready();
             await browser.begin(width, height, downloads);
         } catch (error) {
-            browser.driver.kill();
+            await browser.stop();
             throw error;
         }
         return browser;
@@ -141,7 +146,10 @@ export class Browser {
     }
 
     async stop() {
-        await this.ask('DELETE', '').catch(() => {});
+        const ended = once(this.driver, 'exit');
+        if (this.session) await this.ask('DELETE', '').catch(() => {});
         this.driver.kill();
+        await ended;
+        rmSync(this.home, { recursive: true, force: true, maxRetries: 20 });
     }
 }

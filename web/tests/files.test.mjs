@@ -28,6 +28,12 @@ for (const path of RAMPS) {
     }
 }
 
+test('a file that is too long for the library is refused, and not lent', () => {
+    const long = first => Buffer.from(first + '0'.repeat(4 << 20)).subarray(0, 4 << 20);
+    assert.throws(() => readFile('long.ggr', long('GIMP Gradient\nName: long\n1\n')), /long\.ggr(:\d+)?: refused 10: /);
+    assert.throws(() => readFile('long.tsv', long('kind\tlinear\nstop\t')), /long\.tsv:2: expected 'stop' and 5 numbers/);
+});
+
 for (const name of ['depths', 'depths-edited', 'lost-band', 'shelf']) {
     test(`the published bits of ${name} are the tool's`, () => {
         const editor = opened(`examples/${name}.tsv`);

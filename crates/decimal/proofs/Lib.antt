@@ -6,6 +6,8 @@ pub mod Finite
 pub mod Grammar
 pub mod IsNearest
 pub mod LastDigit
+pub mod LongAfter
+pub mod LongForms
 pub mod LongGrammar
 pub mod LongPlace
 pub mod LongRuns
@@ -20,4 +22,5 @@ pub mod Quick
 pub mod Significance
 pub mod Tens
 pub mod Theorems
+pub mod WideTurns
 pub mod Words

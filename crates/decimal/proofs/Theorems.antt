@@ -19,6 +19,7 @@ use Rattle.decimal.specs.Nearest.{far, IsNearest, past, Rounded}
 use Rattle.decimal.specs.Means.{Means, written, other, Short, short, Long, long}
 use Rattle.decimal.proofs.Grammar as grammar
 use Rattle.decimal.proofs.IsNearest as nearest
+use Rattle.decimal.proofs.LongForms as long-forms
 use Rattle.decimal.proofs.LongGrammar as long-grammar
 use Rattle.decimal.proofs.OneForm as form
 use Rattle.decimal.proofs.Scale.{ten-le}
@@ -96,7 +97,7 @@ long-is : (s : List ℕ) (neg : Bool) (d p : ℕ) → Long s neg d p → readLon
 long-is s neg d p (long f) = long-grammar.grammar f
 
 long-or-none : (s : List ℕ) → ((neg : Bool) × (d : ℕ) × (p : ℕ) × Long s neg d p) ⊎ (readLongOf s ≡ NoNumber)
-long-or-none s = elim (long-grammar.form-or-none s) [ inl f ↦ inl (f .0, f .1 * 10 ^ f .2, 10 ^ f .3, long (f .4)) | inr h ↦ inr h ]
+long-or-none s = elim (long-forms.form-or-none s) [ inl f ↦ inl (f .0, f .1 * 10 ^ f .2, 10 ^ f .3, long (f .4)) | inr h ↦ inr h ]
 
 pub read-long-means : (s : List ℕ) (t : Token) → t ≡ readLongOf s → Means (Long s) t
 read-long-means = token-means readLongOf Long long-some long-is long-or-none

@@ -8,7 +8,9 @@ ghost use lib.Ieee.{binary32};
 ghost use Rattle.decimal.specs.Decimal.{mostDigits, readOf, unsignedOf, numberOf};
 ghost use Rattle.decimal.specs.inner.Steps.{RunsTo, DoublesTo, ScalesTo, DividesTo, BitsOf};
 
-mod long;
+pub mod long;
+mod shift;
+mod tally;
 mod wide;
 
 pub use crate::long::read_long;

@@ -1,21 +1,14 @@
 // A token with any number of digits and perhaps an exponent, read as a number: rounded once to the nearest f32, or no number.
 use crate::Token;
-use crate::magnitude;
 use crate::read;
-use crate::signed;
-use crate::wide::long_magnitude;
+use crate::shift::moved;
+use crate::tally::MOST_SIGNIFICANT;
+use crate::tally::count_digits;
 ghost use mathlib.Core.Path.{_≡_};
-ghost use mathlib.Core.Logic.{_⊎_};
-ghost use Prim.Native.Nat.{_*_, _^_, _≤_, _<_};
+ghost use Prim.Native.Nat.{_^_, _≤_, _<_};
 ghost use lib.ListN.{length, drop};
-ghost use lib.Ieee as Ieee;
-ghost use lib.Ieee.{binary32};
 ghost use Rattle.decimal.specs.Long.{readLongOf, isMark};
-ghost use Rattle.decimal.specs.inner.Steps.{BitsOf};
-ghost use Rattle.decimal.specs.inner.Counted.{isPoint, SignAt, Small, CountsTo, CountsOne, PowerTo, TenTimes};
-ghost use Rattle.decimal.specs.inner.Counted.{Cancels, MovedIs, NumberIs, AfterIs};
-
-const MOST_SIGNIFICANT: u32 = 19;
+ghost use Rattle.decimal.specs.inner.Counted.{isPoint, SignAt, PowerTo, TenTimes, NumberIs, AfterIs};
 
 // A power of ten from here on is beyond every number of digits that a slice can have.
 const HUGE: u64 = 10000000000000000000;
@@ -105,96 +98,6 @@ fn is_point(s: &[u8], at: usize) -> bool
         return false;
     }
     s[at] == b'.'
-}
-
-// Digits as they are read: all of them are value times 10 for each of zeros. From the first that is not 0 on they are
-// count and the zeros; a count of 20 tells that after the 19th there is another that is not 0.
-struct Counted {
-    value: u64,
-    count: u32,
-    zeros: usize,
-    end: usize,
-}
-
-fn count_digits(s: &[u8], from: usize, value: u64, count: u32, zeros: usize) -> Counted
-    requires { ⌜ (from ≤ length (now s)) × ((zeros ≤ from) × Small value count) ⌝ }
-    ensures { λ r. ⌜ CountsTo (now (s .entry)) from value count zeros (r .value) (r .count) (r .zeros) (r .end) ⌝ }
-{
-    let mut v = value;
-    let mut c = count;
-    let mut z = zeros;
-    let mut i = from;
-    while i < s.len() {
-        let b = s[i];
-        if b < b'0' {
-            return Counted {
-                value: v,
-                count: c,
-                zeros: z,
-                end: i,
-            };
-        }
-        if b'9' < b {
-            return Counted {
-                value: v,
-                count: c,
-                zeros: z,
-                end: i,
-            };
-        }
-        let one = with_digit(v, c, z, b);
-        v = one.value;
-        c = one.count;
-        z = one.zeros;
-        i += 1;
-    }
-    Counted {
-        value: v,
-        count: c,
-        zeros: z,
-        end: i,
-    }
-}
-
-struct Longer {
-    value: u64,
-    count: u32,
-    zeros: usize,
-}
-
-fn with_digit(value: u64, count: u32, zeros: usize, b: u8) -> Longer
-    requires { ⌜ (48 ≤ b) × ((b ≤ 57) × ((zeros < 2 ^ 63) × Small value count)) ⌝ }
-    ensures { λ r. ⌜ CountsOne b value count zeros (r .value) (r .count) (r .zeros) ⌝ }
-{
-    if MOST_SIGNIFICANT <= count {
-        if b == b'0' {
-            return Longer {
-                value,
-                count,
-                zeros: zeros + 1,
-            };
-        }
-        return Longer {
-            value,
-            count: MOST_SIGNIFICANT + 1,
-            zeros,
-        };
-    }
-    if count == 0 {
-        // a zero at the start does not count
-        if b == b'0' {
-            return Longer {
-                value,
-                count,
-                zeros,
-            };
-        }
-    }
-    Longer {
-        value: value * 10 + (b - b'0') as u64,
-        count: count + 1,
-        zeros,
-    }
 }
 
 // The digits of a token, of which `places` stand after the point.
@@ -295,82 +198,4 @@ fn number(d: Decimal, power: u64, lower: bool) -> Token
         lower,
     );
     Token::Number(x)
-}
-
-// value with zeros behind it and places after the point, moved by a power of ten, to the nearest f32. A number of 64 binary
-// digits is beyond every f32 when it is moved up 100 places, and nothing when it is moved down so far.
-fn moved(neg: bool, value: u64, zeros: u64, places: u64, power: u64, lower: bool) -> f32
-    requires { ⌜ (zeros < 2 ^ 63) × (places < 2 ^ 63) ⌝ }
-    ensures { λ r. ⌜ MovedIs neg value zeros places power lower r ⌝ }
-{
-    if lower {
-        if zeros + 100 < power {
-            return nearest_long(neg, value, 0, 100);
-        }
-        let by = cancelled(zeros, power);
-        return nearest_long(neg, value, by.up, places + by.down);
-    }
-    if places + 100 < power {
-        return nearest_long(neg, value, 100, 0);
-    }
-    let by = cancelled(power, places);
-    nearest_long(neg, value, zeros + by.up, by.down)
-}
-
-// What is left of a without b, and of b without a.
-struct Left {
-    up: u64,
-    down: u64,
-}
-
-fn cancelled(a: u64, b: u64) -> Left
-    ensures { λ r. ⌜ Cancels a b (r .up) (r .down) ⌝ }
-{
-    if a < b {
-        return Left { up: 0, down: b - a };
-    }
-    Left { up: a - b, down: 0 }
-}
-
-// d * 10 ^ up / 10 ^ down to the nearest f32, a tie to even, negative where neg.
-fn nearest_long(neg: bool, d: u64, up: u64, down: u64) -> f32
-    ensures { λ r. ⌜ r ≡ Ieee.round binary32 neg (d * 10 ^ up) (10 ^ down) ⌝ }
-{
-    let by = cancelled(up, down);
-    signed(neg, tens_magnitude(d, by.up, by.down))
-}
-
-// Its bits but for the sign's. Few places down one word is enough for the division. 39 places up even 1 is beyond every f32, and 65 down even 64 binary digits are nothing.
-fn tens_magnitude(d: u64, up: u64, down: u64) -> u32
-    requires { ⌜ (up ≡ 0) ⊎ (down ≡ 0) ⌝ }
-    ensures { λ r. ⌜ BitsOf (d * 10 ^ up) (10 ^ down) r ⌝ }
-{
-    if up == 0 {
-        if down <= 27 {
-            return magnitude(d, down as usize, five_to(down));
-        }
-    }
-    if d == 0 {
-        return 0;
-    }
-    if 38 < up {
-        return 2139095040;
-    }
-    if 64 < down {
-        return 0;
-    }
-    long_magnitude(d, up, down)
-}
-
-fn five_to(n: u64) -> u64
-    requires { ⌜ n ≤ 27 ⌝ }
-    ensures { λ r. ⌜ r ≡ 5 ^ n ⌝ }
-{
-    let mut five: u64 = 1;
-    let mut i: u64 = 0;
-    while i < n {
-        five = five * 5;
-        i += 1;
-    }
-    five
 }

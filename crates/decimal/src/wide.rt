@@ -4,7 +4,7 @@ ghost use Prim.Native.Nat.{_+_, _*_, _^_, _<_, _≤_, compare};
 ghost use lib.Dec.{ltb};
 ghost use lib.Ieee as Ieee;
 ghost use Rattle.decimal.specs.inner.Steps.{BitsOf};
-ghost use Rattle.decimal.specs.inner.Wide.{word, wide, IsWide, Roomy, RaisesTo, LongDivides, OneMore};
+ghost use Rattle.decimal.specs.inner.Wide.{word, valueOf, IsWide, Roomy, RaisesTo, LongDivides, OneMore};
 
 const WORD: u64 = 1152921504606846976;
 
@@ -56,7 +56,7 @@ fn fives(d: u64, n: u64) -> Wide
 // Each word takes what the one below it is over.
 fn times(w: Wide, k: u64) -> Wide
     requires { ⌜ (w .hi < 2 * word) × ((w .mid < word) × ((w .lo < word) × (k ≤ 5))) ⌝ }
-    ensures { λ r. ⌜ IsWide (wide (w .hi) (w .mid) (w .lo) * k) (r .hi) (r .mid) (r .lo) ⌝ }
+    ensures { λ r. ⌜ IsWide (valueOf w * k) (r .hi) (r .mid) (r .lo) ⌝ }
 {
     let lo = w.lo * k;
     let mid = w.mid * k + lo / WORD;
@@ -70,7 +70,7 @@ fn times(w: Wide, k: u64) -> Wide
 
 fn is_less(a: Wide, b: Wide) -> bool
     requires { ⌜ (a .mid < word) × ((a .lo < word) × ((b .mid < word) × (b .lo < word))) ⌝ }
-    ensures { λ r. ⌜ r ≡ ltb (wide (a .hi) (a .mid) (a .lo)) (wide (b .hi) (b .mid) (b .lo)) ⌝ }
+    ensures { λ r. ⌜ r ≡ ltb (valueOf a) (valueOf b) ⌝ }
 {
     if a.hi != b.hi {
         return a.hi < b.hi;
@@ -84,9 +84,9 @@ fn is_less(a: Wide, b: Wide) -> bool
 // The difference of a and b, which is no more: each word borrows one of the word above it, and gives it back where it is over.
 fn without(a: Wide, b: Wide) -> Wide
     requires { ⌜ (a .hi < 4 * word) × ((a .mid < word) × ((a .lo < word) × ((b .mid < word) × (b .lo < word)))) ⌝ }
-    requires { ⌜ wide (b .hi) (b .mid) (b .lo) ≤ wide (a .hi) (a .mid) (a .lo) ⌝ }
+    requires { ⌜ valueOf b ≤ valueOf a ⌝ }
     ensures { λ r. ⌜ (r .mid < word) × (r .lo < word) ⌝ }
-    ensures { λ r. ⌜ wide (r .hi) (r .mid) (r .lo) + wide (b .hi) (b .mid) (b .lo) ≡ wide (a .hi) (a .mid) (a .lo) ⌝ }
+    ensures { λ r. ⌜ valueOf r + valueOf b ≡ valueOf a ⌝ }
 {
     let lo = a.lo + WORD - b.lo;
     let mid = a.mid + WORD - b.mid - (1 - lo / WORD);
@@ -107,8 +107,8 @@ struct Above {
 // den doubled until it is more than num.
 fn raised(num: Wide, den: Wide) -> Above
     requires { ⌜ (num .mid < word) × ((num .lo < word) × ((den .mid < word) × (den .lo < word))) ⌝ }
-    requires { ⌜ (0 < wide (den .hi) (den .mid) (den .lo)) × ((den .hi < word) × Roomy (wide (num .hi) (num .mid) (num .lo))) ⌝ }
-    ensures { λ r. ⌜ RaisesTo (wide (num .hi) (num .mid) (num .lo)) (wide (den .hi) (den .mid) (den .lo)) (r .den .hi) (r .den .mid) (r .den .lo) (r .up) ⌝ }
+    requires { ⌜ (0 < valueOf den) × ((den .hi < word) × Roomy (valueOf num)) ⌝ }
+    ensures { λ r. ⌜ RaisesTo (valueOf num) (valueOf den) (r .den .hi) (r .den .mid) (r .den .lo) (r .up) ⌝ }
 {
     let mut d = den;
     let mut up: u64 = 0;
@@ -129,9 +129,9 @@ struct Divided {
 // Until the quotient has 24 digits, or most places were taken.
 fn long_divided(num: Wide, den: Wide, most: u64) -> Divided
     requires { ⌜ (num .mid < word) × ((num .lo < word) × ((den .mid < word) × (den .lo < word))) ⌝ }
-    requires { ⌜ (wide (num .hi) (num .mid) (num .lo) < wide (den .hi) (den .mid) (den .lo)) × (den .hi < 2 * word) ⌝ }
+    requires { ⌜ (valueOf num < valueOf den) × (den .hi < 2 * word) ⌝ }
     ensures { λ r. ⌜ (r .rest .hi < 2 * word) × ((r .rest .mid < word) × (r .rest .lo < word)) ⌝ }
-    ensures { λ r. ⌜ LongDivides (wide (num .hi) (num .mid) (num .lo)) (wide (den .hi) (den .mid) (den .lo)) most (r .m) (wide (r .rest .hi) (r .rest .mid) (r .rest .lo)) (r .down) ⌝ }
+    ensures { λ r. ⌜ LongDivides (valueOf num) (valueOf den) most (r .m) (valueOf (r .rest)) (r .down) ⌝ }
 {
     let mut m: u64 = 0;
     let mut rest = num;
@@ -156,9 +156,9 @@ struct Longer {
 
 fn next_digit(m: u64, rest: Wide, den: Wide) -> Longer
     requires { ⌜ (rest .mid < word) × ((rest .lo < word) × ((den .mid < word) × (den .lo < word))) ⌝ }
-    requires { ⌜ (wide (rest .hi) (rest .mid) (rest .lo) < wide (den .hi) (den .mid) (den .lo)) × ((den .hi < 2 * word) × (m < 8388608)) ⌝ }
+    requires { ⌜ (valueOf rest < valueOf den) × ((den .hi < 2 * word) × (m < 8388608)) ⌝ }
     ensures { λ r. ⌜ (r .rest .mid < word) × (r .rest .lo < word) ⌝ }
-    ensures { λ r. ⌜ OneMore m (wide (rest .hi) (rest .mid) (rest .lo)) (wide (den .hi) (den .mid) (den .lo)) (r .m) (wide (r .rest .hi) (r .rest .mid) (r .rest .lo)) ⌝ }
+    ensures { λ r. ⌜ OneMore m (valueOf rest) (valueOf den) (r .m) (valueOf (r .rest)) ⌝ }
 {
     let two = times(rest, 2);
     if is_less(two, den) {
@@ -177,7 +177,7 @@ fn next_digit(m: u64, rest: Wide, den: Wide) -> Longer
 fn long_rounded(m: u64, rest: Wide, den: Wide) -> u64
     requires { ⌜ (rest .hi < 2 * word) × ((rest .mid < word) × ((rest .lo < word) × ((den .mid < word) × (den .lo < word)))) ⌝ }
     requires { ⌜ m < 16777216 ⌝ }
-    ensures { λ r. ⌜ r ≡ Ieee.nearest m (compare (wide (rest .hi) (rest .mid) (rest .lo) * 2) (wide (den .hi) (den .mid) (den .lo))) ⌝ }
+    ensures { λ r. ⌜ r ≡ Ieee.nearest m (compare (valueOf rest * 2) (valueOf den)) ⌝ }
 {
     let two = times(rest, 2);
     if is_less(two, den) {

@@ -12,6 +12,8 @@ use lib.Ieee.Scale.{finite}
 use borrow.Author.Tests.{not-true}
 use Rattle.float.proofs.Flags.{both-l, both-r}
 use Rattle.stops.specs.Stops.{steady}
+use Rattle.stops.specs.Place.{Rising}
+use Rattle.stops.proofs.Valid.{rises, finite-number}
 
 module _ (max : Float) (xs : List Float) (i : ℕ) (prev : Float) where
   steady-step : i < length xs → steady max prev (drop i xs) ≡ (finite (getD xs i nan) && not (lt (getD xs i nan) prev) && steady max (getD xs i nan) (drop (i + 1) xs))
@@ -46,3 +48,7 @@ steady-rises max prev (p ∷ q ∷ ps) h zero l =
     let rest : steady max p (q ∷ ps) ≡ true = both-r (finite p && not (lt p prev)) (steady max p (q ∷ ps)) h in
     not-true (lt q p) (both-r (finite q) (not (lt q p)) (both-l (finite q && not (lt q p)) (steady max q ps) rest))
 steady-rises max prev (p ∷ q ∷ ps) h (suc i) l = steady-rises max p (q ∷ ps) (both-r (finite p && not (lt p prev)) (steady max p (q ∷ ps)) h) i (omega arith)
+
+-- finite positions that do not fall
+pub steady-rising : (max prev : Float) (ps : List Float) → steady max prev ps ≡ true → Rising ps
+steady-rising max prev ps h = rises ps (λ i l. finite-number (getD ps i nan) (steady-finite max prev ps h i l)) (λ j l. steady-rises max prev ps h j l)

@@ -1,15 +1,13 @@
 -- The difference of two colours whose channels lie from 0 to 1, in units of 2 ^ -149: what the exact one is no more than, where it is within a hold; and what it is no more than, where the exact one is known. Assumes nothing.
-use mathlib.Core.Path.{_≡_, refl, subst}
-use Prim.Native.Nat.{ℕ, _+_, _-_, _*_, _^_, _≤_, _<_}
+use mathlib.Core.Path.{_≡_, refl}
+use Prim.Native.Nat.{ℕ, _+_, _*_, _^_, _≤_}
 use native.Mathlib.Nat.{le-trans as le-trans-ℕ}
 use native.Mathlib.Omega.{arith}
 use lib.Dec.{T, lit≤}
-use lib.Ieee.{Float, binary32, ofBits, fits, le}
+use lib.Ieee.{Float, binary32, ofBits, le}
 use lib.Ieee.Bits.{ofBits-fits}
 use lib.Ieee.Fits.{div-fits}
-use Rattle.float.specs.F32.{f0, f1}
 use Rattle.float.specs.Units.{count}
-use Rattle.float.proofs.Order.{le-trans}
 use Rattle.float.proofs.UnitSums.{Counted, le-units}
 use Rattle.float.proofs.RoundOff.{gap}
 use Rattle.float.proofs.OperationsOff.{counted-up}
@@ -21,7 +19,7 @@ use Rattle.difference.proofs.Errors.{Measured, measured-high, measured-low}
 use Rattle.difference.proofs.Measuring.{ClearColour, half-from0, half-finite, measured}
 use Rattle.sampling.specs.Constants.{mostThreshold}
 use Rattle.word.proofs.EndSums.{clamp-id}
-use Rattle.word.proofs.TwoLines.{turn, Apart}
+use Rattle.word.proofs.TwoLines.{turn, ApartBy}
 use Rattle.word.proofs.ThreePlaces.{close}
 
 -- the four channels of a colour, in units
@@ -62,13 +60,13 @@ module _ (x y : Rgba) (wx : ClearColour x) (wy : ClearColour y) where
   pub no-more : (hold : Float) → Plain hold → T (le (distanceOf x y) hold) → count (distanceOf x y) ≤ count hold
   no-more hold w h = in-order (distanceOf x y) hold _ _ (plain-counted _ plain-distance) (plain-counted hold w) h
 
-  pub turned : (m : ℕ) → Apart m (unitsOf x) (unitsOf y) → Apart m (unitsOf y) (unitsOf x)
+  pub turned : (m : ℕ) → ApartBy m (unitsOf x) (unitsOf y) → ApartBy m (unitsOf y) (unitsOf x)
   turned m h = rw (turn (count (y .r)) (count (x .r)), turn (count (y .g)) (count (x .g)), turn (count (y .b)) (count (x .b)), turn (count (y .a)) (count (x .a))) h
 
-  pub near-apart : (h : ℕ) → count (distanceOf x y) ≤ h → Apart (bound h far) (unitsOf y) (unitsOf x)
+  pub near-apart : (h : ℕ) → count (distanceOf x y) ≤ h → ApartBy (bound h far) (unitsOf y) (unitsOf x)
   near-apart h l = turned (bound h far) (measured-low _ _ _ _ (count (distanceOf x y)) (2 ^ 149) far in-steps wide h l)
 
-  pub apart-near : (h : ℕ) → 28 * h ≤ 2 ^ 149 → Apart (bound h far + 816 * 2 ^ 149) (unitsOf x) (unitsOf y) → count (distanceOf x y) ≤ h + 2 ^ 130
+  pub apart-near : (h : ℕ) → 28 * h ≤ 2 ^ 149 → ApartBy (bound h far + 816 * 2 ^ 149) (unitsOf x) (unitsOf y) → count (distanceOf x y) ≤ h + 2 ^ 130
   apart-near h l w =
       close (count (distanceOf x y)) h (2 ^ 149) far (2 ^ 130) l (lit≤ tt) refl (lit≤ tt)
       (measured-high _ _ _ _ (count (distanceOf x y)) (2 ^ 149) far in-steps wide (bound h far + 816 * 2 ^ 149) (lit≤ tt) w)

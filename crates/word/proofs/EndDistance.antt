@@ -1,5 +1,5 @@
 -- Two colours within ±16,382, mixed at the right end: what comes out is within the least threshold of the right one. Assumes nothing.
-use mathlib.Core.Path.{_≡_, refl, sym, _∙_, subst}
+use mathlib.Core.Path.{_≡_, refl, _∙_}
 use mathlib.Core.Bool.{true, false}
 use Prim.Native.Nat.{ℕ, zero, suc, _*_, _<_}
 use native.Mathlib.Nat.{mul-pos, zero-lt-suc, lt-irrefl}
@@ -7,10 +7,10 @@ use native.Mathlib.Omega.{arith}
 use borrow.Author.Tests.{ne-eqb}
 use lib.Dec.{T, lit<}
 use lib.IntN.{ℤ}
-use lib.Ieee.{Float, nan, inf, fin, binary32, up, down, fits, ofBits, round, neg, add, mul, div, sum, le, isNan}
+use lib.Ieee.{Float, nan, inf, fin, binary32, up, down, fits, ofBits, round, add, mul, div, sum, le}
 use lib.Ieee.Fits.{add-fits, up-pos, down-pos}
 use lib.Ieee.Scale.{finite, round-same}
-use Rattle.float.specs.F32.{_⊕_, _⊖_, _⊗_, _⊘_, f0, f1, f2}
+use Rattle.float.specs.F32.{_⊕_, _⊖_, _⊗_, _⊘_, f1, f2}
 use Rattle.float.specs.Number.{clampOf}
 use Rattle.float.proofs.Order as order
 use Rattle.float.proofs.SignedRound.{pro}

@@ -36,7 +36,7 @@ use Rattle.word.proofs.Singles.{Single, every-of, above-single, below-s
 use Rattle.word.proofs.SingleColours.{colour-single}
 use Rattle.word.proofs.Values.{moves}
 use Rattle.word.proofs.ClearDistance.{plain-distance, no-more}
-use Rattle.word.proofs.Ladders.{Ladder, Found, found, clear-at}
+use Rattle.word.proofs.Ladders.{Ladder, LiesIn, found, clear-at}
 use Rattle.word.proofs.Inside.{nearly}
 
 -- below is not above
@@ -131,7 +131,7 @@ module _ (ramp : Ramp) (unit : UnitRamp ramp) (passes : checkOf ramp ≡ Fine) (
       at-own i l a b = at-value (posAt ps i) t (own .singles i l) st a b (own-inside i l) (word .at-lent i l)
 
       -- ---- strictly between two neighbours
-      module _ (low : T (lt (posAt ps 0) t)) (high : T (lt t (posAt ps (length ps - 1)))) (w : Found ps t) (tq : T (lt t (posAt ps (suc (w .j))))) where
+      module _ (low : T (lt (posAt ps 0) t)) (high : T (lt t (posAt ps (length ps - 1)))) (w : LiesIn ps t) (tq : T (lt t (posAt ps (suc (w .j))))) where
         abbrev p : Float
         p = posAt ps (w .j)
 
@@ -200,7 +200,7 @@ module _ (ramp : Ramp) (unit : UnitRamp ramp) (passes : checkOf ramp ≡ Fine) (
           high : T (le t (posAt ps (length ps - 1)))
           high = subst (λ (x : Float). T (le t x)) max-is (d .upper)
 
-          inner : (w : Found ps t) → T (lt (posAt ps 0) t) → T (lt t (posAt ps (length ps - 1))) → (c : Bool) → lt t (posAt ps (suc (w .j))) ≡ c → NearlyHeld ramp offer hold t
+          inner : (w : LiesIn ps t) → T (lt (posAt ps 0) t) → T (lt t (posAt ps (length ps - 1))) → (c : Bool) → lt t (posAt ps (suc (w .j))) ≡ c → NearlyHeld ramp offer hold t
           inner w a b true e = within a b w (as-T _ e)
           inner w a b false e = at-own (suc (w .j)) (w .inside) (not-lt→le t _ number (no-nan-r t _ (w .to)) e) (w .to)
 

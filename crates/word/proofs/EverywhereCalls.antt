@@ -1,18 +1,16 @@
 -- Everywhere, of the calls: of a linear ramp with channels from 0 to 1 a list that is done, over any record that the call takes, is within the hold and 2 ^ -19 of the ramp at every f32 of the domain. Assumes nothing.
-use mathlib.Core.Path.{_≡_, refl, sym, subst}
+use mathlib.Core.Path.{_≡_, sym, subst}
 use mathlib.Core.Bool.{Bool, true, false, cond}
 use mathlib.Core.List.{List, [], _∷_}
-use Prim.Native.Nat.{ℕ, zero, suc, _+_, _-_, _<_}
-use native.Mathlib.Omega.{arith}
-use lib.Dec.{T, leb}
+use Prim.Native.Nat.{ℕ, zero, suc, _+_, _-_}
+use lib.Dec.{leb}
 use lib.ListN.{length, drop, getD}
 use lib.Ieee.{Float}
 use Rattle.float.proofs.Order.{le-trans, as-T}
 use Rattle.stops.specs.Lent.{Ramp, change}
-use Rattle.stops.specs.Stops.{posAt}
 use Rattle.stops.specs.declared.Checked.the-variants as checked
 use Rattle.gradient.specs.Ramp.{isGimp, checkOf, minOf, maxOf, colourOf}
-use Rattle.sampling.specs.Constants.{mostThreshold, thresholdOf}
+use Rattle.sampling.specs.Constants.{thresholdOf}
 use Rattle.sampling.specs.Lent.{Held}
 use Rattle.sampling.specs.Midpoints.{Gradient}
 use Rattle.sampling.specs.Sampling.{farOf, fresh}

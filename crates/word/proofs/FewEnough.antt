@@ -1,12 +1,12 @@
 -- An ordinary ramp's list fits 4,609 stops: so, with room for as many, it is never refused. Of any points of f32. Assumes nothing.
-use mathlib.Core.Path.{_≡_, refl, sym, ap, _∙_, subst}
+use mathlib.Core.Path.{_≡_, refl, sym}
 use mathlib.Core.Bool.{Bool, true, false, cond, _&&_, true≢false}
 use mathlib.Core.List.{List, [], _∷_}
-use mathlib.Core.Logic.{_⊎_, inl, inr}
-use Prim.Native.Nat.{ℕ, zero, suc, _+_, _-_, _*_, _≤_, _<_, min}
+use mathlib.Core.Logic.{inl, inr}
+use Prim.Native.Nat.{ℕ, suc, _+_, _*_, _≤_, _<_, min}
 use native.Mathlib.Omega.{arith}
-use borrow.Author.Tests.{leb-true, lt-leb}
-use lib.Dec.{T, leb}
+use borrow.Author.Tests.{lt-leb}
+use lib.Dec.{T}
 use lib.ListN.{length}
 use lib.Ieee.{Float, ofBits, lt}
 use lib.Ieee.Scale.{finite}
@@ -26,10 +26,10 @@ use Rattle.thinning.specs.Kept.{stopRefusal, firstRefusal}
 use Rattle.judge.specs.Lists.{mostListed}
 use Rattle.ordinary.specs.Ordinary.{Ordinary}
 use Rattle.ordinary.proofs.Classes.{ordinary-moderate}
-use Rattle.weighed.specs.Points.{Site, site, sampledMark, besideMark, lentMark, ownOf, sitesOf, merged}
-use Rattle.weighed.proofs.Merging.{Each, rises}
+use Rattle.weighed.specs.Points.{Site, site, sampledMark, ownOf, sitesOf}
+use Rattle.weighed.proofs.Merging.{rises}
 use Rattle.within.specs.Shown.{nearWithin, lentLeft}
-use Rattle.within.specs.Kept.{Kept, keptFrom, keptAll, keptRefusal, keptRefusals}
+use Rattle.within.specs.Kept.{Kept, keptAll, keptRefusal, keptRefusals}
 use Rattle.within.specs.Lists.{holdOf, keptOf, refusalWithin}
 use Rattle.word.proofs.Singles.{Every, Single, each-own, each-merged, own-single}
 use Rattle.word.proofs.Values.{min-single}

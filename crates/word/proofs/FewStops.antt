@@ -1,24 +1,20 @@
 -- How many points are kept: two for each lent position that is left at most, and one more, where from a point that is no lent position the next lent one is shown or few are kept. Assumes nothing.
-use mathlib.Core.Path.{_≡_, refl, sym, ap, _∙_, subst}
-use mathlib.Core.Bool.{Bool, true, false, cond, _&&_, true≢false}
+use mathlib.Core.Path.{_≡_, refl, ap, subst}
+use mathlib.Core.Bool.{Bool, true, false, cond}
 use mathlib.Core.List.{List, [], _∷_}
 use mathlib.Core.Logic.{_⊎_, inl, inr}
 use Prim.Native.Nat.{ℕ, zero, suc, _+_, _-_, _*_, _≤_, _<_}
 use native.Mathlib.Omega.{arith}
-use borrow.Author.Tests.{leb-true, leb-false}
-use lib.Dec.{T, leb, eqb}
-use lib.ListN.{length, drop, getD, length-drop}
+use borrow.Author.Tests.{leb-true}
+use lib.Dec.{leb, eqb}
+use lib.ListN.{length, drop, getD}
 use lib.Ieee.{Float, lt}
-use Rattle.refusals.specs.Refusals.{noRoom, listNotFinite, listFalling, notShown}
 use Rattle.float.specs.Number.{aboveOf, belowOf}
 use Rattle.float.proofs.Flags.{both-l}
-use Rattle.blend.specs.declared.Rgba.{Rgba}
-use Rattle.stops.specs.Stops.{finiteRgba}
 use Rattle.sampling.specs.Midpoints.{Gradient}
-use Rattle.thinning.specs.Kept.{stopRefusal, firstRefusal}
 use Rattle.weighed.specs.Points.{Site, site, sampledMark, besideMark, lentMark, sitesBy, before, joinedWith, ownOf, inside, merged}
 use Rattle.within.specs.Shown.{Near, pointAfter, shownTo, lentLeft, toLent, reachOf}
-use Rattle.within.specs.Kept.{Kept, lentShown, anyShown, stepFrom, keptFrom, keptRefusal, keptRefusals}
+use Rattle.within.specs.Kept.{Kept, lentShown, anyShown, stepFrom, keptFrom}
 use Rattle.within.proofs.Reaching.{reached, lent-on}
 
 abbrev pub isLent : Site → Bool

@@ -1,38 +1,32 @@
 -- Strictly between two neighbouring positions of a linear ramp, and off the f32 just above the first: there a list that keeps its word, and whose stops lie on the ramp, is nearly held. Assumes nothing.
-use mathlib.Core.Path.{_≡_, refl, sym, ap, _∙_, subst}
-use mathlib.Core.Bool.{Bool, true, false, cond, _&&_, true≢false}
+use mathlib.Core.Path.{_≡_, refl, sym, subst}
+use mathlib.Core.Bool.{Bool, true, false}
 use mathlib.Core.List.{List}
 use Prim.Native.Nat.{ℕ, suc, _+_, _-_, _*_, _^_, _≤_, _<_}
-use native.Mathlib.Nat.{lt-of-not-le, le-refl as le-refl-ℕ}
+use native.Mathlib.Nat.{le-refl as le-refl-ℕ}
 use native.Mathlib.Omega.{arith}
-use lib.Dec.{T, lit<}
+use lib.Dec.{T}
 use lib.Pow.{pow-pos}
 use lib.ListN.{length}
-use lib.Ieee.{Float, binary32, ofBits, fits, le, lt, isNan}
-use lib.Ieee.Bits.{is-true}
+use lib.Ieee.{Float, le, lt}
 use lib.Ieee.Scale.{finite}
-use Rattle.float.specs.F32.{_⊖_, f0}
-use Rattle.float.specs.Number.{aboveOf, belowOf}
 use Rattle.float.specs.Units.{count}
-use Rattle.float.proofs.Order.{as-T, le-trans, lt→le, le→not-lt, not-lt→le, le-lt-trans, lt-le-trans, no-nan-l, no-nan-r, finite-between}
-use Rattle.float.proofs.Rounding.{sub-mono, sub-rising}
-use Rattle.float.proofs.Placed.{Placed, placed, place-le, le-place}
+use Rattle.float.proofs.Order.{as-T, le-trans, lt→le, not-lt→le, le-lt-trans, lt-le-trans, no-nan-l, no-nan-r, finite-between}
+use Rattle.float.proofs.Placed.{Placed, placed, place-le}
 use Rattle.blend.specs.declared.Rgba.{Rgba}
 use Rattle.blend.specs.Channels.{coloursOf}
-use Rattle.difference.specs.Difference.{distanceOf}
 use Rattle.difference.specs.Measure.{Plain}
 use Rattle.difference.proofs.Legs.{Four}
 use Rattle.difference.proofs.Measuring.{ClearColour}
 use Rattle.stops.specs.Lent.{Ramp}
 use Rattle.stops.specs.Stops.{posAt, colourAt}
-use Rattle.stops.specs.Place.{Rising}
 use Rattle.stops.specs.declared.Kind.the-variants.{Linear}
 use Rattle.gradient.specs.Ramp.{colourOf}
 use Rattle.judge.specs.Lists.{Offer, offerOf, offeredRamp}
 use Rattle.ordinary.proofs.Unrefused.{colour-written}
 use Rattle.word.specs.Everywhere.{missOf, NearlyHeld}
 use Rattle.word.proofs.Singles.{Single}
-use Rattle.word.proofs.TwoLines.{MixedFour, Apart}
+use Rattle.word.proofs.TwoLines.{MixedFour, ApartBy}
 use Rattle.word.proofs.ThreePlaces.{four-start, four-end, same-apart}
 use Rattle.word.proofs.ClearDistance.{unitsOf, bound, plain-distance, no-more, turned, near-apart, apart-near}
 use Rattle.word.proofs.Ladders.{Ladder, place-lt, pair-mixed, pair-clear}
@@ -119,7 +113,7 @@ module _ (ramp : Ramp) (of-kind : ramp .kind ≡ Linear) (own : Ladder (ramp .po
     both : (x : Float) (X : ℕ) → Placed m x X → T (lt p x) → T (lt x q) → T (lt s x) → T (le x e) → Meets X (unitsOf (g x)) (unitsOf (f x))
     both x X at-x after below from to = record { ramp = ramp-line x X at-x after below; list = list-line x X at-x below from to }
 
-    near-there : (x : Float) → T (lt x q) → T (lt s x) → T (le x e) → T (le (missOf ramp offer x) hold) → Apart h (unitsOf (f x)) (unitsOf (g x))
+    near-there : (x : Float) → T (lt x q) → T (lt s x) → T (le x e) → T (le (missOf ramp offer x) hold) → ApartBy h (unitsOf (f x)) (unitsOf (g x))
     near-there x below from to near =
         near-apart (g x) (f x) (clear x) (list-clear x below from to) (count hold) (no-more (g x) (f x) (clear x) (list-clear x below from to) hold plain-hold near)
 

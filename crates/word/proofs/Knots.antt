@@ -1,10 +1,10 @@
 -- A knot is a place where a ramp's rounded colour and a list's are known, on a line from P to Q and on one from S to E. Between two knots that are near the two are near. Over whole numbers. Assumes nothing.
-use mathlib.Core.Path.{_≡_, refl}
-use Prim.Native.Nat.{ℕ, _+_, _*_, _^_, _≤_, _<_}
+use mathlib.Core.Path.{_≡_}
+use Prim.Native.Nat.{ℕ, _+_, _*_, _≤_, _<_}
 use native.Mathlib.Nat.{le-dest, le-of-lt}
 use native.Mathlib.Omega.{arith}
 use Rattle.difference.proofs.Legs.{Four}
-use Rattle.word.proofs.TwoLines.{MixedFour, Apart}
+use Rattle.word.proofs.TwoLines.{MixedFour, ApartBy}
 use Rattle.word.proofs.ThreePlaces.{near-between}
 
 module _ (u : ℕ) (P Q S E : ℕ) (a b A B : Four) where
@@ -18,7 +18,7 @@ module _ (u : ℕ) (P Q S E : ℕ) (a b A B : Four) where
     pub r : Four
     pub l : Four
     pub knot : Knot at r l
-    pub near : Apart m l r
+    pub near : ApartBy m l r
     pub from-ramp : P ≤ at
     pub from-list : S ≤ at
     pub before : at < t
@@ -28,7 +28,7 @@ module _ (u : ℕ) (P Q S E : ℕ) (a b A B : Four) where
     pub r : Four
     pub l : Four
     pub knot : Knot at r l
-    pub near : Apart m l r
+    pub near : ApartBy m l r
     pub to-ramp : at ≤ Q
     pub to-list : at ≤ E
     pub after : t ≤ at
@@ -39,7 +39,7 @@ module _ (u : ℕ) (P Q S E : ℕ) (a b A B : Four) where
   two : (x y z j k : ℕ) → x + j ≡ y → y + k ≡ z → x + (j + k) ≡ z
   two x y z j k e f = omega arith
 
-  pub between-knots : (m t : ℕ) → 0 < m → 0 < u → (f : First m t) (o : Last m t) (r l : Four) → Knot t r l → Apart (m + 816 * u) l r
+  pub between-knots : (m t : ℕ) → 0 < m → 0 < u → (f : First m t) (o : Last m t) (r l : Four) → Knot t r l → ApartBy (m + 816 * u) l r
   between-knots m t M U f o r l knot =
       let i = le-dest (f .from-ramp) in
       let i′ = le-dest (f .from-list) in

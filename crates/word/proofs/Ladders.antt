@@ -2,7 +2,7 @@
 use mathlib.Core.Path.{_≡_, refl, sym, _∙_, subst}
 use mathlib.Core.Bool.{Bool, true, false, true≢false}
 use mathlib.Core.List.{List}
-use Prim.Native.Nat.{ℕ, suc, _+_, _-_, _*_, _^_, _≤_, _<_}
+use Prim.Native.Nat.{ℕ, suc, _+_, _-_, _^_, _≤_, _<_}
 use native.Mathlib.Nat.{lt-of-not-le}
 use native.Mathlib.Omega.{arith}
 use lib.Dec.{T}
@@ -28,7 +28,7 @@ use Rattle.word.proofs.Singles.{Single}
 use Rattle.word.proofs.Weighed.{not-le}
 use Rattle.word.proofs.TwoLines.{MixedFour}
 use Rattle.word.proofs.ClearDistance.{unitsOf}
-use Rattle.word.proofs.LinearPairs.{mixAt, on-pair, mixed-at, mix-clear}
+use Rattle.word.proofs.LinearPairs.{mixedColour, on-pair, colour-mixed, mixed-clear}
 
 -- ---- stops that never fall, f32 and finite, whose ends are a finite way apart
 pub record Ladder (xs : List Float) : Type 0 where
@@ -58,14 +58,14 @@ module _ (ramp : Ramp) (of-kind : ramp .kind ≡ Linear) (s : Ladder (ramp .posi
   abbrev ps : List Float
   ps = ramp .positions
 
-  pair-is : (x : Float) → T (lt (posAt ps j) x) → T (le x (posAt ps (suc j))) → T (lt x (posAt ps (length ps - 1))) → colourOf ramp x ≡ mixAt (posAt ps j) (posAt ps (suc j)) c e x
+  pair-is : (x : Float) → T (lt (posAt ps j) x) → T (le x (posAt ps (suc j))) → T (lt x (posAt ps (length ps - 1))) → colourOf ramp x ≡ mixedColour (posAt ps j) (posAt ps (suc j)) c e x
   pair-is x from to before = on-pair ramp of-kind (s .rising) j inside x from to before ∙ rw (is-c, is-e)
 
   pub pair-mixed : (x : Float) (X : ℕ) → Placed m x X → T (lt (posAt ps j) x) → T (le x (posAt ps (suc j))) → T (lt x (posAt ps (length ps - 1))) → (τ σ : ℕ) → P + τ ≡ X → X + σ ≡ Q
       → MixedFour (2 ^ 149) τ σ (unitsOf c) (unitsOf e) (unitsOf (colourOf ramp x))
   pair-mixed x X at-x from to before τ σ come left =
       subst (λ (k : Rgba). MixedFour (2 ^ 149) τ σ (unitsOf c) (unitsOf e) (unitsOf k)) (sym (pair-is x from to before))
-      (mixed-at (posAt ps j) (posAt ps (suc j)) x m P Q X τ σ at-p at-q at-x come left (some P X τ σ (place-lt m (posAt ps j) x P X at-p at-x from) come) (lt→le (posAt ps j) x from) to (step-finite ps s j inside) c e wc we)
+      (colour-mixed (posAt ps j) (posAt ps (suc j)) x m P Q X τ σ at-p at-q at-x come left (some P X τ σ (place-lt m (posAt ps j) x P X at-p at-x from) come) (lt→le (posAt ps j) x from) to (step-finite ps s j inside) c e wc we)
     where
       some : (p x τ σ : ℕ) → p < x → p + τ ≡ x → 0 < τ + σ
       some p x τ σ h e = omega arith
@@ -73,10 +73,10 @@ module _ (ramp : Ramp) (of-kind : ramp .kind ≡ Linear) (s : Ladder (ramp .posi
   pub pair-clear : (x : Float) → T (lt (posAt ps j) x) → T (le x (posAt ps (suc j))) → T (lt x (posAt ps (length ps - 1))) → ClearColour (colourOf ramp x)
   pair-clear x from to before =
       subst ClearColour (sym (pair-is x from to before))
-      (mix-clear (posAt ps j) (posAt ps (suc j)) x (s .singles j (omega arith)) (s .singles (suc j) inside) (s .whole j (omega arith)) (s .whole (suc j) inside) from to (step-finite ps s j inside) c e wc we)
+      (mixed-clear (posAt ps j) (posAt ps (suc j)) x (s .singles j (omega arith)) (s .singles (suc j) inside) (s .whole j (omega arith)) (s .whole (suc j) inside) from to (step-finite ps s j inside) c e wc we)
 
 -- ---- the pair that t lies in
-pub record Found (xs : List Float) (t : Float) : Type 0 where
+pub record LiesIn (xs : List Float) (t : Float) : Type 0 where
   pub j : ℕ
   pub inside : suc j < length xs
   pub from : T (lt (posAt xs j) t)
@@ -85,7 +85,7 @@ pub record Found (xs : List Float) (t : Float) : Type 0 where
 below : (x t : Float) → isNan x ≡ false → isNan t ≡ false → le t x ≡ false → T (lt x t)
 below x t n k h = subst T (sym (lt-is x t n k)) (rw h tt)
 
-pub found : (xs : List Float) → Ladder xs → 2 ≤ length xs → (t : Float) → T (lt (posAt xs 0) t) → T (lt t (posAt xs (length xs - 1))) → Found xs t
+pub found : (xs : List Float) → Ladder xs → 2 ≤ length xs → (t : Float) → T (lt (posAt xs 0) t) → T (lt t (posAt xs (length xs - 1))) → LiesIn xs t
 found xs w two t low high =
     let k = firstAt t xs in
     let a = first-pos t xs (omega arith) (not-le (posAt xs 0) t low) in

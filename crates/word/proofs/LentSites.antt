@@ -3,20 +3,19 @@ use mathlib.Core.Path.{_≡_, refl, sym, _∙_, subst}
 use mathlib.Core.Bool.{Bool, true, false, cond, true≢false}
 use mathlib.Core.List.{List, [], _∷_}
 use mathlib.Core.Logic.{_⊎_, inl, inr}
-use Prim.Native.Nat.{ℕ, zero, suc, _+_, _-_, _≤_, _<_}
+use Prim.Native.Nat.{ℕ, zero, suc, _+_, _≤_, _<_}
 use native.Mathlib.Omega.{arith}
 use lib.Dec.{T}
 use lib.ListN.{length, drop, getD}
-use lib.Ieee.{Float, lt, le, eq, isNan}
+use lib.Ieee.{Float, lt, le, eq}
 use lib.Ieee.Bits.{is-true}
-use Rattle.float.proofs.Order.{as-T, lt→le, le-trans, lt-le-trans, le-lt-trans, le-antisym, le-refl, not-lt→le, le→not-lt, no-nan-l, no-nan-r, eq→le, eq→ge}
+use Rattle.float.proofs.Order.{as-T, lt→le, lt-le-trans, le-antisym, le-refl, not-lt→le, le→not-lt, no-nan-l, eq→le, eq→ge}
 use Rattle.stops.specs.Stops.{posAt}
 use Rattle.float.specs.Number.{aboveOf, belowOf}
 use Rattle.weighed.specs.Points.{Site, site, besideMark, lentMark, sitesBy, before, joinedWith, ownOf, inside, merged}
 use Rattle.weighed.proofs.Merging.{Rises, Led, Each, Number}
 use Rattle.weighed.proofs.Own.{NeverFalls, number-at}
-use Rattle.within.specs.Shown.{pointAfter, toLent}
-use Rattle.within.proofs.Reaching.{lent-on}
+use Rattle.within.specs.Shown.{toLent}
 use Rattle.word.proofs.Weighed.{pointIn, after}
 use Rattle.word.proofs.FewStops.{isLent}
 

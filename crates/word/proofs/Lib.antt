@@ -28,7 +28,7 @@ pub mod Depths
 pub mod Asked
 pub mod NeverMerged
 pub mod FewStops
-pub mod MixSteps
+pub mod ThreePoints
 pub mod MixLine
 pub mod Straight
 pub mod StraightPair

@@ -1,6 +1,6 @@
 -- The last stretch of an ordinary ramp, with a hard edge at max or without one: from a kept point there that is no lent position, max is shown, or the last point is, and then max. Assumes nothing.
-use mathlib.Core.Path.{_≡_, refl, sym, ap, _∙_, subst}
-use mathlib.Core.Bool.{Bool, true, false, cond, _&&_, true≢false}
+use mathlib.Core.Path.{_≡_, refl, sym, _∙_, subst}
+use mathlib.Core.Bool.{Bool, true, false, _&&_, true≢false}
 use mathlib.Core.List.{List, [], _∷_}
 use mathlib.Core.Logic.{_⊎_, inl, inr}
 use Prim.Native.Nat.{ℕ, zero, suc, _+_, _-_, _*_, _≤_, _<_}
@@ -9,18 +9,17 @@ use native.Mathlib.Decide.{decLe}
 use native.Mathlib.Omega.{arith}
 use borrow.Author.Tests.{le-leb, lt-leb}
 use lib.Dec.{T, leb}
-use lib.ListN.{length, drop, take, getD, length-drop}
+use lib.ListN.{length, drop, length-drop}
 use lib.Ieee.{Float, nan, le, lt}
-use Rattle.float.proofs.Order.{as-T, le-trans, lt→le, le→not-lt, no-nan-l, no-nan-r, not-lt→le}
+use Rattle.float.proofs.Order.{as-T, le-trans, lt→le, le→not-lt, no-nan-r, not-lt→le}
 use Rattle.blend.specs.declared.Rgba.{Rgba}
 use Rattle.stops.specs.Lent.{Ramp}
-use Rattle.stops.specs.Stops.{posAt}
 use Rattle.gradient.specs.Ramp.{maxOf, colourOf}
 use Rattle.sampling.specs.Constants.{thresholdOf}
 use Rattle.sampling.specs.Midpoints.{Gradient}
 use Rattle.ordinary.specs.Ordinary.{Ordinary}
 use Rattle.weighed.specs.Points.{Site, site, lentMark}
-use Rattle.within.specs.Shown.{nearWithin, fairly, shows, pointAfter, shownTo, lentLeft, toLent, reachOf}
+use Rattle.within.specs.Shown.{nearWithin, fairly, shows, pointAfter, shownTo, lentLeft, reachOf}
 use Rattle.within.specs.Kept.{lentShown, anyShown, stepFrom, keptFrom}
 use Rattle.within.specs.Lists.{holdOf}
 use Rattle.word.proofs.Singles.{Single}
@@ -28,7 +27,7 @@ use Rattle.word.proofs.Weighed.{siteIn, pointIn, below-max, above-all, 
 use Rattle.word.proofs.ShownSteps.{each-get}
 use Rattle.word.proofs.FewStops.{left-some}
 use Rattle.word.proofs.Reaches.{reach-last, max-alone}
-use Rattle.word.proofs.LinearSteps.{State, Free, q, f, c, q-c, a-q, shows-all, fair-between, straight}
+use Rattle.word.proofs.LinearSteps.{State, Free, q, f, q-c, a-q, shows-all, fair-between, straight}
 
 none-left : (ss : List Site) → length ss ≡ 0 → ss ≡ []
 none-left [] e = refl

@@ -1,8 +1,8 @@
--- A linear ramp between two neighbouring stops: its colour there is the mix of theirs (`on-pair`), each channel is little off a line (`mixed-at`), and lies from 0 to 1 where theirs do (`mix-clear`). Assumes nothing.
-use mathlib.Core.Path.{_≡_, refl, ap, _∙_, subst}
+-- A linear ramp between two neighbouring stops: its colour there is the mix of theirs (`on-pair`), each channel is little off a line (`colour-mixed`), and lies from 0 to 1 where theirs do (`mixed-clear`). Assumes nothing.
+use mathlib.Core.Path.{_≡_, ap, _∙_}
 use mathlib.Core.Bool.{false}
 use mathlib.Core.List.{List}
-use Prim.Native.Nat.{ℕ, suc, _+_, _-_, _*_, _^_, _≤_, _<_}
+use Prim.Native.Nat.{ℕ, suc, _+_, _-_, _^_, _≤_, _<_}
 use native.Mathlib.Omega.{arith}
 use lib.Dec.{T}
 use lib.ListN.{length}
@@ -39,8 +39,8 @@ unit-finite : T (finite f0) × T (finite f1)
 unfolding ofBits
 unit-finite = (tt, tt)
 
-abbrev pub mixAt : Float → Float → Rgba → Rgba → Float → Rgba
-mixAt p q c e x = linear c e ((x ⊖ p) ⊘ (q ⊖ p))
+abbrev pub mixedColour : Float → Float → Rgba → Rgba → Float → Rgba
+mixedColour p q c e x = linear c e ((x ⊖ p) ⊘ (q ⊖ p))
 
 module _ (ramp : Ramp) (of-kind : ramp .kind ≡ Linear) (rising : Rising (ramp .positions)) where
   abbrev ps : List Float
@@ -58,7 +58,7 @@ module _ (ramp : Ramp) (of-kind : ramp .kind ≡ Linear) (rising : Rising (ramp 
         place-between ps x (not-le (posAt ps 0) x (past 0 (omega arith))) (not-le x (posAt ps (length ps - 1)) before) number
         ∙ ap Between (first-is x ps (suc j) number (rising-numbers ps rising) (omega arith) (λ k l. is-true _ (past k (omega arith))) (λ l. le→not-lt (posAt ps (suc j)) x to))
 
-    pub on-pair : colourOf ramp x ≡ mixAt (posAt ps j) (posAt ps (suc j)) (colourAt (ramp .channels) j) (colourAt (ramp .channels) (suc j)) x
+    pub on-pair : colourOf ramp x ≡ mixedColour (posAt ps j) (posAt ps (suc j)) (colourAt (ramp .channels) j) (colourAt (ramp .channels) (suc j)) x
     unfolding colourOf colourIn between pairOf linearPair
     on-pair = let e : suc j - 1 ≡ j = omega arith in rw (of-kind, placed, e)
 
@@ -71,9 +71,9 @@ module _ (p q x : Float) (m P Q X τ σ : ℕ) (at-p : Placed m p P) (at-q : Pla
       let fq = at-q .is .whole in
       finite-between f0 (x ⊖ p) (q ⊖ p) (unit-finite .0) whole (sub-rising p x fp fx from) (sub-mono x p q p fx fp fq fp to (le-refl p (no-nan-l p x from)))
 
-  pub mixed-at : (c e : Rgba) → ClearColour c → ClearColour e → MixedFour (2 ^ 149) τ σ (unitsOf c) (unitsOf e) (unitsOf (mixAt p q c e x))
+  pub colour-mixed : (c e : Rgba) → ClearColour c → ClearColour e → MixedFour (2 ^ 149) τ σ (unitsOf c) (unitsOf e) (unitsOf (mixedColour p q c e x))
   unfolding linear
-  mixed-at c e wc we =
+  colour-mixed c e wc we =
       let law = mix-off p q x m P Q X τ σ at-p at-q at-x come left wide from to come-finite whole in
       (law (c .r) (e .r) (wc .red) (we .red), law (c .g) (e .g) (wc .green) (we .green), law (c .b) (e .b) (wc .blue) (we .blue), law (c .a) (e .a) (wc .alpha) (we .alpha))
 
@@ -94,9 +94,9 @@ module _ (p q x : Float) (sp : T (fits binary32 p)) (sq : T (fits binary32 q)) (
   some : 0 < pro (q ⊖ p)
   some = difference-above p q sp sq fp fq (not-le p q (lt-le-trans p x q from to)) whole
 
-  pub mix-clear : (c e : Rgba) → ClearColour c → ClearColour e → ClearColour (mixAt p q c e x)
+  pub mixed-clear : (c e : Rgba) → ClearColour c → ClearColour e → ClearColour (mixedColour p q c e x)
   unfolding linear
-  mix-clear c e wc we = record { red = one (wc .red) (we .red); green = one (wc .green) (we .green); blue = one (wc .blue) (we .blue); alpha = one (wc .alpha) (we .alpha) }
+  mixed-clear c e wc we = record { red = one (wc .red) (we .red); green = one (wc .green) (we .green); blue = one (wc .blue) (we .blue); alpha = one (wc .alpha) (we .alpha) }
     where
       share : Float
       share = (x ⊖ p) ⊘ (q ⊖ p)

@@ -1,19 +1,18 @@
 -- An ordinary ramp: from a kept point that is no lent position the next lent one is always shown, where it lies inside the domain. Assumes nothing.
 use mathlib.Core.Path.{_≡_, refl, sym, ap, _∙_, subst}
-use mathlib.Core.Bool.{Bool, true, false, cond, _&&_, true≢false}
+use mathlib.Core.Bool.{Bool, true, false, true≢false}
 use mathlib.Core.List.{List, [], _∷_}
-use mathlib.Core.Logic.{inl, inr}
-use Prim.Native.Nat.{ℕ, zero, suc, _+_, _-_, _*_, _≤_, _<_}
+use Prim.Native.Nat.{ℕ, zero, suc, _-_, _≤_, _<_}
 use native.Mathlib.Nat.{lt-of-not-le}
 use native.Mathlib.Decide.{decLe}
 use native.Mathlib.Omega.{arith}
 use borrow.Author.Tests.{le-leb}
-use lib.Dec.{T, leb}
+use lib.Dec.{T}
 use lib.ListN.{length, drop, take, getD, length-drop}
 use lib.Ieee.{Float, nan, binary32, ofBits, le, lt, eq, isNan}
 use lib.Ieee.Bits.{is-true}
 use Rattle.float.specs.F32.{f0}
-use Rattle.float.proofs.Order.{as-T, le-trans, lt→le, le→not-lt, le-antisym, le-refl, no-nan-l, no-nan-r, not-lt→le, le-lt-trans, lt-le-trans, eq→le, eq→ge, eq-sym}
+use Rattle.float.proofs.Order.{as-T, le-trans, lt→le, le-antisym, le-refl, no-nan-l, no-nan-r, not-lt→le, le-lt-trans, lt-le-trans, eq→le, eq→ge}
 use Rattle.float.proofs.UnitsOrder.{same-value}
 use Rattle.blend.specs.declared.Rgba.{Rgba}
 use Rattle.stops.specs.Lent.{Ramp}
@@ -21,24 +20,24 @@ use Rattle.stops.specs.Stops.{posAt}
 use Rattle.stops.specs.Place.{firstAt}
 use Rattle.stops.proofs.Valid.{Valid, first-le, first-pos}
 use Rattle.stops.proofs.Choice.{first-reaches, before-first}
-use Rattle.gradient.specs.Ramp.{isGimp, minOf, maxOf, colourOf}
+use Rattle.gradient.specs.Ramp.{minOf, maxOf, colourOf}
 use Rattle.gradient.proofs.Valid.{valid}
 use Rattle.sampling.specs.Constants.{leastThreshold, thresholdOf}
 use Rattle.sampling.specs.Midpoints.{Gradient}
 use Rattle.ordinary.specs.Ordinary.{Ordinary}
 use Rattle.ordinary.proofs.Colours.{Past}
 use Rattle.ordinary.proofs.Classes.{ordinary-moderate}
-use Rattle.weighed.specs.Points.{Site, site, sampledMark, lentMark, ownOf, sitesOf}
-use Rattle.weighed.proofs.Merging.{Rises, Each, rises}
-use Rattle.within.specs.Shown.{nearWithin, offAt, fairly, shows, pointAfter, shownTo, lentLeft, toLent}
-use Rattle.within.specs.Kept.{Kept, lentShown, keptFrom, keptAll}
-use Rattle.within.specs.Lists.{holdOf, keptOf}
-use Rattle.word.proofs.Singles.{Every, Single, each-own, each-merged, own-single}
-use Rattle.word.proofs.Weighed.{siteIn, pointIn, below-max, above-all, all-below, after, up-to, rest-rises}
+use Rattle.weighed.specs.Points.{Site, site, lentMark}
+use Rattle.weighed.proofs.Merging.{Rises, Each}
+use Rattle.within.specs.Shown.{nearWithin, offAt, fairly, shows, pointAfter, shownTo, lentLeft}
+use Rattle.within.specs.Kept.{lentShown}
+use Rattle.within.specs.Lists.{holdOf}
+use Rattle.word.proofs.Singles.{Single}
+use Rattle.word.proofs.Weighed.{siteIn, pointIn, below-max, above-all, after, up-to, rest-rises}
 use Rattle.word.proofs.ShownSteps.{each-get, each-drop, off-least}
 use Rattle.word.proofs.TameRamps.{ordinary-tame}
-use Rattle.word.proofs.FewStops.{isLent, left-some, left-merged, left-own, few-kept}
-use Rattle.word.proofs.LentSites.{FoundLent, position-found, found-drop, found-alone, FirstLent, first-lent}
+use Rattle.word.proofs.FewStops.{isLent, left-some}
+use Rattle.word.proofs.LentSites.{FoundLent, found-drop, found-alone, FirstLent, first-lent}
 use Rattle.word.proofs.StraightRamp.{first-is-min, last-is-max, near-inner}
 
 past-end : (ss : List Site) (i : ℕ) (d : Site) → length ss ≤ i → getD ss i d ≡ d

@@ -1,25 +1,23 @@
 -- Never merged: two depths at the ramp's own positions, or just beside them, that the ramp has far apart are apart in a list that is done, of any record at all; and `apart` tells no merging there. Assumes nothing.
 use mathlib.Core.Path.{_≡_, sym, subst}
-use mathlib.Core.Bool.{false}
 use mathlib.Core.List.{List}
-use Prim.Native.Nat.{ℕ, suc, _+_, _-_, _*_, _^_, _≤_, _<_}
+use Prim.Native.Nat.{ℕ, suc, _-_, _≤_, _<_}
 use native.Mathlib.Nat.{lt-of-not-le}
 use native.Mathlib.Omega.{arith}
 use lib.Dec.{T}
 use lib.ListN.{length, getD}
-use lib.Ieee.{Float, binary32, ofBits, fits, le, lt}
+use lib.Ieee.{Float, binary32, ofBits, le, lt}
 use lib.Ieee.Bits.{ofBits-fits}
 use lib.Ieee.Fits.{cond-fits}
 use lib.Ieee.Scale.{finite}
 use Rattle.float.specs.F32.{f0}
-use Rattle.float.specs.Units.{count}
 use Rattle.float.proofs.Order.{le-trans, no-nan-l, finite-between}
 use Rattle.difference.specs.Difference.{distanceOf}
-use Rattle.difference.specs.Measure.{SingleColour, Plain, Beyond}
+use Rattle.difference.specs.Measure.{SingleColour, Plain}
 use Rattle.difference.proofs.Theorems.{stays-apart, stays-apart-by}
 use Rattle.stops.specs.Lent.{Ramp, change}
 use Rattle.stops.specs.Stops.{posAt}
-use Rattle.gradient.specs.Ramp.{isGimp, colourOf}
+use Rattle.gradient.specs.Ramp.{colourOf}
 use Rattle.sampling.specs.Constants.{leastThreshold, mostThreshold, thresholdOf}
 use Rattle.sampling.specs.Lent.{Held}
 use Rattle.linearize.specs.Lent.{Output}
@@ -35,7 +33,7 @@ use Rattle.within.specs.Lists.{holdOf, listWithin}
 use Rattle.within.specs.Promises.{ThinsWithin, FlattensWithin}
 use Rattle.within.proofs.Limits.{hold-least, hold-most, threshold-most}
 use Rattle.word.specs.Word.{NearBy, InDomain, KeepsWord, OwnDepth, OwnDepths, NeverFalling, listIn}
-use Rattle.word.specs.Merging.{FarApart, FarApartBy20, NeverMerges, Unmerged}
+use Rattle.word.specs.Merging.{NeverMerges, Unmerged}
 use Rattle.word.proofs.Singles.{Every, every-of, Single}
 use Rattle.word.proofs.SingleColours.{colour-single, colours-single}
 use Rattle.word.proofs.Depths.{own-near, depths-inside}

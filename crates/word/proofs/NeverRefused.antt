@@ -1,5 +1,5 @@
 -- Never refused: an ordinary ramp has a list that keeps its word, where there is room for 4,609 stops; of the calls. Assumes nothing.
-use mathlib.Core.Path.{_≡_, refl, _∙_}
+use mathlib.Core.Path.{_≡_, _∙_}
 use mathlib.Core.List.{List}
 use Prim.Native.Nat.{ℕ, _+_, _≤_, _<_}
 use native.Mathlib.Omega.{arith}

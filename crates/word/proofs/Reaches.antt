@@ -1,17 +1,16 @@
 -- A question that is answered yes up to a number, and no past it, is reached exactly there; and where no point is left, max alone is kept. Assumes nothing.
-use mathlib.Core.Path.{_≡_, refl, sym, subst}
+use mathlib.Core.Path.{_≡_}
 use mathlib.Core.Bool.{Bool, true, false, cond}
-use mathlib.Core.List.{List, []}
+use mathlib.Core.List.{[]}
 use Prim.Native.Nat.{ℕ, zero, suc, _+_, _*_, _≤_, _<_}
-use native.Mathlib.Nat.{lt-of-not-le, le-antisymm}
+use native.Mathlib.Nat.{lt-of-not-le}
 use native.Mathlib.Decide.{decLe}
 use native.Mathlib.Omega.{arith}
 use borrow.Author.Tests.{lt-leb}
-use lib.Dec.{leb}
 use lib.ListN.{length}
 use lib.Ieee.{Float}
 use Rattle.sampling.specs.Midpoints.{Gradient}
-use Rattle.within.specs.Shown.{Near, further, reachFrom, reachOf, pointAfter}
+use Rattle.within.specs.Shown.{Near, further, reachFrom, reachOf}
 use Rattle.within.specs.Kept.{stepFrom, keptFrom}
 use Rattle.within.proofs.Reaching.{step-on}
 

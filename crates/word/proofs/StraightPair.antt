@@ -1,34 +1,29 @@
 -- Two colours within 0 to 1 and what is mixed straight between them: two points on the way show what lies between them within the least threshold. Assumes nothing.
 use mathlib.Core.Path.{_≡_, subst}
-use mathlib.Core.Bool.{false}
 use Prim.Native.Nat.{ℕ, _+_, _*_, _^_, _≤_, _<_}
 use native.Mathlib.Nat.{le-dest, lt-of-not-le}
 use native.Mathlib.Omega.{arith}
 use lib.Dec.{T, lit≤}
 use lib.Ieee.{Float, binary32, neg, sub, le, lt}
 use lib.Ieee.Fits.{add-fits}
-use lib.Ieee.Scale.{finite}
-use Rattle.float.specs.F32.{_⊖_, _⊘_, f0, f1}
+use Rattle.float.specs.F32.{_⊖_, _⊘_}
 use Rattle.float.specs.Number.{clampOf}
 use Rattle.float.specs.Units.{count}
 use Rattle.float.proofs.Order as order
-use Rattle.float.proofs.UnitSums.{Counted, opposite, sum-under}
-use Rattle.blend.specs.Blend.{linear, linear1}
+use Rattle.float.proofs.UnitSums.{opposite, sum-under}
+use Rattle.blend.specs.Blend.{linear}
 use Rattle.blend.specs.declared.Rgba.{Rgba}
 use Rattle.difference.specs.Difference.{distanceOf}
 use Rattle.difference.proofs.Sizes.{Small}
-use Rattle.blend.proofs.Clear.{Clear}
+use Rattle.blend.proofs.Clear.{Clear, clear-finite, clear-counted}
 use Rattle.difference.proofs.Measuring.{ClearColour}
 use Rattle.sampling.specs.Constants.{leastThreshold}
 use Rattle.ordinary.proofs.UnitBlend.{blend-low, blend-high}
 use Rattle.word.proofs.EndSums.{clamp-id, slack, slack-units, sum-over}
 use Rattle.word.proofs.EndDistance.{slack-near}
-use Rattle.word.proofs.MixSteps.{Line}
-use Rattle.word.proofs.MixLine.{counted-of, counts-le, le-counts, share-clear}
+use Rattle.word.proofs.ThreePoints.{Line}
+use Rattle.word.proofs.MixLine.{counts-le, le-counts, share-clear}
 use Rattle.word.proofs.Straight.{mixAt, as-straight}
-
-clear-finite : (x : Float) → Clear x → T (finite x)
-clear-finite x w = counted-of x w .whole
 
 -- ---- a mix lies from 0 to 1
 module _ (p q t : Float) (wp : Clear p) (wq : Clear q) (wt : Clear t) (pt : T (le p t)) (tq : T (le t q)) (some : count p < count q) where
@@ -64,9 +59,9 @@ close x y wx wy h k =
     rw (clamp-id x (wx .low) (wx .high), clamp-id y (wy .low) (wy .high))
     (unfold sub in
     record {
-      least = sum-over x (neg y) (neg slack) (count x) 0 0 (count y) 0 (8194 * 2 ^ 126) (counted-of x wx) (opposite y (count y) 0 (counted-of y wy)) (opposite slack (8194 * 2 ^ 126) 0 slack-units)
+      least = sum-over x (neg y) (neg slack) (count x) 0 0 (count y) 0 (8194 * 2 ^ 126) (clear-counted x wx) (opposite y (count y) 0 (clear-counted y wy)) (opposite slack (8194 * 2 ^ 126) 0 slack-units)
           (under (count y) (count x) (2 ^ 149) (8194 * 2 ^ 126) k (lit≤ tt));
-      most = sum-under x (neg y) slack (count x) 0 0 (count y) (8194 * 2 ^ 126) 0 (counted-of x wx) (opposite y (count y) 0 (counted-of y wy)) slack-units (over (count x) (count y) (2 ^ 149) (8194 * 2 ^ 126) h (lit≤ tt));
+      most = sum-under x (neg y) slack (count x) 0 0 (count y) (8194 * 2 ^ 126) 0 (clear-counted x wx) (opposite y (count y) 0 (clear-counted y wy)) slack-units (over (count x) (count y) (2 ^ 149) (8194 * 2 ^ 126) h (lit≤ tt));
     })
   where
     over : (x y u z : ℕ) → 2 ^ 16 * x ≤ 2 ^ 16 * y + 3 * u → 3 * u ≤ 2 ^ 16 * z → x + 0 + 0 ≤ z + 0 + y
@@ -97,7 +92,7 @@ module _ (p q a t e : Float) (b c k : Rgba) (wp : Clear p) (wq : Clear q) (wa : 
       let ua = mix-clear p q a wp wq wa pa (order.le-trans a t q at tq) pq x y wx wy in
       let ut = mix-clear p q t wp wq wt (order.le-trans p a t pa at) tq pq x y wx wy in
       let um = mix-clear a e t wa we wt at te ae (mixAt p q x y a) z ua wz in
-      let w = as-straight p q a t e x y z wp wq wa wt we wx wy wz pa at te eq ae ua ut um there in
+      let w = as-straight p q a t e x y z wp wq wa wt we wx wy wz pa at te eq ae ua there in
       close _ _ ut um (w .0) (w .1)
 
   pub pair-near : T (le (distanceOf (linear b c ((t ⊖ p) ⊘ (q ⊖ p))) (linear (linear b c ((a ⊖ p) ⊘ (q ⊖ p))) k ((t ⊖ a) ⊘ (e ⊖ a)))) leastThreshold)

@@ -1,8 +1,7 @@
 -- An ordinary ramp between two lent positions: two points there show every f32 between them within the least threshold. Assumes nothing.
-use mathlib.Core.Path.{_≡_, refl, sym, ap, _∙_, subst}
+use mathlib.Core.Path.{_≡_, refl, sym, _∙_, subst}
 use mathlib.Core.Bool.{Bool, true, false, true≢false}
 use mathlib.Core.List.{List}
-use mathlib.Core.Logic.{inl, inr}
 use Prim.Native.Nat.{ℕ, _+_, _-_, _*_, _^_, _≤_, _<_}
 use native.Mathlib.Nat.{lt-of-not-le, le-antisymm}
 use native.Mathlib.Decide.{decLe}
@@ -13,7 +12,7 @@ use lib.Ieee.{Float, nan, le, lt, isNan}
 use lib.Ieee.Bits.{is-true}
 use Rattle.float.specs.F32.{_⊖_, _⊘_, f0, f1}
 use Rattle.float.specs.Units.{count}
-use Rattle.float.proofs.Order.{as-T, le-trans, lt→le, le→not-lt, no-nan-l, no-nan-r, not-lt→le, le-refl, le-lt-trans, lt-le-trans, eq→le, eq→ge}
+use Rattle.float.proofs.Order.{as-T, le-trans, lt→le, le→not-lt, no-nan-l, not-lt→le, le-lt-trans, lt-le-trans, eq→le, eq→ge}
 use Rattle.blend.specs.Blend.{linear}
 use Rattle.blend.specs.Pair.{linearPair}
 use Rattle.blend.specs.declared.Rgba.{Rgba}
@@ -22,9 +21,8 @@ use Rattle.blend.proofs.Clear.{Clear}
 use Rattle.difference.proofs.Measuring.{ClearColour}
 use Rattle.stops.specs.Lent.{Ramp}
 use Rattle.stops.specs.Stops.{posAt, colourAt}
-use Rattle.stops.specs.Place.{firstAt, placeOf}
+use Rattle.stops.specs.Place.{firstAt}
 use Rattle.stops.specs.Pair.{pairOf, between, colourIn}
-use Rattle.stops.specs.declared.Kind.the-variants.{Linear}
 use Rattle.stops.proofs.Valid.{Valid, first-le}
 use Rattle.stops.proofs.Choice.{first-reaches, place-between}
 use Rattle.gradient.specs.Ramp.{isGimp, minIn, maxIn, minOf, maxOf, colourOf}
@@ -35,9 +33,9 @@ use Rattle.ordinary.proofs.Colours.{Past}
 use Rattle.word.proofs.Singles.{Single}
 use Rattle.word.proofs.Weighed.{not-le}
 use Rattle.word.proofs.Straight.{mixAt, line-at}
-use Rattle.word.proofs.MixSteps.{Line}
+use Rattle.word.proofs.ThreePoints.{Line}
 use Rattle.word.proofs.MixLine.{le-counts}
-use Rattle.word.proofs.StraightPair.{Stands, mix-clear, colour-clear, pair-near}
+use Rattle.word.proofs.StraightPair.{Stands, colour-clear, pair-near}
 
 module _ (ramp : Ramp) (o : Ordinary ramp) where
   abbrev ps : List Float
@@ -199,4 +197,4 @@ module _ (ramp : Ramp) (o : Ordinary ramp) where
 
         one : {l d : ℕ} {x y : Float} → count from + l ≡ count e → count e + d ≡ count next → Clear x → Clear y → Line (count (mixAt from next x y e)) (count x) (count y) l d (2 ^ 149)
         one {l} {d} {x} {y} i j u v =
-            line-at from next e x y wp wq we u v (below k e at-e) end (mix-clear from next e wp wq we (below k e at-e) end counts x y u v) l d i j (some (count from) l (count e) d (count next) i j counts)
+            line-at from next e x y wp wq we u v (below k e at-e) end l d i j (some (count from) l (count e) d (count next) i j counts)

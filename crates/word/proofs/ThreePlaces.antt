@@ -1,12 +1,12 @@
 -- Where a ramp's rounded colours and a list's are near at two places, both lines straight between, they are near at every place between, but for the rounding. Over whole numbers: the first place is i after the ramp's
 -- start and i′ after the list's, the one between j further, the last one k further, and l and l′ are left. Assumes nothing.
-use mathlib.Core.Path.{_≡_, refl, sym, subst}
-use Prim.Native.Nat.{ℕ, _+_, _-_, _*_, _^_, _≤_, _<_}
+use mathlib.Core.Path.{_≡_, refl, subst}
+use Prim.Native.Nat.{ℕ, _+_, _*_, _^_, _≤_, _<_}
 use native.Mathlib.Nat.{mul-pos}
 use native.Mathlib.Omega.{arith}
 use Rattle.float.proofs.RoundOff.{gap}
 use Rattle.difference.proofs.Legs.{Four}
-use Rattle.word.proofs.TwoLines.{line, on-line, scaled, straight, between, MixedFour, Apart, LinesApart, lines-apart, values-apart}
+use Rattle.word.proofs.TwoLines.{line, on-line, scaled, straight, between, MixedFour, ApartBy, LinesApart, lines-apart, values-apart}
 
 module _ (u : ℕ) (a b A B : Four) (i j k l i′ l′ : ℕ) (unit : 0 < u) (moved : 0 < j) where
   abbrev d : ℕ
@@ -36,9 +36,9 @@ module _ (u : ℕ) (a b A B : Four) (i j k l i′ l′ : ℕ) (unit : 0 < u) (mo
       between m j k _ _ _ _ _ _ _ _ _ _ _ _ M moved h e (channel (a .r) (b .r) (A .r) (B .r)) (channel (a .g) (b .g) (A .g) (B .g)) (channel (a .b) (b .b) (A .b) (B .b)) (channel (a .a) (b .a) (A .a) (B .a))
 
   pub near-between : (m : ℕ) → 0 < m → (r₁ l₁ r₂ l₂ r₃ l₃ : Four) → MixedFour u i (j + k + l) a b r₁ → MixedFour u i′ (j + k + l′) A B l₁ → MixedFour u (i + j + k) l a b r₂ → MixedFour u (i′ + j + k) l′ A B l₂
-      → MixedFour u (i + j) (k + l) a b r₃ → MixedFour u (i′ + j) (k + l′) A B l₃ → Apart m l₁ r₁ → Apart m l₂ r₂ → Apart (m + 816 * u) l₃ r₃
+      → MixedFour u (i + j) (k + l) a b r₃ → MixedFour u (i′ + j) (k + l′) A B l₃ → ApartBy m l₁ r₁ → ApartBy m l₂ r₂ → ApartBy (m + 816 * u) l₃ r₃
   near-between m M r₁ l₁ r₂ l₂ r₃ l₃ mr₁ ml₁ mr₂ ml₂ mr₃ ml₃ near₁ near₂ =
-      subst (λ (n : ℕ). Apart n l₃ r₃) (twice m u)
+      subst (λ (n : ℕ). ApartBy n l₃ r₃) (twice m u)
       (values-apart u a b A B d D some (i + j) (k + l) (i′ + j) (k + l′) (middle i j k l) (middle i′ j k l′) r₃ l₃ mr₃ ml₃ (m + 408 * u) (more m (408 * u) M) area
       (subst (λ (n : ℕ). LinesApart u a b A B d D some n (i + j) (k + l) (i′ + j) (k + l′)) (sum m u (D * d))
       (lines (m * (D * d) + 2 * (204 * (u * (D * d)))) (more (m * (D * d)) (2 * (204 * (u * (D * d)))) (mul-pos M area))
@@ -82,7 +82,7 @@ four-start u σ a b = (at-start u σ (a .r) (b .r), at-start u σ (a .g) (b .g),
 pub four-end : (u τ : ℕ) (a b : Four) → MixedFour u τ 0 a b b
 four-end u τ a b = (at-end u τ (a .r) (b .r), at-end u τ (a .g) (b .g), at-end u τ (a .b) (b .b), at-end u τ (a .a) (b .a))
 
-pub same-apart : (m : ℕ) (x : Four) → Apart m x x
+pub same-apart : (m : ℕ) (x : Four) → ApartBy m x x
 same-apart m x = rw (no-gap (x .r), no-gap (x .g), no-gap (x .b), no-gap (x .a)) (omega arith)
 
 -- ---- what is measured: h at most at both places, so h and 2 ^ -19 at most between, where h is no more than 1 / 28

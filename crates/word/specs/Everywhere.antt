@@ -1,6 +1,6 @@
 -- Of a linear ramp with channels from 0 to 1, how far off a list may be at every f32 of the domain. Said in units of 2 ^ -149, of which every f32 is a whole number (`count`). Definitions only.
 use mathlib.Core.Path.{_≡_}
-use Prim.Native.Nat.{ℕ, _+_, _^_, _≤_}
+use Prim.Native.Nat.{_+_, _^_, _≤_}
 use lib.Dec.{T}
 use lib.Ieee.{Float, binary32, fits}
 use Rattle.float.specs.F32.{f0, f1}

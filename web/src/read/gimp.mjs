@@ -3,7 +3,7 @@ import { Refused } from '../fault.mjs';
 import { call, copy, lend, meanwhile } from '../library.mjs';
 import { GIMP } from '../ramp.mjs';
 
-const MOST_SEGMENTS = 256;
+const [MOST_SEGMENTS, MOST_TEXT] = [256, 65536];
 /** What a segment names in place of a colour of its own is GIMP's own first choice: black before white. */
 const [FOREGROUND, BACKGROUND] = [[0, 0, 0, 1], [1, 1, 1, 1]];
 
@@ -12,7 +12,8 @@ export const readGimp = file => meanwhile(() => {
     const channels = lend(Float32Array, 8 * MOST_SEGMENTS);
     const codes = lend(Uint8Array, 2 * MOST_SEGMENTS);
     const told = lend(BigUint64Array, 2);
-    const text = copy(Uint8Array, file.bytes);
+    // a byte too many is refused as any number of them is
+    const text = copy(Uint8Array, file.bytes.subarray(0, MOST_TEXT + 1));
     const refusal = call('read_told', text, ...FOREGROUND, ...BACKGROUND, positions, channels, codes, told);
     const [line, n] = Array.from(told, Number);
     if (refusal) throw new Refused(refusal, { file: file.name, line });

@@ -88,8 +88,8 @@ export class Page {
 
     /** What is wrong with the list, or nothing. */
     faults() {
-        const { isYes, apart, line } = this.said;
-        return apart ? [merged(apart), isYes ? '' : 'Judged: no'].filter(Boolean).map(words => `${words}.`).join(' ') : line;
+        const { isYes, why, apart, line } = this.said;
+        return apart ? [merged(apart), isYes ? '' : `Judged: no: ${why}`].filter(Boolean).map(words => `${words}.`).join(' ') : line;
     }
 
     /** Says what was done and what came of it. */

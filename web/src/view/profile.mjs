@@ -6,7 +6,7 @@ const FELT = 2;
 const MOST_TURNS = 8;
 
 /** The points at which the way turns, with what came before each. */
-export function turnsOf(ts, heights) {
+function turnsOf(ts, heights) {
     const turns = [];
     let [from, best] = [0, 0];
     let way = 0;

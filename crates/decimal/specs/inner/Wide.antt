@@ -2,6 +2,7 @@
 use mathlib.Core.Path.{_≡_}
 use mathlib.Core.Logic.{_⊎_}
 use Prim.Native.Nat.{ℕ, _+_, _*_, _^_, _≤_, _<_}
+use Rattle.decimal.specs.declared.wide.Wide.{Wide}
 
 abbrev pub word : ℕ
 word = 1152921504606846976
@@ -9,6 +10,9 @@ word = 1152921504606846976
 -- the number of three words; its words are digits but for the first
 unfoldable pub wide : ℕ → ℕ → ℕ → ℕ
 wide hi mid lo = (hi * word + mid) * word + lo
+
+abbrev pub valueOf : Wide → ℕ
+valueOf w = wide (w .hi) (w .mid) (w .lo)
 
 pub record IsWide (n hi mid lo : ℕ) : Type 0 where
   pub is : wide hi mid lo ≡ n

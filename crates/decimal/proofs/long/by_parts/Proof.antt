@@ -7,7 +7,7 @@ use lib.ListN.{length, drop, length-append}
 use borrow.Author.Tests.{not-true, not-false}
 use Rattle.decimal.specs.Long.{firstDigits, afterDigits}
 use Rattle.decimal.proofs.Counting.{counts-nothing}
-use Rattle.decimal.proofs.LongPlace.{whole-only, point-there, with-point}
+use Rattle.decimal.proofs.LongAfter.{whole-only, point-there, with-point}
 use borrow.Author.Needs.{needs}
 use Rattle.decimal.proofs.long.by_parts.Statement.{statement}
 use Rattle.decimal.proofs.long.by_parts.Tie as tie

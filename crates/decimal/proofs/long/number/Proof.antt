@@ -13,7 +13,7 @@ use Rattle.decimal.specs.declared.Token.the-variants.{Number, NoNumber}
 use Rattle.decimal.specs.Decimal.{valueAfter}
 use Rattle.decimal.specs.Long.{longNumber, mostSignificant}
 use Rattle.decimal.specs.inner.Counted.{Kept, Counts, Saturates, MovedIs, NumberIs}
-use Rattle.decimal.proofs.LongPlace.{long-none, long-many, long-is}
+use Rattle.decimal.proofs.LongAfter.{long-none, long-many, long-is}
 use borrow.Author.Needs.{needs}
 use Rattle.decimal.proofs.long.number.Statement.{statement}
 use Rattle.decimal.proofs.long.number.Tie as tie

@@ -8,7 +8,7 @@ use lib.ListN.{length, drop}
 use borrow.Author.Tests.{not-true, not-false}
 use Rattle.decimal.specs.Decimal.{valueAfter}
 use Rattle.decimal.specs.inner.Counted.{Saturates}
-use Rattle.decimal.proofs.LongPlace.{after-end, after-other, after-none, after-stopped, after-power, power-digits}
+use Rattle.decimal.proofs.LongAfter.{after-end, after-other, after-none, after-stopped, after-power, power-digits}
 use borrow.Author.Needs.{needs}
 use Rattle.decimal.proofs.long.with_power.Statement.{statement}
 use Rattle.decimal.proofs.long.with_power.Tie as tie

@@ -4,7 +4,8 @@ use Prim.Native.Nat.{ℕ, _+_, _-_, _*_, _/_, _%_, _^_, _≤_}
 use native.Mathlib.Omega.{arith}
 use lib.Pow.{pow-add}
 use Rattle.decimal.specs.inner.Wide.{IsWide}
-use Rattle.decimal.proofs.Words.{one-word, fives-room, roomy-hi, times-again}
+use Rattle.decimal.proofs.WideTurns.{one-word, fives-room, times-again}
+use Rattle.decimal.proofs.Words.{roomy-hi}
 use borrow.Author.Needs.{needs}
 use Rattle.decimal.proofs.wide.fives.Statement.{statement}
 use Rattle.decimal.proofs.wide.fives.Tie as tie

@@ -5,7 +5,8 @@ use native.Mathlib.Nat.{le-of-lt}
 use native.Mathlib.Omega.{arith}
 use lib.Dec.{lit<}
 use borrow.Author.Tests.{ltb-true, ltb-false}
-use Rattle.decimal.proofs.Words.{hi-le, times-hi, digit-zero, digit-one}
+use Rattle.decimal.proofs.WideTurns.{times-hi, digit-zero, digit-one}
+use Rattle.decimal.proofs.Words.{hi-le}
 use borrow.Author.Needs.{needs}
 use Rattle.decimal.proofs.wide.next_digit.Statement.{statement}
 use Rattle.decimal.proofs.wide.next_digit.Tie as tie

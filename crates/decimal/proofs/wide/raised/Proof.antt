@@ -7,7 +7,7 @@ use lib.Dec.{lit<}
 use lib.Pow.{pow-add}
 use borrow.Author.Tests.{not-true, not-false, ltb-true, ltb-false}
 use Rattle.decimal.specs.inner.Wide.{word, wide, IsWide}
-use Rattle.decimal.proofs.Words.{not-raised, raised-few, raised-hi, times-hi, times-again}
+use Rattle.decimal.proofs.WideTurns.{not-raised, raised-few, raised-hi, times-hi, times-again}
 use Rattle.decimal.proofs.wide.raised.Statement.{statement}
 use Rattle.decimal.proofs.wide.raised.Tie as tie
 

@@ -1,12 +1,12 @@
--- `decimal::long::nearest_long` meets its contract: what is in both powers goes off, and the bits are those of the rounded value. Assumes nothing.
+-- `decimal::shift::nearest_long` meets its contract: what is in both powers goes off, and the bits are those of the rounded value. Assumes nothing.
 use mathlib.Core.Path.{_≡_, _∙_}
 use Prim.Native.Nat.{ℕ, _+_, _-_}
 use native.Mathlib.Omega.{arith}
 use Rattle.decimal.proofs.Moves.{same-place}
 use Rattle.decimal.proofs.Rounds.{bits-value}
 use borrow.Author.Needs.{needs}
-use Rattle.decimal.proofs.long.nearest_long.Statement.{statement}
-use Rattle.decimal.proofs.long.nearest_long.Tie as tie
+use Rattle.decimal.proofs.shift.nearest_long.Statement.{statement}
+use Rattle.decimal.proofs.shift.nearest_long.Tie as tie
 
 level : (a b up down : ℕ) → up ≡ a - b → down ≡ b - a → up + b ≡ a + down
 level a b up down e f = omega arith

@@ -1,10 +1,10 @@
--- `decimal::long::cancelled` meets its contract: the smaller goes off both. Assumes nothing.
+-- `decimal::shift::cancelled` meets its contract: the smaller goes off both. Assumes nothing.
 use mathlib.Core.Path.{refl}
 use mathlib.Core.Logic.{inl, inr}
 use native.Mathlib.Omega.{arith}
 use borrow.Author.Needs.{needs}
-use Rattle.decimal.proofs.long.cancelled.Statement.{statement}
-use Rattle.decimal.proofs.long.cancelled.Tie as tie
+use Rattle.decimal.proofs.shift.cancelled.Statement.{statement}
+use Rattle.decimal.proofs.shift.cancelled.Tie as tie
 
 returns : tie.Need-returns
 returns c = record { up-is = omega arith; down-is = omega arith; one = inl refl }

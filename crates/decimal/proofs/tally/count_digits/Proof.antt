@@ -1,12 +1,12 @@
--- `decimal::long::count_digits` meets its contract: the digits passed so far are counted. Assumes nothing.
+-- `decimal::tally::count_digits` meets its contract: the digits passed so far are counted. Assumes nothing.
 use Prim.Native.Nat.{_+_, _-_, _≤_, _<_}
 use native.Mathlib.Omega.{arith}
 use lib.ListN.{length}
 use Rattle.decimal.proofs.LongPlace.{stops-at, stops-over}
 use Rattle.decimal.proofs.LongRuns.{Counting, counting-none, counting-next, counting-done}
 use Rattle.decimal.proofs.Parts.{too-low, too-high}
-use Rattle.decimal.proofs.long.count_digits.Statement.{statement}
-use Rattle.decimal.proofs.long.count_digits.Tie as tie
+use Rattle.decimal.proofs.tally.count_digits.Statement.{statement}
+use Rattle.decimal.proofs.tally.count_digits.Tie as tie
 
 abbrev Inv-loop : tie.InvT-loop
 Inv-loop s from value count zeros v₀ c₀ z₀ i₀ v c z i = Counting s from value count zeros v c z i

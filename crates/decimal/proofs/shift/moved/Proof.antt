@@ -1,4 +1,4 @@
--- `decimal::long::moved` meets its contract: far out the places tell no more, and else what is in both powers goes off. Assumes nothing.
+-- `decimal::shift::moved` meets its contract: far out the places tell no more, and else what is in both powers goes off. Assumes nothing.
 use mathlib.Core.Path.{_≡_, refl, sym, ap, _∙_}
 use mathlib.Core.Bool.{Bool, true, false, cond}
 use Prim.Native.Nat.{ℕ, _+_, _-_, _*_, _^_, _≤_, _<_}
@@ -7,8 +7,8 @@ use lib.Ieee.{Float, binary32, round}
 use Rattle.decimal.specs.inner.Counted.{Saturates, MovedIs}
 use Rattle.decimal.proofs.Moves.{same-place, far-up, far-down, told-far, told-near}
 use borrow.Author.Needs.{needs}
-use Rattle.decimal.proofs.long.moved.Statement.{statement}
-use Rattle.decimal.proofs.long.moved.Tie as tie
+use Rattle.decimal.proofs.shift.moved.Statement.{statement}
+use Rattle.decimal.proofs.shift.moved.Tie as tie
 
 -- ---- down
 module _ (neg : Bool) (v z k power : ℕ) (lower : Bool) (t : lower ≡ true) (h : z < 2 ^ 63) where

@@ -1,4 +1,4 @@
--- `decimal::long::tens_magnitude` meets its contract: few places down it is the short division's, far up it is beyond, far down nothing, and else the long division's. Assumes nothing.
+-- `decimal::shift::tens_magnitude` meets its contract: few places down it is the short division's, far up it is beyond, far down nothing, and else the long division's. Assumes nothing.
 use mathlib.Core.Path.{_≡_, sym, ap, _∙_, subst}
 use mathlib.Core.Logic.{_⊎_, inl, inr}
 use mathlib.Core.Bool.{Bool, cond}
@@ -12,8 +12,8 @@ use Rattle.decimal.specs.inner.Steps.{BitsOf}
 use Rattle.decimal.proofs.Moves.{ten-pos, nothing, beyond}
 use Rattle.decimal.proofs.Rounds.{bits-infinite}
 use borrow.Author.Needs.{needs}
-use Rattle.decimal.proofs.long.tens_magnitude.Statement.{statement}
-use Rattle.decimal.proofs.long.tens_magnitude.Tie as tie
+use Rattle.decimal.proofs.shift.tens_magnitude.Statement.{statement}
+use Rattle.decimal.proofs.shift.tens_magnitude.Tie as tie
 
 zero-bits : (d up down : ℕ) → d ≡ 0 → BitsOf (d * 10 ^ up) (10 ^ down) 0
 zero-bits d up down e =

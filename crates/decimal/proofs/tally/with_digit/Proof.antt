@@ -1,4 +1,4 @@
--- `decimal::long::with_digit` meets its contract: by how many digits count so far, and whether it is a zero. Assumes nothing.
+-- `decimal::tally::with_digit` meets its contract: by how many digits count so far, and whether it is a zero. Assumes nothing.
 use mathlib.Core.Path.{_≡_}
 use mathlib.Core.Logic.{inl, inr}
 use Prim.Native.Nat.{ℕ, _+_, _-_, _*_, _^_, _≤_, _<_}
@@ -9,8 +9,8 @@ use Rattle.decimal.specs.inner.Counted.{Small}
 use Rattle.decimal.proofs.Counting.{counts-lead, counts-digit, counts-zero, counts-over}
 use Rattle.decimal.proofs.Scale.{ten-le}
 use borrow.Author.Needs.{needs}
-use Rattle.decimal.proofs.long.with_digit.Statement.{statement}
-use Rattle.decimal.proofs.long.with_digit.Tie as tie
+use Rattle.decimal.proofs.tally.with_digit.Statement.{statement}
+use Rattle.decimal.proofs.tally.with_digit.Tie as tie
 
 returns : tie.Need-returns
 returns c = record { counts = λ ds k. counts-zero ds _ _ _ _ k (c .before .if1 .taken) (c .if2 .taken); small = c .before .before .pre .1 .1 .1; zeros = omega arith }

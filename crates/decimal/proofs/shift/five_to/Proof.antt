@@ -1,12 +1,12 @@
--- `decimal::long::five_to` meets its contract. The loop's invariant: five is 5 ^ i. Assumes nothing.
+-- `decimal::shift::five_to` meets its contract. The loop's invariant: five is 5 ^ i. Assumes nothing.
 use mathlib.Core.Path.{_≡_, refl, sym, ap, _∙_}
 use Prim.Native.Nat.{ℕ, _*_, _-_, _^_, _≤_}
 use native.Mathlib.Omega.{arith}
 use lib.Pow.{pow-add}
 use Rattle.decimal.proofs.Scale.{five-le}
 use borrow.Author.Needs.{needs}
-use Rattle.decimal.proofs.long.five_to.Statement.{statement}
-use Rattle.decimal.proofs.long.five_to.Tie as tie
+use Rattle.decimal.proofs.shift.five_to.Statement.{statement}
+use Rattle.decimal.proofs.shift.five_to.Tie as tie
 
 abbrev Inv-loop : tie.InvT-loop
 Inv-loop n five₀ i₀ five i = (i ≤ n) × (five ≡ 5 ^ i)
