@@ -682,10 +682,16 @@ static inline ColorgradListed colorgrad_ramp_edit_list(ColorgradRamp ramp, Color
  * them, its record is the one that colorgrad_ramp_sample fills for its ramp, and its list the one that
  * colorgrad_ramp_flatten makes of it, or colorgrad_ramp_flatten_within. Only the calls below may write it. */
 
+/* Whether a ramp of this kind has segments, and no stops. */
+static inline bool colorgrad_has_segments(ColorgradKind kind)
+{
+    return kind == COLORGRAD_GIMP || kind == COLORGRAD_GIMP_SAVED;
+}
+
 /* The ramp of a sheet; its numbers stay the sheet's. */
 static inline ColorgradRamp colorgrad_sheet_ramp(const ColorgradSheet *sheet)
 {
-    bool is_gimp = sheet->kind == COLORGRAD_GIMP;
+    bool is_gimp = colorgrad_has_segments(sheet->kind);
     size_t n = sheet->stops;
     ColorgradRamp made = {sheet->kind, sheet->positions, is_gimp ? 3 * n : n, sheet->channels, (is_gimp ? 8 : 4) * n,
                           sheet->codes, is_gimp ? 2 * n : 0};
@@ -719,7 +725,7 @@ static inline ColorgradSheetAnswer colorgrad_sheet_open(ColorgradSheet *sheet, C
                                                         ColorgradListSort list_sort, float hold)
 {
     size_t told[3] = {0, 0, 0};
-    size_t stops = ramp.kind == COLORGRAD_GIMP ? ramp.codes_length / 2 : ramp.positions_length;
+    size_t stops = colorgrad_has_segments(ramp.kind) ? ramp.codes_length / 2 : ramp.positions_length;
     uint32_t refusal = colorgrad_ramp_check(ramp);
     sheet->kind = ramp.kind;
     sheet->threshold = threshold;
@@ -748,7 +754,7 @@ static inline ColorgradSheetAnswer colorgrad_sheet_edit(ColorgradSheet *sheet, C
     size_t told[3] = {0, 0, 0};
     uint32_t refusal = colorgrad_sheet_edit_told(
         (uint32_t)sheet->kind, sheet->positions, COLORGRAD_MOST_STOPS, sheet->channels, 4 * COLORGRAD_MOST_STOPS,
-        sheet->codes, sheet->kind == COLORGRAD_GIMP ? 2 * sheet->stops : 0, sheet->stops, (uint32_t)edit.sort, edit.stop,
+        sheet->codes, colorgrad_has_segments(sheet->kind) ? 2 * sheet->stops : 0, sheet->stops, (uint32_t)edit.sort, edit.stop,
         edit.position, edit.colour.r, edit.colour.g, edit.colour.b, edit.colour.a, sheet->threshold,
         (uint32_t)sheet->list_sort, sheet->hold, COLORGRAD_OF_SHEET(sheet), told, 3);
     return colorgrad_sheet_keep(sheet, refusal, told);

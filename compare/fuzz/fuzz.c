@@ -779,7 +779,7 @@ static Sheet sheet_of(Ramp ramp, size_t more, uint32_t sort, float hold)
 {
     Sheet sheet = {ramp, lend((ramp.positions_length + more) * sizeof(float)),
                    lend((ramp.channels_length + 4 * more) * sizeof(float)), ramp.positions_length, roomy(), sort, hold};
-    if (ramp.kind == COLORGRAD_GIMP)
+    if (of_segments(ramp.kind))
         sheet.stops = ramp.codes_length / 2;
     memcpy(items(sheet.positions), ramp.positions, ramp.positions_length * sizeof(float));
     memcpy(items(sheet.channels), ramp.channels, ramp.channels_length * sizeof(float));
@@ -790,9 +790,9 @@ static Sheet sheet_of(Ramp ramp, size_t more, uint32_t sort, float hold)
 static Ramp ramp_in(Sheet sheet)
 {
     Ramp ramp = sheet.first;
-    bool is_gimp = ramp.kind == COLORGRAD_GIMP;
-    ramp.positions_length = (is_gimp ? 3 : 1) * sheet.stops;
-    ramp.channels_length = (is_gimp ? 8 : 4) * sheet.stops;
+    bool has_segments = of_segments(ramp.kind);
+    ramp.positions_length = (has_segments ? 3 : 1) * sheet.stops;
+    ramp.channels_length = (has_segments ? 8 : 4) * sheet.stops;
     ramp.positions = items(sheet.positions);
     ramp.channels = items(sheet.channels);
     return ramp;

@@ -6,7 +6,7 @@ use std::string::{String, ToString};
 use std::vec::Vec;
 use std::{assert, assert_eq, thread_local};
 
-use crate::slices::{self, RecordMut, StopsMut, CELLS, MARKS, MOST_POINTS, ROWS};
+use crate::slices::{self, RecordMut, SegmentsMut, StopsMut, CELLS, MARKS, MOST_POINTS, ROWS};
 use crate::{
     desk, Color, Edit, GimpGradient, Gradient, LinearGradient, ListSort, Refresh, Refusal, SharpGradient, Sheet,
     Verdict,
@@ -46,6 +46,8 @@ fn ramps_are_asked() {
     let colors: Vec<Color> = ramp.colors(2).collect();
     SharpGradient::build(&colors, (0.0, 1.0), 0.5).expect("bands");
     assert_eq!(GimpGradient::new(TEXT, &colors[0], &colors[1]).expect("a text").name(), "x");
+    let out = SegmentsMut { positions: &mut [0.0; 3], channels: &mut [0.0; 8], codes: &mut [0; 2] };
+    assert_eq!(slices::read(TEXT, colors[0], colors[1], out), Ok(1));
 }
 
 fn lists_are_made() -> Result<(), Refusal> {
@@ -81,7 +83,13 @@ fn edits_are_made() -> Result<(), Refusal> {
 
 fn leaves_are_asked() {
     let _ = (slices::threshold(0.1), slices::hold(0.1, 0.1), slices::root(2.0), slices::cutoff(0.1), slices::version());
-    let _ = (slices::token(b"1"), slices::numeral(1.0, &mut []), Refusal::Torn.to_string());
+    let _ = (
+        slices::token(b"1"),
+        slices::long_token(b"1e5"),
+        slices::name(TEXT, &mut []),
+        slices::numeral(1.0, &mut []),
+        Refusal::Torn.to_string(),
+    );
 }
 
 #[test]

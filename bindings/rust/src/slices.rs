@@ -416,7 +416,6 @@ pub fn name(text: &[u8], out: &mut [u8]) -> usize {
 }
 
 /// The same of a text that [`read_saved`] reads; it is UTF-8.
-#[must_use]
 pub fn name_saved(text: &[u8], out: &mut [u8]) -> usize {
     ffi::name_saved(text, out)
 }

@@ -283,7 +283,7 @@ fn gimp_texts_as_gimp_saves_them() {
     let long = read(&good.replace("0.5 1", "0.50000000000000000000 1.0000000000000000e+00")).expect("long numbers");
     assert_eq!(long, same);
     let curved = read(&good.replace("0 0\n", "1 0\n")).expect("a curved segment");
-    assert_eq!((curved.at(0.5).r, curved.lent().kind), (0.5, Kind::GimpSaved));
+    assert_eq!((curved.at(0.5).r, curved.as_slices().kind), (0.5, Kind::GimpSaved));
     assert_eq!(strict(&good.replace("0 0.5", "0 5e-1")).map_err(blamed), Err((Refusal::BadSegment, 4)));
     let cases = [
         (good.replace("\n1\n", "\n1\u{e9}\n"), Refusal::NotAText, 0),

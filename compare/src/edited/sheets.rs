@@ -66,7 +66,7 @@ fn random_sheet(random: &mut Random, is_within: bool) -> Sheet {
     while ramp.positions.len() > MANY && !random.one_in(8) {
         ramp = random_or_spoilt(random, kind);
     }
-    let stops = if kind == Kind::Gimp { ramp.codes.len() / 2 } else { ramp.positions.len() };
+    let stops = if kind.is_gimp() { ramp.codes.len() / 2 } else { ramp.positions.len() };
     let most = match random.below(8) {
         0 => stops,
         1 => stops + random.below(4),
@@ -132,7 +132,7 @@ fn fresh(sheet: &Sheet, before: &Sheet, ramp: &Ramp, spent: usize, got: (u32, [u
         0 => [ramp.positions.len(), due.stops, spent + due.evaluations],
         _ => [ramp.positions.len(), 0, 0],
     };
-    let told = if ramp.kind == Kind::Gimp { [sheet.stops, told[1], told[2]] } else { told };
+    let told = if ramp.kind.is_gimp() { [sheet.stops, told[1], told[2]] } else { told };
     let is_made = is_start(&ramp.positions, &before.ramp.positions, &sheet.ramp.positions)
         && is_start(&ramp.channels, &before.ramp.channels, &sheet.ramp.channels)
         && sheet.stops == told[0];

@@ -2,7 +2,7 @@
 
 use crate::harness::ffi;
 use crate::harness::oracle::Record;
-use crate::harness::ramps::{Kind, Ramp};
+use crate::harness::ramps::Ramp;
 use crate::judged::apart;
 use crate::judged::judge::Verdict;
 use crate::judged::within::Asked;
@@ -295,9 +295,10 @@ pub struct Sheet {
 impl Sheet {
     /// How many positions and channels are the ramp's own.
     pub fn lengths(&self) -> (usize, usize) {
-        match self.ramp.kind {
-            Kind::Gimp => (3 * self.stops, 8 * self.stops),
-            _ => (self.stops, 4 * self.stops),
+        if self.ramp.kind.is_gimp() {
+            (3 * self.stops, 8 * self.stops)
+        } else {
+            (self.stops, 4 * self.stops)
         }
     }
 

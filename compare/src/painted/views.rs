@@ -18,7 +18,7 @@ const POINTS: usize = 12;
 const MOST_BANDS: usize = 260;
 
 pub fn run(options: &Options) -> Vec<Tally> {
-    let kinds = KINDS.iter().filter(|kind| **kind != Kind::Gimp).map(|kind| one_kind(options, *kind));
+    let kinds = KINDS.iter().filter(|kind| !kind.is_gimp()).map(|kind| one_kind(options, *kind));
     kinds.chain(std::iter::once(long_lists(options))).collect()
 }
 
