@@ -26,6 +26,7 @@
 #include <stdbool.h>
 #include <stddef.h>
 #include <stdint.h>
+#include <string.h>
 
 #ifdef __cplusplus
 extern "C" {
@@ -38,14 +39,16 @@ extern "C" {
 #define COLORGRAD_VERSION (1000u * (1000u * COLORGRAD_VERSION_MAJOR + COLORGRAD_VERSION_MINOR) + COLORGRAD_VERSION_PATCH)
 #define COLORGRAD_VERSION_TEXT "0.2.0"
 
-/* ---- kinds of ramp; any other number is refused with 1 */
+/* ---- kinds of ramp; any other number is refused with 1. COLORGRAD_GIMP_SAVED takes every segment that COLORGRAD_GIMP takes, with
+ * the same colours, and curved ones (blending 1) too */
 typedef enum {
     COLORGRAD_LINEAR = 0,
     COLORGRAD_SMOOTHSTEP = 1,
     COLORGRAD_SHARP = 2,
     COLORGRAD_BASIS = 3,
     COLORGRAD_CATMULL_ROM = 4,
-    COLORGRAD_GIMP = 5
+    COLORGRAD_GIMP = 5,
+    COLORGRAD_GIMP_SAVED = 6
 } ColorgradKind;
 
 /* ---- sorts of edit; any other number is refused with 6 */
@@ -55,6 +58,12 @@ typedef enum {
     COLORGRAD_EDIT_ADD = 2,    /* a stop more, with the position and the colour; stop is the index that it gets */
     COLORGRAD_EDIT_REMOVE = 3  /* stop goes */
 } ColorgradSort;
+
+/* ---- sorts of list of a sheet; any other number is the latter */
+typedef enum {
+    COLORGRAD_LIST_THINNED = 0, /* as colorgrad_ramp_flatten makes it; the hold is not read */
+    COLORGRAD_LIST_WITHIN = 1   /* as colorgrad_ramp_flatten_within makes it: one that keeps its word within the hold */
+} ColorgradListSort;
 
 /* ---- verdicts on a list; ColorgradJudged has them as a number, which may be cast to this */
 typedef enum {
@@ -72,10 +81,12 @@ typedef enum {
 #define COLORGRAD_CLOSE 2u  /* the ramp itself does not tell it from the depth before: no fault of the list */
 #define COLORGRAD_MERGED 4u /* the ramp tells it from the depth before, and the list does not */
 
-/* ---- codes of a GIMP segment that are carried: five of blending, three of colouring. The middle of a sinusoidal segment
- * must not be outside its ends, or the segment counts as not carried. With HSV the colours are mixed as hue, saturation and
+/* ---- codes of a GIMP segment that are carried: six of blending, three of colouring. A curved segment is carried by ramps of kind
+ * COLORGRAD_GIMP_SAVED alone. The middle of a sinusoidal or curved segment must not be outside its ends, or the segment counts as
+ * not carried. With HSV the colours are mixed as hue, saturation and
  * value, by docs/HSV.md: hues rise, or fall, from the left one to the right one, and equal hues go the full turn. */
 #define COLORGRAD_BLEND_LINEAR 0u
+#define COLORGRAD_BLEND_CURVED 1u
 #define COLORGRAD_BLEND_SINUSOIDAL 2u
 #define COLORGRAD_BLEND_SPHERICAL_INCREASING 3u
 #define COLORGRAD_BLEND_SPHERICAL_DECREASING 4u
@@ -268,6 +279,23 @@ typedef struct {
     float colours[4 * COLORGRAD_MOST_POINTS];
 } ColorgradListRoom;
 
+/* A sheet: a ramp, its record and its list, 152 KB in all, which colorgrad_sheet_open fills and colorgrad_sheet_edit alone
+ * changes. */
+typedef struct {
+    ColorgradKind kind;
+    float threshold;
+    ColorgradListSort list_sort;
+    float hold;
+    size_t stops;          /* of the ramp, of a GIMP ramp its segments; 0 where none was opened */
+    size_t listed;         /* stops of the list, 0 where it is refused */
+    uint32_t list_refusal; /* of the list: 0, 7, 8, 9 or 21 */
+    float positions[COLORGRAD_MOST_STOPS];
+    float channels[4 * COLORGRAD_MOST_STOPS];
+    uint8_t codes[2 * COLORGRAD_MOST_SEGMENTS];
+    ColorgradRecordRoom record;
+    ColorgradListRoom list;
+} ColorgradSheet;
+
 static inline ColorgradStops colorgrad_stops(const float *positions, const float *channels, size_t stops)
 {
     ColorgradStops made = {positions, stops, channels, 4 * stops};
@@ -305,14 +333,24 @@ static inline ColorgradStops colorgrad_list_stops(ColorgradList list, size_t sto
     return colorgrad_stops(list.places, list.colours, is_room ? stops : 0);
 }
 
-/* The ramp of the first segments: those that a call read. */
-static inline ColorgradRamp colorgrad_segments_ramp(ColorgradSegments room, size_t segments)
+/* The ramp of the first segments: those that a call read. The kind says whether they may be curved. */
+static inline ColorgradRamp colorgrad_segments_of_kind(ColorgradKind kind, ColorgradSegments room, size_t segments)
 {
     bool is_room = segments <= room.positions_length / 3 && segments <= room.channels_length / 8 &&
                    segments <= room.codes_length / 2;
     size_t n = is_room ? segments : 0;
-    ColorgradRamp made = {COLORGRAD_GIMP, room.positions, 3 * n, room.channels, 8 * n, room.codes, 2 * n};
+    ColorgradRamp made = {kind, room.positions, 3 * n, room.channels, 8 * n, room.codes, 2 * n};
     return made;
+}
+
+static inline ColorgradRamp colorgrad_segments_ramp(ColorgradSegments room, size_t segments)
+{
+    return colorgrad_segments_of_kind(COLORGRAD_GIMP, room, segments);
+}
+
+static inline ColorgradRamp colorgrad_saved_ramp(ColorgradSegments room, size_t segments)
+{
+    return colorgrad_segments_of_kind(COLORGRAD_GIMP_SAVED, room, segments);
 }
 
 /* ---- what a call answers: the refusal, or 0 and what is named here; what is not answered is 0 */
@@ -353,6 +391,14 @@ typedef struct {
     size_t stops; /* how many were written */
     size_t evaluations;
 } ColorgradListed;
+
+/* Of a sheet. With 7, 8, 9 or 21 the list alone is refused; with any other refusal nothing is changed. */
+typedef struct {
+    uint32_t refusal;
+    size_t stops;  /* of the ramp as it is now, also where the call is refused */
+    size_t listed; /* stops of the list */
+    size_t evaluations;
+} ColorgradSheetAnswer;
 
 /* Where a caller is in a list: all that it keeps between two steps. A place that is all 0 is the start. Row and index count
  * after a stop alone; any state above 1 is the end. */
@@ -415,6 +461,9 @@ extern "C" {
 #define COLORGRAD_OF_DEPTHS(x) (x).depths, (x).depths_length
 #define COLORGRAD_OF_FAULTS(x) (x).faults, (x).faults_length
 #define COLORGRAD_OF_EDIT(x) (uint32_t)(x).sort, (x).stop, (x).position, (x).colour
+#define COLORGRAD_OF_SHEET(x)                                                                                               \
+    (x)->record.rows, COLORGRAD_ROWS, (x)->record.counts, COLORGRAD_CELLS, (x)->record.marks, COLORGRAD_MARKS,              \
+        (x)->list.places, COLORGRAD_MOST_POINTS, (x)->list.colours, 4 * COLORGRAD_MOST_POINTS
 
 /* ---- ramps */
 
@@ -463,8 +512,19 @@ static inline ColorgradRead colorgrad_read_segments(const uint8_t *text, size_t 
     return colorgrad_read(text, text_length, foreground, background, COLORGRAD_OF_SEGMENTS(room));
 }
 
-/* colorgrad_name (colorgrad_calls.h): how long the file's name is; its bytes are written to the start of out where out holds
- * them all, else out stays as it was. 0 where the file would be refused with room for 256 segments. */
+/* The same of a file as GIMP itself saves it: its numbers may be long (17 significant digits, an exponent), its name in UTF-8, and
+ * its segments curved. The ramp is then colorgrad_saved_ramp. What colorgrad_read_segments reads is read the same. 131,072 bytes
+ * at most; what follows the segments counted is not looked at. */
+static inline ColorgradRead colorgrad_read_saved_segments(const uint8_t *text, size_t text_length,
+                                                          ColorgradRgba foreground, ColorgradRgba background,
+                                                          ColorgradSegments room)
+{
+    return colorgrad_read_saved(text, text_length, foreground, background, COLORGRAD_OF_SEGMENTS(room));
+}
+
+/* colorgrad_name and colorgrad_name_saved (colorgrad_calls.h): how long the file's name is; its bytes are written to the start of
+ * out where out holds them all, else out stays as it was. 0 where the file would be refused with room for 256 segments, by
+ * colorgrad_read_segments or colorgrad_read_saved_segments. */
 
 /* Bytes that are enough for a list of n stops: with this room, 7 is never given. 0 for fewer than 2 stops, which are refused
  * with 1. n is evaluated twice. */
@@ -614,6 +674,100 @@ static inline ColorgradListed colorgrad_ramp_edit_list(ColorgradRamp ramp, Color
                                COLORGRAD_OF_LIST(list));
 }
 
+/* ---- a sheet: a ramp, its record and its list, which stay of one ramp through any number of edits
+ *
+ * A record that is lent by itself is its caller's own affair: one of another ramp on the same domain, sampled with the same
+ * threshold, is refreshed without a word; and a caller that forgets to make the edit in its own ramp loses it at the next
+ * one. A sheet holds all three, and an edit changes all three: this is the way to edit. After any edits, refused ones among
+ * them, its record is the one that colorgrad_ramp_sample fills for its ramp, and its list the one that
+ * colorgrad_ramp_flatten makes of it, or colorgrad_ramp_flatten_within. Only the calls below may write it. */
+
+/* Whether a ramp of this kind has segments, and no stops. */
+static inline bool colorgrad_has_segments(ColorgradKind kind)
+{
+    return kind == COLORGRAD_GIMP || kind == COLORGRAD_GIMP_SAVED;
+}
+
+/* The ramp of a sheet; its numbers stay the sheet's. */
+static inline ColorgradRamp colorgrad_sheet_ramp(const ColorgradSheet *sheet)
+{
+    bool is_gimp = colorgrad_has_segments(sheet->kind);
+    size_t n = sheet->stops;
+    ColorgradRamp made = {sheet->kind, sheet->positions, is_gimp ? 3 * n : n, sheet->channels, (is_gimp ? 8 : 4) * n,
+                          sheet->codes, is_gimp ? 2 * n : 0};
+    return made;
+}
+
+/* The list of a sheet; its numbers stay the sheet's. It has no stops where the list is refused. */
+static inline ColorgradStops colorgrad_sheet_list(const ColorgradSheet *sheet)
+{
+    return colorgrad_stops(sheet->list.places, sheet->list.colours, sheet->listed);
+}
+
+/* Keeps what a call on a sheet answered. */
+static inline ColorgradSheetAnswer colorgrad_sheet_keep(ColorgradSheet *sheet, uint32_t refusal, const size_t *told)
+{
+    bool is_list = refusal == COLORGRAD_NO_ROOM || refusal == COLORGRAD_LIST_NOT_FINITE ||
+                   refusal == COLORGRAD_LIST_FALLING || refusal == COLORGRAD_NOT_SHOWN;
+    if (refusal == COLORGRAD_FINE || is_list) {
+        sheet->stops = told[0];
+        sheet->listed = told[1];
+        sheet->list_refusal = refusal;
+    }
+    ColorgradSheetAnswer answer = {refusal, sheet->stops, sheet->listed, told[2]};
+    return answer;
+}
+
+/* Copies a ramp into a sheet, whatever was in it, and fills its record and its list. Refused with 1 to 5: the sheet has no
+ * stops, and every edit of it is refused with 1. Refused with 7, 8 or 21: the list alone is, and has no stops; a further edit
+ * can mend it. */
+static inline ColorgradSheetAnswer colorgrad_sheet_open(ColorgradSheet *sheet, ColorgradRamp ramp, float threshold,
+                                                        ColorgradListSort list_sort, float hold)
+{
+    size_t told[3] = {0, 0, 0};
+    size_t stops = colorgrad_has_segments(ramp.kind) ? ramp.codes_length / 2 : ramp.positions_length;
+    uint32_t refusal = colorgrad_ramp_check(ramp);
+    sheet->kind = ramp.kind;
+    sheet->threshold = threshold;
+    sheet->list_sort = list_sort;
+    sheet->hold = hold;
+    sheet->stops = 0;
+    sheet->listed = 0;
+    sheet->list_refusal = COLORGRAD_FINE;
+    if (refusal != COLORGRAD_FINE)
+        return colorgrad_sheet_keep(sheet, refusal, told);
+    memcpy(sheet->positions, ramp.positions, ramp.positions_length * sizeof(float));
+    memcpy(sheet->channels, ramp.channels, ramp.channels_length * sizeof(float));
+    if (ramp.codes_length > 0)
+        memcpy(sheet->codes, ramp.codes, ramp.codes_length);
+    refusal = colorgrad_sheet_open_told(
+        (uint32_t)ramp.kind, sheet->positions, COLORGRAD_MOST_STOPS, sheet->channels, 4 * COLORGRAD_MOST_STOPS,
+        sheet->codes, ramp.codes_length, stops, threshold, (uint32_t)list_sort, hold, COLORGRAD_OF_SHEET(sheet), told, 3);
+    return colorgrad_sheet_keep(sheet, refusal, told);
+}
+
+/* Makes an edit: of the ramp, of the record and of the list. Refused with 1 to 6 or 20: nothing is changed; an addition to
+ * COLORGRAD_MOST_STOPS stops is 6. Refused with 7, 8, 9 or 21: the edit is made, and the list alone is refused and has no
+ * stops; a further edit can mend it. */
+static inline ColorgradSheetAnswer colorgrad_sheet_edit(ColorgradSheet *sheet, ColorgradEdit edit)
+{
+    size_t told[3] = {0, 0, 0};
+    uint32_t refusal = colorgrad_sheet_edit_told(
+        (uint32_t)sheet->kind, sheet->positions, COLORGRAD_MOST_STOPS, sheet->channels, 4 * COLORGRAD_MOST_STOPS,
+        sheet->codes, colorgrad_has_segments(sheet->kind) ? 2 * sheet->stops : 0, sheet->stops, (uint32_t)edit.sort, edit.stop,
+        edit.position, edit.colour.r, edit.colour.g, edit.colour.b, edit.colour.a, sheet->threshold,
+        (uint32_t)sheet->list_sort, sheet->hold, COLORGRAD_OF_SHEET(sheet), told, 3);
+    return colorgrad_sheet_keep(sheet, refusal, told);
+}
+
+/* Whether the list of a sheet shows its ramp within its threshold: colorgrad_ramp_judge, below, of the two. */
+static inline ColorgradJudged colorgrad_sheet_judge(const ColorgradSheet *sheet)
+{
+    ColorgradRamp ramp = colorgrad_sheet_ramp(sheet);
+    return colorgrad_judge(COLORGRAD_OF_RAMP(ramp), sheet->threshold, sheet->list.places, sheet->listed,
+                           sheet->list.colours, 4 * sheet->listed);
+}
+
 /* ---- a list that was made elsewhere
  *
  * Whether a list of stops, mixed linearly, shows a ramp within a threshold. The verdict is yes exactly where the list has 2
@@ -657,6 +811,15 @@ static inline ColorgradToken colorgrad_token(const uint8_t *text, size_t text_le
 {
     ColorgradToken token = {false, 0.0f};
     token.is_number = colorgrad_token_told(text, text_length, &token.value, 1) != 0;
+    return token;
+}
+
+/* The same of a long token: any number of digits, of which 19 count when zeros at the start and at the end are left off, and
+ * then perhaps 'e' or 'E', a sign or none and digits. A number beyond every float is infinite. */
+static inline ColorgradToken colorgrad_long_token(const uint8_t *text, size_t text_length)
+{
+    ColorgradToken token = {false, 0.0f};
+    token.is_number = colorgrad_long_token_told(text, text_length, &token.value, 1) != 0;
     return token;
 }
 

@@ -53,8 +53,17 @@ uint32_t colorgrad_read_told(const uint8_t *text, size_t text_length, float fore
                              float *channels, size_t channels_length, uint8_t *codes, size_t codes_length, size_t *told,
                              size_t told_length);
 
-/* answers the name's length */
+/* told: line, segments; a refusal too has its line */
+uint32_t colorgrad_read_saved_told(const uint8_t *text, size_t text_length, float foreground_r, float foreground_g,
+                                   float foreground_b, float foreground_a, float background_r, float background_g,
+                                   float background_b, float background_a, float *positions, size_t positions_length,
+                                   float *channels, size_t channels_length, uint8_t *codes, size_t codes_length,
+                                   size_t *told, size_t told_length);
+
+/* each answers the name's length */
 size_t colorgrad_name(const uint8_t *text, size_t text_length, uint8_t *out, size_t out_length);
+
+size_t colorgrad_name_saved(const uint8_t *text, size_t text_length, uint8_t *out, size_t out_length);
 
 /* told: bytes */
 uint32_t colorgrad_write_ggr_told(const float *positions, size_t positions_length, const float *channels,
@@ -142,6 +151,26 @@ uint32_t colorgrad_edit_list_told(uint32_t kind, const float *positions, size_t 
                                   size_t places_length, float *colours, size_t colours_length, size_t *told,
                                   size_t told_length);
 
+/* ---- sheets: a ramp with room, of which the first `stops` stops count (of a GIMP ramp segments), its record and its list;
+ * list_sort 0 is the list that thinning makes, any other number the one that keeps its word within the hold */
+
+/* told: stops of the ramp, also where it is refused; stops of the list; evaluations */
+uint32_t colorgrad_sheet_open_told(uint32_t kind, const float *positions, size_t positions_length,
+                                   const float *channels, size_t channels_length, const uint8_t *codes,
+                                   size_t codes_length, size_t stops, float threshold, uint32_t list_sort, float hold,
+                                   float *rows, size_t rows_length, uint8_t *counts, size_t counts_length,
+                                   uint32_t *marks, size_t marks_length, float *places, size_t places_length,
+                                   float *colours, size_t colours_length, size_t *told, size_t told_length);
+
+/* told: stops of the ramp as it is now, also where it is refused; stops of the list; evaluations */
+uint32_t colorgrad_sheet_edit_told(uint32_t kind, float *positions, size_t positions_length, float *channels,
+                                   size_t channels_length, const uint8_t *codes, size_t codes_length, size_t stops,
+                                   uint32_t sort, size_t stop, float position, float r, float g, float b, float a,
+                                   float threshold, uint32_t list_sort, float hold, float *rows, size_t rows_length,
+                                   uint8_t *counts, size_t counts_length, uint32_t *marks, size_t marks_length,
+                                   float *places, size_t places_length, float *colours, size_t colours_length,
+                                   size_t *told, size_t told_length);
+
 /* ---- the tool, and the leaves below it */
 
 /* answers how many bytes are printed */
@@ -154,6 +183,7 @@ float colorgrad_cutoff(float t);
 
 /* answers 1 where the bytes are a number, else 0; value: the number, 0 if none */
 uint32_t colorgrad_token_told(const uint8_t *text, size_t text_length, float *value, size_t value_length);
+uint32_t colorgrad_long_token_told(const uint8_t *text, size_t text_length, float *value, size_t value_length);
 
 /* ---- messages and the version */
 

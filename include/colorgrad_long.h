@@ -63,6 +63,20 @@ static inline ColorgradRead colorgrad_read(const uint8_t *text, size_t text_leng
     return read;
 }
 
+static inline ColorgradRead colorgrad_read_saved(const uint8_t *text, size_t text_length, ColorgradRgba foreground,
+                                                 ColorgradRgba background, float *positions, size_t positions_length,
+                                                 float *channels, size_t channels_length, uint8_t *codes,
+                                                 size_t codes_length)
+{
+    size_t told[2] = {0, 0};
+    uint32_t refusal = colorgrad_read_saved_told(text, text_length, foreground.r, foreground.g, foreground.b,
+                                                 foreground.a, background.r, background.g, background.b, background.a,
+                                                 positions, positions_length, channels, channels_length, codes,
+                                                 codes_length, told, 2);
+    ColorgradRead read = {refusal, told[0], told[1]};
+    return read;
+}
+
 static inline ColorgradWritten colorgrad_write_ggr(const float *positions, size_t positions_length,
                                                    const float *channels, size_t channels_length, uint8_t *text,
                                                    size_t text_length)

@@ -1,4 +1,4 @@
-//! Finds the static library: in the folder that $GUINEAPLUME_LIB names, else where `./library` leaves it. Where there is
+//! Finds the static library: in the folder that `$GUINEAPLUME_LIB` names, else where `./library` leaves it. Where there is
 //! none, or one for another machine, a line says so.
 
 use std::path::{Path, PathBuf};

@@ -1,91 +1,92 @@
 //! Compares the library with the published Rust, and times both.
 
-mod apart;
-mod bench;
 // the exports, declared once in the repository; not all of them are compared here
-#[allow(dead_code)]
-#[path = "../../bindings/rust/src/calls.rs"]
-mod calls;
-mod clock;
-mod colours;
-mod count;
-mod counts;
-mod edits;
-mod files;
-mod gimp_texts;
-mod hues;
-mod judge;
-mod limits;
-mod list_limits;
-mod lists;
-mod lists_apart;
-mod lists_within;
-mod many;
-mod marks;
-mod merged;
-mod options;
-mod oracle;
-mod ordinary;
-mod ours;
-mod own_lists;
-mod promised;
-mod ramps;
-mod random;
-mod refresh;
-mod refused;
-mod report;
-mod roots;
-mod sample;
-mod sample_within;
-mod sharp;
-mod shown;
-mod sine;
-mod sine_lists;
-mod smallest;
-mod sorts;
-mod steps;
-mod texts;
-mod tokens;
-mod torn;
-mod typing;
-mod weighing;
-mod within;
-mod word;
-mod written;
 
-use options::Options;
-use report::Tally;
+mod edited;
+mod gimp;
+mod harness;
+mod judged;
+mod leaves;
+mod listed;
+mod painted;
+mod stored;
+mod timed;
+
+use edited::edits;
+use edited::refresh;
+use edited::sheets;
+use edited::typing;
+use gimp::counts;
+use gimp::files;
+use gimp::saved;
+use gimp::texts;
+use gimp::torn;
+use gimp::written;
+use harness::options::Options;
+use harness::report;
+use harness::report::Tally;
+use harness::smallest;
+use judged::judge;
+use judged::lists_apart;
+use judged::lists_within;
+use judged::merged;
+use judged::own_lists;
+use judged::word;
+use leaves::long_tokens;
+use leaves::roots;
+use leaves::tokens;
+use listed::lists;
+use listed::many;
+use listed::marks;
+use listed::promised;
+use listed::sine_lists;
+use listed::steps;
+use painted::colours;
+use painted::curves;
+use painted::hues;
+use painted::sharp;
+use painted::shown;
+use painted::sine;
+use painted::views;
 use std::path::Path;
 use std::process::ExitCode;
+use stored::sample;
+use timed::bench;
+use timed::count;
 
 const USAGE: &str = "compare COMMAND [N] [--seed S] [--case I]
-  roots tokens colours sine waves hues sharp texts counts torn lists refresh edits marks many promise steps numerals written judge within apart
+  roots tokens long_tokens colours sine waves hues curves sharp texts saved counts torn lists refresh edits marks many promise steps numerals written judge within apart
+  sheets views
                      one comparison, of N inputs or at its full size
   all [PERCENT]      every comparison, at its full size or at that part of it
   differences        the smallest inputs of docs/DIFFERENCES.md, with the Rust's answers and ours
-  gimp FOLDER [N]    N lists written there as .ggr files (200), for compare/gimp.py
+  gimp FOLDER [N]    N lists written there as .ggr files (200), for compare/trade/gimp.py
   files FOLDER       the .ggr files in it, as compare/fetch gets them
-  bench [TABLE]      times beside the Rust's: root token paint files read flatten growth within apart refresh
+  saved-files FOLDER the .ggr files in it by the rules for what GIMP saves, each whole and damaged
+  bench [TABLE]      times beside the Rust's: root token paint files read flatten growth within apart refresh sheet
   count [TABLE]      instructions in place of times, by valgrind's callgrind
   own [N] [FOLDER]   how many of our own lists are turned down, of N random ramps and of the .ggr files in FOLDER
   word [N] [FOLDER]  lists that keep their word beside the published ones, of N ramps of each sort (2,000) and of those files
   merged [N] [FOLDER] how many lists show two depths as one, published ones and those that keep their word, of the same ramps
   typing             request (x): how much of a fresh flattening a keystroke is, and whether its two figures hold
-  shown FILE ..      the colours of .ggr files at 256 points, as text, for compare/gimp_colours.py
+  shown FILE ..      the colours of .ggr files at 256 points, as text, for compare/trade/gimp_colours.py
   sample FOLDER      the stored answers of the program replay, as FOLDER/stdin and FOLDER/stdout";
 
 type Comparison = (&'static str, fn(&Options) -> Vec<Tally>, u64);
 
 /// Each comparison with its full size.
-const COMPARISONS: [Comparison; 22] = [
+const COMPARISONS: [Comparison; 27] = [
     ("roots", roots::run, 1 << 32),
     ("tokens", tokens::run, 100_000_000),
+    ("long_tokens", long_tokens::run, 100_000_000),
     ("colours", colours::run, 2_000_000),
     ("sine", sine::run, 12_000_000),
     ("waves", sine_lists::run, 100_000),
     ("hues", hues::run, 12_000_000),
+    ("curves", curves::run, 12_000_000),
     ("sharp", sharp::run, 1_000_000),
     ("texts", texts::run, 200_000),
+    ("saved", saved::run, 400_000),
     ("counts", counts::run, 400_000),
     ("torn", torn::run, 100_000),
     ("lists", lists::run, 20_000),
@@ -100,6 +101,8 @@ const COMPARISONS: [Comparison; 22] = [
     ("judge", judge::run, 100_000),
     ("within", lists_within::run, 100_000),
     ("apart", lists_apart::run, 100_000),
+    ("sheets", sheets::run, 20_000),
+    ("views", views::run, 2_000_000),
 ];
 
 fn main() -> ExitCode {
@@ -128,6 +131,10 @@ fn run(words: &[String]) -> Result<bool, String> {
         "files" => {
             let folder = options.name.as_ref().ok_or("a folder is missing")?;
             Ok(report::summary(&files::run(&options, Path::new(folder))))
+        }
+        "saved-files" => {
+            let folder = options.name.as_ref().ok_or("a folder is missing")?;
+            Ok(report::summary(&saved::files(&options, Path::new(folder))))
         }
         "gimp" => {
             let folder = options.name.as_ref().ok_or("a folder is missing")?;

@@ -4,7 +4,7 @@
 // how crates/replay/stdout begins.
 import { readFileSync } from 'node:fs';
 import { join } from 'node:path';
-import { call, CELLS, copy, lend, MARKS, ROOT, ROWS, takeBack } from './library.mjs';
+import { call, CELLS, copy, lend, MARKS, meanwhile, ROOT, ROWS } from './library.mjs';
 
 const FOLDER = join(ROOT, 'crates/replay');
 const [RUBBISH, NAN, MOST_SEGMENTS, MOST_COLOURS] = [7.5, 0x7fc00000, 256, 256];
@@ -117,10 +117,7 @@ function stale() {
 /** As many records of one sort as the next word says. */
 function replayed(sort) {
     const equal = [];
-    for (let left = word(); left > 0; left--) {
-        takeBack();
-        equal.push(...sort());
-    }
+    for (let left = word(); left > 0; left--) equal.push(...meanwhile(sort));
     return `${sort.name} ${equal.length} equal ${equal.filter(Boolean).length}\n`;
 }
 

@@ -5,7 +5,7 @@
 import { execFileSync } from 'node:child_process';
 import { readdirSync, readFileSync } from 'node:fs';
 import { join } from 'node:path';
-import { call, CELLS, copy, lend, MARKS, ROOT, ROWS, takeBack } from './library.mjs';
+import { call, CELLS, copy, lend, MARKS, meanwhile, ROOT, ROWS } from './library.mjs';
 
 const [ROOM, MOST_PRINTED, THRESHOLD] = [1000, 50029, 0.007];
 
@@ -64,11 +64,8 @@ function putTogether(input) {
 function differs(file) {
     const input = readFileSync(file);
     const printed = execFileSync(join(ROOT, 'flatten'), [file], { encoding: 'utf8' });
-    const texts = [];
-    for (const answer of printed.startsWith('unread') ? [desk] : [desk, putTogether]) {
-        takeBack();
-        texts.push([answer.name, answer(input)]);
-    }
+    const answers = printed.startsWith('unread') ? [desk] : [desk, putTogether];
+    const texts = answers.map(answer => [answer.name, meanwhile(() => answer(input))]);
     const wrong = texts.filter(([, text]) => text !== printed);
     for (const [name, text] of wrong) console.log(`${file}: ${name}\n${text}./flatten\n${printed}`);
     return wrong.length > 0;

@@ -225,6 +225,24 @@ static ColorgradRead read_text(const char *text, size_t length, ColorgradSegment
     return colorgrad_read_segments((const uint8_t *)text, length, black, white, room);
 }
 
+/* As GIMP saves it: a name in another script, a number with an exponent, a curved segment. */
+static void saved_by_gimp(void)
+{
+    static const char text[] = "GIMP Gradient\nName: \xd0\x9c\n1\n0 5.0000000000000000e-01 1 0 0 0 1 1 1 1 1 1 0 0 0\n";
+    const ColorgradRgba black = {0.0f, 0.0f, 0.0f, 1.0f}, white = {1.0f, 1.0f, 1.0f, 1.0f};
+    float places[3], colours[8];
+    uint8_t codes[2], name[4];
+    ColorgradSegments room = {places, 3, colours, 8, codes, 2};
+    ColorgradRead strict = read_text(text, strlen(text), room);
+    ColorgradRead read = colorgrad_read_saved_segments((const uint8_t *)text, strlen(text), black, white, room);
+    ColorgradColour at = colorgrad_ramp_at(colorgrad_saved_ramp(room, read.segments), 0.5f);
+    expect(strict.refusal == COLORGRAD_NOT_A_TEXT, "not a text of document 01's");
+    expect(read.refusal == COLORGRAD_FINE && read.segments == 1, "a text that GIMP saved");
+    expect(at.refusal == COLORGRAD_FINE && at.colour.r == 0.5f, "its colour at the middle");
+    expect(colorgrad_name_saved((const uint8_t *)text, strlen(text), name, sizeof name) == 2 && name[0] == 0xd0,
+           "a name in UTF-8");
+}
+
 static void gimp(void)
 {
     static const char text[] = "GIMP Gradient\nName: Shelf\n2\n"
@@ -239,6 +257,7 @@ static void gimp(void)
     ColorgradColour at = colorgrad_ramp_at(colorgrad_segments_ramp(room, read.segments), 0.125f);
     printf("GIMP file '%.*s': %zu segments\n", (int)length, (const char *)name, read.segments);
     expect(read.refusal == COLORGRAD_FINE && read.segments == 2, "a GIMP text");
+    saved_by_gimp();
     expect(length == 5 && memcmp(name, "Shelf", 5) == 0, "its name");
     expect(at.refusal == COLORGRAD_FINE && at.colour.g == 0.25f && at.colour.b == 0.5f, "its colour half-way");
     few = read_text(text, (size_t)(strstr(text, "0.25 0.5 1") - text), room);

@@ -3,7 +3,7 @@
 import random
 import unittest
 
-from guineaplume import Colour, Edit, Judged, List, Ramp, Reason, Record, Refusal
+from guineaplume import Colour, Edit, Judged, List, Ramp, Reason, Record, Refusal, Sheet
 from guineaplume.record import ROWS
 
 RED = (1, 0, 0)
@@ -116,6 +116,72 @@ class Edits(unittest.TestCase):
                 ramp.refresh(record, edit)
             self.assertEqual(caught.exception.number, number)
             self.assertEqual(record, kept)
+
+
+class Sheets(unittest.TestCase):
+    def any_edits(self, seed, count=120):
+        chance = random.Random(seed)
+        for _ in range(count):
+            stop, colour = chance.randrange(9), [chance.random() for _ in range(4)]
+            make = chance.choice(
+                [
+                    lambda: Edit.recolour(stop, colour),
+                    lambda: Edit.move(stop, chance.random()),
+                    lambda: Edit.add(stop, chance.random(), colour),
+                    lambda: Edit.remove(stop),
+                ]
+            )
+            yield make()
+
+    def test_after_any_edits_all_is_fresh(self):
+        for make in (Ramp.linear, Ramp.smoothstep, Ramp.basis, Ramp.catmull_rom):
+            for hold in (None, 0.001):
+                sheet = Sheet(some_ramp(make, 5), hold, 0.01)
+                back, refused = [], 0
+                for edit in self.any_edits(6):
+                    before, record, listed = sheet.ramp, sheet.record, sheet.list
+                    try:
+                        back.append(sheet.edit(edit))
+                    except Refusal:
+                        refused += 1
+                        self.assertEqual((sheet.ramp, sheet.record, sheet.list), (before, record, listed))
+                        continue
+                    self.assertEqual(sheet.ramp, edit.made_in(before))
+                    whole = sheet.ramp.flatten(0.01) if hold is None else sheet.ramp.within(hold, 0.01)
+                    self.assertEqual((sheet.record, sheet.list), (whole.record, whole))
+                self.assertTrue(len(back) > 20 and refused > 10)
+                for edit in reversed(back):
+                    sheet.edit(edit)
+                self.assertEqual(sheet.ramp, some_ramp(make, 5))
+
+    def test_a_list_that_is_refused_is_mended(self):
+        sheet = Sheet(Ramp.linear([0, 0.5, 1], [[0] * 3, [0.5] * 3, [1] * 3]), hold=None)
+        sheet.edit(Edit.recolour(0, (-3.4e38, 0, 0)))
+        back = sheet.edit(Edit.recolour(1, (3.4e38, 0, 0)))
+        with self.assertRaises(Refusal) as caught:
+            sheet.judge()
+        self.assertEqual(caught.exception.number, Reason.LIST_NOT_FINITE)
+        sheet.edit(back)
+        self.assertEqual(sheet.list, sheet.ramp.flatten())
+
+    def test_what_has_no_edits(self):
+        text = b'GIMP Gradient\nName: x\n1\n0 0.5 1 0 0 0 1 1 1 1 1 0 0\n'
+        for ramp in (Ramp.from_ggr(text), Ramp.bands(['#000', '#fff'])):
+            sheet = Sheet(ramp)
+            self.assertEqual(sheet.list, ramp.within())
+            with self.assertRaises(Refusal) as caught:
+                sheet.edit(Edit.recolour(0, '#fff'))
+            self.assertEqual(caught.exception.number, Reason.BAD_EDIT)
+            self.assertEqual(sheet.ramp, ramp)
+
+    def test_a_stop_too_many(self):
+        sheet = Sheet(Ramp.linear(range(2048), [[0.5] * 3] * 2048), hold=None)
+        with self.assertRaises(Refusal) as caught:
+            sheet.edit(Edit.add(1, 0.5, '#000'))
+        self.assertEqual(caught.exception.number, Reason.MISSHAPEN)
+        sheet.edit(Edit.remove(1))
+        sheet.edit(Edit.add(1, 0.5, '#000'))
+        self.assertEqual(len(sheet.ramp), 2048)
 
 
 if __name__ == '__main__':

@@ -8,7 +8,7 @@ import warnings
 from array import array
 from pathlib import Path
 
-from guineaplume import Colour, Kind, Ramp, Reason, Refusal
+from guineaplume import Colour, Edit, Kind, Ramp, Reason, Refusal
 
 try:
     import numpy as np
@@ -33,6 +33,16 @@ class Making(unittest.TestCase):
             self.assertEqual((ramp.kind, len(ramp), ramp.domain), (kind, 4, (0.0, 1.0)))
             self.assertEqual(ramp(0.0), Colour(0.0, 0.0, 0.0, 1.0))
             self.assertEqual(ramp(1.0), Colour(1.0, 1.0, 1.0, 1.0))
+
+    def test_segments_that_are_curved(self):
+        positions, channels, codes = [0, 0.25, 1], [0, 0, 0, 1, 1, 1, 1, 1], bytes([1, 0])
+        ramp = Ramp(Kind.GIMP_SAVED, positions, channels, codes)
+        self.assertEqual((len(ramp), ramp(0.25)), (1, Colour(0.5, 0.5, 0.5, 1.0)))
+        self.assertEqual(repr(ramp), '<gimp_saved ramp of 1 segments from 0 to 1>')
+        self.assertEqual(ramp.apart(ramp.within()).depths, (0.0, 1.0))
+        self.refused(Reason.BAD_EDIT, ramp.refresh, ramp.sample(), Edit.move(0, 0.5))
+        self.refused(Reason.MISSHAPEN, Ramp, Kind.GIMP, positions, channels, codes)
+        self.refused(Reason.MISSHAPEN, Ramp, Kind.GIMP_SAVED, [0.25, 0, 1], channels, codes)
 
     def test_what_is_refused(self):
         for make in KINDS:

@@ -4,7 +4,7 @@ import unittest
 
 import guineaplume
 import header
-from guineaplume import Edit, List, Ramp, Reason, _library
+from guineaplume import Edit, List, Ramp, Reason, Sheet, _library
 
 RAMP = Ramp.linear([0, 0.5, 1], ['#000', '#c00', '#fff'])
 RECORD = RAMP.sample()
@@ -17,8 +17,10 @@ REACHED_BY = {
     'colorgrad_at_told': lambda: RAMP(0.5),
     'colorgrad_paint': lambda: RAMP([0.25, 0.75]),
     'colorgrad_sharp_told': lambda: Ramp.bands(['#000', '#fff']),
-    'colorgrad_read_told': lambda: Ramp.from_ggr(GGR),
-    'colorgrad_name': lambda: Ramp.from_ggr(GGR).name,
+    'colorgrad_read_told': lambda: Ramp.from_ggr(GGR, strict=True),
+    'colorgrad_read_saved_told': lambda: Ramp.from_ggr(GGR),
+    'colorgrad_name': lambda: Ramp.from_ggr(GGR, strict=True).name,
+    'colorgrad_name_saved': lambda: Ramp.from_ggr(GGR).name,
     'colorgrad_write_ggr_told': lambda: LIST.to_ggr(),
     'colorgrad_numeral': lambda: guineaplume.numeral(0.5),
     'colorgrad_sample_told': lambda: RAMP.sample(),
@@ -31,12 +33,15 @@ REACHED_BY = {
     'colorgrad_apart_told': lambda: RAMP.apart(LIST),
     'colorgrad_edit_told': lambda: RAMP.refresh(RECORD.copy(), Edit.move(1, 0.25)),
     'colorgrad_edit_list_told': lambda: RAMP.refresh_list(RECORD.copy(), Edit.remove(1)),
+    'colorgrad_sheet_open_told': lambda: Sheet(RAMP),
+    'colorgrad_sheet_edit_told': lambda: Sheet(RAMP).edit(Edit.remove(1)),
     'colorgrad_desk': lambda: guineaplume.desk(b'kind\tlinear\n'),
     'colorgrad_threshold': lambda: guineaplume.threshold(0.01),
     'colorgrad_hold': lambda: guineaplume.hold(0.002, 0.007),
     'colorgrad_root': lambda: guineaplume.root(2),
     'colorgrad_cutoff': lambda: guineaplume.cutoff(0.007),
     'colorgrad_token_told': lambda: guineaplume.token('0.5'),
+    'colorgrad_long_token_told': lambda: guineaplume.long_token('5e-1'),
     'colorgrad_message_told': lambda: Reason.FALLING.words,
     'colorgrad_verdict_message_told': lambda: str(RAMP.judge(List([0], ['#000']))),
     'colorgrad_version': lambda: guineaplume.library_version(),

@@ -46,6 +46,16 @@ class Files(unittest.TestCase):
             Ramp.from_ggr(GGR.replace(b'.5 .7', b'.6 .7'))
         self.assertTrue(str(caught.exception).startswith('refused 18: the segments of the GIMP text'))
 
+    def test_a_gimp_gradient_as_gimp_saves_it(self):
+        name = '\u041c\u043e\u0440\u0435'
+        text = f'GIMP Gradient\nName: {name}\n1\n0 5.0000000000000000e-01 1 0 0 0 1 1 1 1 1 1 0 0 0\n'.encode()
+        ramp = Ramp.from_ggr(text)
+        self.assertEqual((ramp.kind, ramp.name, ramp(0.5).r), (Kind.GIMP_SAVED, name, 0.5))
+        with self.assertRaises(Refusal) as caught:
+            Ramp.from_ggr(text, strict=True)
+        self.assertEqual(caught.exception.number, Reason.NOT_A_TEXT)
+        self.assertEqual(Ramp.from_ggr(GGR, strict=True), Ramp.from_ggr(GGR))
+
     def test_colour_tables(self):
         tables = [
             b'-6000 8 16 48 -200 74 144 192\n-200 74 144 192 0 216 240 248\n',

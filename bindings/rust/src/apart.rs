@@ -1,7 +1,9 @@
 //! Which depths became one in a list of stops.
 
-use crate::lent;
-use std::fmt;
+use alloc::vec::Vec;
+use core::fmt;
+
+use crate::slices;
 
 /// What became of the depths that were asked about, one after the other.
 ///
@@ -39,7 +41,7 @@ use std::fmt;
 #[derive(Clone, PartialEq, Debug)]
 pub struct Apart {
     depths: Vec<Depth>,
-    told: lent::Apart,
+    told: slices::Apart,
 }
 
 /// What became of one depth.
@@ -59,60 +61,74 @@ pub struct Depth {
 impl Depth {
     fn new(position: f32, fault: u8) -> Depth {
         let has = |bit: u8| fault & bit != 0;
-        Depth { position, moved: has(lent::MOVED), close: has(lent::CLOSE), merged: has(lent::MERGED) }
+        Depth { position, moved: has(slices::MOVED), close: has(slices::CLOSE), merged: has(slices::MERGED) }
     }
 
     /// Whether the list shows it as the ramp does: neither moved nor merged.
+    #[must_use]
     pub fn is_kept(&self) -> bool {
         !self.moved && !self.merged
     }
 
     /// In words, beside the depth before.
-    fn words(&self, before: f32) -> String {
-        let moved = self.moved.then(|| "moved".to_string());
-        let close = self.close.then(|| format!("the ramp itself does not tell it from {before}"));
-        let merged = self.merged.then(|| format!("merged with {before}"));
-        let all: Vec<String> = [moved, close, merged].into_iter().flatten().collect();
-        if all.is_empty() {
-            return "as in the ramp".into();
+    fn say(self, before: f32, f: &mut fmt::Formatter<'_>) -> fmt::Result {
+        if !(self.moved || self.close || self.merged) {
+            return f.write_str("as in the ramp");
         }
-        all.join("; ")
+        let mut between = "";
+        let mut after = || core::mem::replace(&mut between, "; ");
+        if self.moved {
+            write!(f, "{}moved", after())?;
+        }
+        if self.close {
+            write!(f, "{}the ramp itself does not tell it from {before}", after())?;
+        }
+        if self.merged {
+            write!(f, "{}merged with {before}", after())?;
+        }
+        Ok(())
     }
 }
 
 impl Apart {
     /// Of what the library told, and a byte for each depth.
-    pub(crate) fn told(told: lent::Apart, depths: &[f32], faults: &[u8]) -> Apart {
+    pub(crate) fn told(told: slices::Apart, depths: &[f32], faults: &[u8]) -> Apart {
         let depths = depths.iter().zip(faults).map(|(position, fault)| Depth::new(*position, *fault)).collect();
         Apart { depths, told }
     }
 
     /// What became of each depth, in the order asked.
+    #[must_use]
     pub fn depths(&self) -> &[Depth] {
         &self.depths
     }
 
     /// How many moved.
+    #[must_use]
     pub fn moved(&self) -> usize {
         self.told.moved
     }
 
     /// How many the ramp itself does not tell from the depth before.
+    #[must_use]
     pub fn close(&self) -> usize {
         self.told.close
     }
 
     /// How many the list does not tell from the depth before, where the ramp does.
+    #[must_use]
     pub fn merged(&self) -> usize {
         self.told.merged
     }
 
     /// The first merged one, counted from 0.
+    #[must_use]
     pub fn first_merged(&self) -> Option<usize> {
         self.told.first_merged
     }
 
     /// Whether no depth moved and none is merged.
+    #[must_use]
     pub fn is_kept(&self) -> bool {
         self.moved() == 0 && self.merged() == 0
     }
@@ -121,11 +137,12 @@ impl Apart {
 /// A line for all, and one for each depth.
 impl fmt::Display for Apart {
     fn fmt(&self, f: &mut fmt::Formatter<'_>) -> fmt::Result {
-        let lent::Apart { moved, merged, .. } = self.told;
+        let slices::Apart { moved, merged, .. } = self.told;
         write!(f, "{} depths: {moved} moved, {merged} merged with the one before", self.depths.len())?;
         let mut before = f32::NAN;
         for depth in &self.depths {
-            write!(f, "\n{}: {}", depth.position, depth.words(before))?;
+            write!(f, "\n{}: ", depth.position)?;
+            depth.say(before, f)?;
             before = depth.position;
         }
         Ok(())

@@ -1,5 +1,10 @@
 //! Edits of a ramp of stops.
 
+#[cfg(feature = "alloc")]
+use alloc::vec::Vec;
+
+#[cfg(feature = "alloc")]
+use crate::slices::Ramp;
 use crate::Color;
 
 /// One edit of a ramp's stops, which are counted from 0.
@@ -7,6 +12,7 @@ use crate::Color;
 /// A colour can be changed of linear, smoothstep, basis and Catmull-Rom ramps, of any stop. A stop is moved, added or removed
 /// of linear and smoothstep ramps; the first and the last stay.
 #[derive(Clone, Copy, PartialEq, Debug)]
+#[non_exhaustive]
 pub enum Edit {
     /// A stop gets another colour.
     Color {
@@ -49,7 +55,21 @@ impl Edit {
         }
     }
 
+    /// The edit that takes this one back, of the ramp as it is before it. None where it has no such stop.
+    #[cfg(feature = "alloc")]
+    pub(crate) fn undone(self, ramp: Ramp<'_>) -> Option<Edit> {
+        let position = |stop: usize| ramp.positions.get(stop).copied();
+        let color = |stop: usize| ramp.channels.chunks_exact(4).nth(stop).map(|c| Color::new(c[0], c[1], c[2], c[3]));
+        Some(match self {
+            Edit::Color { stop, .. } => Edit::Color { stop, color: color(stop)? },
+            Edit::Move { stop, .. } => Edit::Move { stop, position: position(stop)? },
+            Edit::Add { stop, .. } => Edit::Remove { stop },
+            Edit::Remove { stop } => Edit::Add { stop, position: position(stop)?, color: color(stop)? },
+        })
+    }
+
     /// Makes an edit that was not refused.
+    #[cfg(feature = "alloc")]
     pub(crate) fn make(self, positions: &mut Vec<f32>, channels: &mut Vec<f32>) {
         match self {
             Edit::Color { stop, color } => channels[4 * stop..4 * stop + 4].copy_from_slice(&color.to_array()),

@@ -1,75 +1,178 @@
-//! Ramps that own their stops, each kind a type of its own. A ramp was checked when it was made.
+//! What every ramp can be asked.
 
-use crate::color::{flat, unflat};
-use crate::lent::{self, Kind, MOST_SEGMENTS};
-use crate::{Apart, Color, Edit, List, ParseGgrError, Record, Refusal, Stops, Verdict};
+use alloc::boxed::Box;
+use alloc::vec;
+use alloc::vec::Vec;
 
-/// What passed its check is not refused.
-pub(crate) fn taken<T>(answer: Result<T, Refusal>) -> T {
-    match answer {
-        Ok(value) => value,
-        Err(refusal) => unreachable!("a ramp that passed its check: {refusal}"),
-    }
-}
+use crate::color::flat;
+use crate::kinds::Parts;
+use crate::slices;
+use crate::views::{self, GradientColors, InverseGradient};
+use crate::{Apart, Color, List, Record, Refusal, SharpGradient, Stops, Verdict};
 
-/// Stops or segments that passed the check.
-#[derive(Clone, PartialEq, Debug)]
-struct Parts {
-    positions: Vec<f32>,
-    channels: Vec<f32>,
-    codes: Vec<u8>,
-}
+/// Only this crate has ramps: what a [`Gradient`] lends passed the library's check, so that no call on it can panic.
+pub(crate) mod sealed {
+    use super::{Box, Gradient};
+    use crate::kinds::Parts;
 
-impl Parts {
-    fn lent(&self, kind: Kind) -> lent::Ramp<'_> {
-        lent::Ramp { kind, positions: &self.positions, channels: &self.channels, codes: &self.codes }
-    }
+    pub trait Sealed {
+        /// What an edit changes, of a ramp of stops that owns them.
+        fn parts_mut(&mut self) -> Option<&mut Parts> {
+            None
+        }
 
-    /// Refusals 1, 2, 3.
-    fn stops(kind: Kind, positions: &[f32], colors: &[Color]) -> Result<Parts, Refusal> {
-        let parts = Parts { positions: positions.to_vec(), channels: flat(colors), codes: Vec::new() };
-        parts.lent(kind).check()?;
-        Ok(parts)
+        fn clone_boxed<'a>(&self) -> Box<dyn Gradient + 'a>
+        where
+            Self: 'a;
     }
 }
 
 /// What every ramp can be asked.
-pub trait Gradient {
-    /// The ramp as slices, for the calls of [`lent`](crate::lent).
-    fn lent(&self) -> lent::Ramp<'_>;
+///
+/// The types of this crate have it, references to them and boxes of them, and no others: a ramp is stops or segments that
+/// passed the library's check.
+///
+/// ```
+/// use guineaplume::{BasisGradient, Color, Gradient, LinearGradient, Refusal};
+///
+/// let colors = ["#08306b", "#2171b5", "#f7fbff"].map(|hex| hex.parse().expect("a colour"));
+/// let ramps: Vec<Box<dyn Gradient>> = vec![
+///     LinearGradient::new(&[0.0, 0.5, 1.0], &colors)?.boxed(),
+///     BasisGradient::new(&[0.0, 0.5, 1.0], &colors)?.boxed(),
+/// ];
+/// for ramp in &ramps {
+///     let legend: Vec<String> = ramp.colors(3).map(|color| color.to_css_hex().to_string()).collect();
+///     assert_eq!((&legend[0][..], &legend[2][..]), ("#08306b", "#f7fbff"));
+/// }
+/// # Ok::<(), Refusal>(())
+/// ```
+///
+/// A type of one's own cannot have it:
+///
+/// ```compile_fail,E0277
+/// struct Mine;
+/// impl guineaplume::Gradient for Mine {
+///     fn as_slices(&self) -> guineaplume::slices::Ramp<'_> {
+///         unimplemented!()
+///     }
+/// }
+/// ```
+pub trait Gradient: sealed::Sealed {
+    /// The ramp as slices, for the calls of [`slices`](crate::slices).
+    fn as_slices(&self) -> slices::Ramp<'_>;
+
+    /// The ramp as slices.
+    #[deprecated(since = "0.2.0", note = "use `as_slices`")]
+    fn lent(&self) -> slices::Ramp<'_> {
+        self.as_slices()
+    }
 
     /// The colour at t; (0, 0, 0, 1) at not-a-number, and outside a GIMP ramp's domain.
     ///
     /// The ramp is checked each time; [`colors_at`](Gradient::colors_at) checks it once for many points.
+    #[must_use]
     fn at(&self, t: f32) -> Color {
-        taken(self.lent().at(t))
+        views::at(self.as_slices(), t)
+    }
+
+    /// The colour at t where the ramp is repeated to both sides: t is taken into the domain by whole widths of it.
+    ///
+    /// ```
+    /// use guineaplume::{Gradient, LinearGradient, Refusal};
+    ///
+    /// let ramp = LinearGradient::from_rgba_data([(0.0, [0.0, 0.0, 0.0, 1.0]), (4.0, [1.0, 1.0, 1.0, 1.0])])?;
+    /// assert_eq!(ramp.repeat_at(5.0), ramp.at(1.0));
+    /// assert_eq!(ramp.reflect_at(5.0), ramp.at(3.0));
+    /// # Ok::<(), Refusal>(())
+    /// ```
+    #[must_use]
+    fn repeat_at(&self, t: f32) -> Color {
+        self.at(views::repeated(self.domain(), t))
+    }
+
+    /// The colour at t where the ramp is repeated to both sides, every second time from its end to its start.
+    #[must_use]
+    fn reflect_at(&self, t: f32) -> Color {
+        self.at(views::reflected(self.domain(), t))
     }
 
     /// The first and the last position; (0, 1) for GIMP gradients.
+    #[must_use]
     fn domain(&self) -> (f32, f32) {
-        taken(self.lent().domain())
+        views::domain(self.as_slices())
     }
 
     /// The colours at many points.
+    #[must_use]
     fn colors_at(&self, ts: &[f32]) -> Vec<Color> {
-        let mut channels = vec![0.0; 4 * ts.len()];
-        taken(self.lent().paint(ts, &mut channels));
-        unflat(&channels)
+        views::colors_at(self.as_slices(), ts)
     }
 
-    /// The ramp as a list of stops to be mixed linearly. A point is kept where its colour differs from the mix around it by
-    /// more than the threshold. Refused with 4 where the domain reaches beyond 1e38, 8 where a colour overflows: never, on a
-    /// domain within 1e38, for a linear ramp with channels below 2^127 in size, or a smoothstep or sharp one with channels up
-    /// to a sixth of `f32::MAX`. [`Ordinary`](crate::Ordinary) has this call without a `Result`.
-    ///
-    /// A band of colour that is narrower than half a cell, a 72nd of the domain, can lie between the points that are looked
-    /// at: the list does not show it, whatever the threshold. [`flatten_within`](Gradient::flatten_within) makes one that does.
+    /// So many colours, evenly spaced over the domain, its ends among them; the first alone where one is asked for. They are
+    /// worked out as they are taken, from either end.
     ///
     /// ```
     /// use guineaplume::{Color, Gradient, LinearGradient, Refusal};
     ///
+    /// let ramp = LinearGradient::new(&[0.0, 1.0], &[Color::new(0., 0., 0., 1.), Color::new(1., 1., 1., 1.)])?;
+    /// let reds: Vec<f32> = ramp.colors(5).map(|color| color.r).collect();
+    /// assert_eq!(reds, [0.0, 0.25, 0.5, 0.75, 1.0]);
+    /// assert_eq!(ramp.colors(5).rev().next(), Some(ramp.at(1.0)));
+    /// # Ok::<(), Refusal>(())
+    /// ```
+    fn colors(&self, n: usize) -> GradientColors<'_> {
+        GradientColors::new(self.as_slices(), n)
+    }
+
+    /// The ramp in n flat bands: n colours of it, evenly spaced, as [`SharpGradient::build`] makes them. Of 0 and of 1 it is
+    /// two bands of the first colour.
+    ///
+    /// # Errors
+    /// 17 where n is above 256 or the domain cannot be parted so, 2 where a colour is not finite.
+    ///
+    /// ```
+    /// use guineaplume::{Color, Gradient, LinearGradient, Refusal};
+    ///
+    /// let ramp = LinearGradient::new(&[0.0, 1.0], &[Color::new(0., 0., 0., 1.), Color::new(1., 1., 1., 1.)])?;
+    /// let bands = ramp.sharp(5, 0.0)?;
+    /// assert_eq!((bands.at(0.1), bands.at(0.3)), (ramp.at(0.0), ramp.at(0.25)));
+    /// # Ok::<(), Refusal>(())
+    /// ```
+    fn sharp(&self, n: u16, softness: f32) -> Result<SharpGradient, Refusal> {
+        views::sharp(self.colors(views::bands(n)), self.domain(), softness)
+    }
+
+    /// The ramp seen from its other end. A view has colours and no stops, so that it is no `Gradient`: what is to be flattened
+    /// is a ramp of the stops the other way round.
+    fn inverse(&self) -> InverseGradient<'_> {
+        InverseGradient::new(self.as_slices())
+    }
+
+    /// The ramp in a box, to stand with ramps of other types.
+    fn boxed<'a>(self) -> Box<dyn Gradient + 'a>
+    where
+        Self: Sized + 'a,
+    {
+        Box::new(self)
+    }
+
+    /// The ramp as a list of stops to be mixed linearly. A point is kept where its colour differs from the mix around it by
+    /// more than the threshold.
+    ///
+    /// A band of colour that is narrower than half a cell, a 72nd of the domain, can lie between the points that are looked
+    /// at: the list does not show it, whatever the threshold. [`flatten_within`](Gradient::flatten_within) makes one that does.
+    ///
+    /// # Errors
+    /// 4 where the domain reaches beyond 1e38; 8 where a colour overflows: never, on a domain within 1e38, for a linear ramp
+    /// with channels below 2^127 in size, or a smoothstep or sharp one with channels up to a sixth of `f32::MAX`.
+    /// [`Ordinary`](crate::Ordinary) has this call without a `Result`. 1 of a [`List`] with more than 2,048 stops, here and
+    /// below.
+    ///
+    /// ```
+    /// use guineaplume::{Color, Gradient, LinearGradient, Refusal, DEFAULT_THRESHOLD};
+    ///
     /// let colors = [Color::new(0.0, 0.0, 0.0, 1.0), Color::new(1.0, 1.0, 1.0, 1.0)];
-    /// let list = LinearGradient::new(&[0.0, 1.0], &colors)?.linearize(0.007)?;
+    /// let list = LinearGradient::new(&[0.0, 1.0], &colors)?.linearize(DEFAULT_THRESHOLD)?;
     /// assert_eq!(list.positions(), [0.0, 1.0]);
     /// assert_eq!(list.evaluations(), 215);
     /// # Ok::<(), Refusal>(())
@@ -78,26 +181,35 @@ pub trait Gradient {
         self.flatten(threshold).map(|(_, list)| list)
     }
 
-    /// The same, with the record that it was made of, which a later refresh needs.
+    /// The same, with the record that it was made of, which a later refresh needs. To edit, open a [`Sheet`](crate::Sheet).
+    ///
+    /// # Errors
+    /// As [`linearize`](Gradient::linearize).
     fn flatten(&self, threshold: f32) -> Result<(Record, List), Refusal> {
         let mut record = Record::empty();
-        let list = List::made(|out| self.lent().flatten(threshold, record.lent_mut(), out))?;
+        let list = List::made(|out| self.as_slices().flatten(threshold, record.as_slices_mut(), out))?;
         record.evaluations = list.evaluations();
         Ok((record, list))
     }
 
-    /// The sample record alone. Refused with 4 where the domain reaches beyond 1e38.
+    /// The sample record alone.
+    ///
+    /// # Errors
+    /// 4 where the domain reaches beyond 1e38.
     fn sample(&self, threshold: f32) -> Result<Record, Refusal> {
         let mut record = Record::empty();
-        record.evaluations = self.lent().sample(threshold, record.lent_mut())?;
+        record.evaluations = self.as_slices().sample(threshold, record.as_slices_mut())?;
         Ok(record)
     }
 
-    /// The list of a record, at the record's threshold. Refused with 4, 8; 20 where the record is of a ramp on another
-    /// domain, or its first word is no threshold in force (see [`Record::from_parts`]); 9 where it is of another ramp and
-    /// falls. The record of another ramp on the same domain is taken, and the list is then wrong.
+    /// The list of a record, at the record's threshold. The record of another ramp on the same domain is taken, and the list
+    /// is then wrong.
+    ///
+    /// # Errors
+    /// 4, 8; 20 where the record is of a ramp on another domain, or its first word is no threshold in force (see
+    /// [`Record::from_parts`]); 9 where it is of another ramp and falls.
     fn thin(&self, record: &Record) -> Result<List, Refusal> {
-        List::made(|out| self.lent().thin(record.threshold(), record.lent(), out))
+        List::made(|out| self.as_slices().thin(record.threshold(), record.as_slices(), out))
     }
 
     /// The same stops one at a time, with room for none of them: a list's stops, or those before a faulty one and its refusal.
@@ -114,13 +226,16 @@ pub trait Gradient {
     /// # Ok::<(), Refusal>(())
     /// ```
     fn stops_of<'a>(&'a self, record: &'a Record) -> Stops<'a> {
-        Stops::new(self.lent(), record.threshold(), record.lent())
+        Stops::new(self.as_slices(), record.threshold(), record.as_slices())
     }
 
     /// A list that keeps its word, and the record that it was made of. At the ramp's own positions, and at the f32 on both
     /// sides of each, it is within the hold of the ramp; at every point of the record within the threshold, so that
     /// [`judge`](Gradient::judge) says yes to it. The hold is taken into 0.001 to the threshold in force, and is 0.001 where it
-    /// is not finite. Refused with 4; 7 where it would have more than 4,609 stops; 8; 21 for colours beyond 16,382 alone.
+    /// is not finite.
+    ///
+    /// # Errors
+    /// 4; 7 where it would have more than 4,609 stops; 8; 21 for colours beyond 16,382 alone.
     ///
     /// ```
     /// use guineaplume::{Color, Gradient, LinearGradient, Refusal, Verdict};
@@ -138,29 +253,36 @@ pub trait Gradient {
     /// ```
     fn flatten_within(&self, threshold: f32, hold: f32) -> Result<(Record, List), Refusal> {
         let mut record = Record::empty();
-        let list = List::made(|out| self.lent().flatten_within(threshold, hold, record.lent_mut(), out))?;
+        let list = List::made(|out| self.as_slices().flatten_within(threshold, hold, record.as_slices_mut(), out))?;
         record.evaluations = list.evaluations();
         Ok((record, list))
     }
 
     /// The list of a record that keeps its word, at the record's threshold. At the ramp's own positions it is within the hold
-    /// of the ramp whatever record it is made of. Refused as [`flatten_within`](Gradient::flatten_within), and with 20 as
-    /// [`thin`](Gradient::thin).
+    /// of the ramp whatever record it is made of.
+    ///
+    /// # Errors
+    /// As [`flatten_within`](Gradient::flatten_within), and 20 as [`thin`](Gradient::thin).
     fn thin_within(&self, record: &Record, hold: f32) -> Result<List, Refusal> {
-        List::made(|out| self.lent().thin_within(record.threshold(), hold, record.lent(), out))
+        List::made(|out| self.as_slices().thin_within(record.threshold(), hold, record.as_slices(), out))
     }
 
     /// What is to be said of a list of stops that was made elsewhere: whether it shows the ramp within the threshold, and
-    /// what is wrong if not. Refused with 4 where the domain reaches beyond 1e38. Examples are at [`Verdict`].
+    /// what is wrong if not. Examples are at [`Verdict`].
+    ///
+    /// # Errors
+    /// 4 where the domain reaches beyond 1e38.
     fn judge(&self, threshold: f32, positions: &[f32], colors: &[Color]) -> Result<Verdict, Refusal> {
-        self.lent().judge(threshold, positions, &flat(colors))
+        self.as_slices().judge(threshold, positions, flat(colors))
     }
 
     /// Which depths became one in a list of stops, whoever made it. At each depth the list's colour is held against the ramp's
     /// by the threshold, and both are asked whether they tell it from the depth before: whether the two colours differ by more
-    /// than the step. Refused with 4; 22 where the list is none that [`judge`](Gradient::judge) would ask for colours; 23 where
-    /// there are no depths, or one is not finite, outside the domain, or below the one before; 24 where the step is not finite
-    /// or below 0. An example is at [`Apart`].
+    /// than the step. An example is at [`Apart`].
+    ///
+    /// # Errors
+    /// 4; 22 where the list is none that [`judge`](Gradient::judge) would ask for colours; 23 where there are no depths, or one
+    /// is not finite, outside the domain, or below the one before; 24 where the step is not finite or below 0.
     fn apart(
         &self,
         threshold: f32,
@@ -170,250 +292,75 @@ pub trait Gradient {
         colors: &[Color],
     ) -> Result<Apart, Refusal> {
         let mut faults = vec![0; depths.len()];
-        let told = self.lent().apart(threshold, step, depths, positions, &flat(colors), &mut faults)?;
+        let told = self.as_slices().apart(threshold, step, depths, positions, flat(colors), &mut faults)?;
         Ok(Apart::told(told, depths, &faults))
     }
 }
 
-/// Ramps whose record can be kept true after an edit: linear, smoothstep, basis and Catmull-Rom ones.
-///
-/// ```
-/// use guineaplume::{Color, Gradient, LinearGradient, Refresh, Refusal};
-///
-/// let gray = |x: f32| Color::new(x, x, x, 1.0);
-/// let mut ramp = LinearGradient::new(&[0.0, 0.5, 0.75, 1.0], &[0.0, 0.8, 0.2, 1.0].map(gray))?;
-/// let mut record = ramp.sample(0.007)?;
-/// let list = ramp.refresh_list(1, gray(0.3), &mut record)?;
-///
-/// // the ramp has the new colour, and its record and list are the ones made afresh
-/// let (fresh, whole) = ramp.flatten(0.007)?;
-/// assert_eq!(ramp.at(0.5), gray(0.3));
-/// assert_eq!(record, fresh);
-/// assert!(list.stops().eq(whole.stops()));
-/// assert!(list.evaluations() < whole.evaluations());
-/// # Ok::<(), Refusal>(())
-/// ```
-pub trait Refresh: Gradient {
-    /// Gives a stop, counted from 0, another colour, and redoes those cells of the ramp's record that the edit touches: the
-    /// evaluations. The threshold is the record's own. Refused with 20 as [`thin`](Gradient::thin) is, with 6 where there is
-    /// no such stop or the colour is not finite, or with 4: then neither the ramp nor the record is changed.
-    fn refresh(&mut self, stop: usize, color: Color, record: &mut Record) -> Result<usize, Refusal>;
-
-    /// The same, and the list of the changed ramp; its evaluations are those of both. After 8 or 9 the ramp and the record
-    /// are changed, and there is no list.
-    fn refresh_list(&mut self, stop: usize, color: Color, record: &mut Record) -> Result<List, Refusal>;
-
-    /// Makes an edit of any sort, and redoes those cells of the ramp's record that it touches: the evaluations. Refused as
-    /// [`refresh`](Refresh::refresh), and of a stop moved, added or removed with 6 where the ramp is neither linear nor
-    /// smoothstep, where the stop is the first, the last or none, or where a number is not finite; then with 1 where there
-    /// would be more than 2,048 stops; then with 3 where the position lies before the stop before or past the one after.
-    /// Then neither the ramp nor the record is changed.
-    ///
-    /// ```
-    /// use guineaplume::{Color, Edit, Gradient, LinearGradient, Refresh, Refusal};
-    ///
-    /// let gray = |x: f32| Color::new(x, x, x, 1.0);
-    /// let mut ramp = LinearGradient::new(&[0.0, 0.5, 1.0], &[0.0, 0.8, 1.0].map(gray))?;
-    /// let mut record = ramp.sample(0.007)?;
-    /// ramp.edit(Edit::Move { stop: 1, position: 0.25 }, &mut record)?;
-    /// ramp.edit(Edit::Add { stop: 2, position: 0.75, color: gray(0.1) }, &mut record)?;
-    /// assert_eq!(ramp.lent().positions, [0.0, 0.25, 0.75, 1.0]);
-    /// assert_eq!(record, ramp.sample(0.007)?);
-    /// assert_eq!(ramp.edit(Edit::Move { stop: 1, position: 0.8 }, &mut record), Err(Refusal::Falling));
-    /// # Ok::<(), Refusal>(())
-    /// ```
-    fn edit(&mut self, edit: Edit, record: &mut Record) -> Result<usize, Refusal>;
-
-    /// The same, and the list of the changed ramp, as [`refresh_list`](Refresh::refresh_list).
-    fn edit_list(&mut self, edit: Edit, record: &mut Record) -> Result<List, Refusal>;
+impl<G: Gradient + ?Sized> sealed::Sealed for &G {
+    fn clone_boxed<'a>(&self) -> Box<dyn Gradient + 'a>
+    where
+        Self: 'a,
+    {
+        Box::new(*self)
+    }
 }
 
-/// A type for each kind of stops.
-macro_rules! of_stops {
-    ($(#[$about:meta])* $name:ident, $kind:expr) => {
-        $(#[$about])*
-        #[derive(Clone, PartialEq, Debug)]
-        pub struct $name(Parts);
+impl<G: Gradient + ?Sized> Gradient for &G {
+    fn as_slices(&self) -> slices::Ramp<'_> {
+        (**self).as_slices()
+    }
+}
 
-        impl $name {
-            /// A ramp of positions and colours, as many of the one as of the other. Refused with 1 where that is not so or
-            /// they are not 2 to 2,048, with 2 where a number is not finite, with 3 where a position is below the one before.
-            pub fn new(positions: &[f32], colors: &[Color]) -> Result<$name, Refusal> {
-                Parts::stops($kind, positions, colors).map($name)
-            }
+impl<G: Gradient + ?Sized> sealed::Sealed for Box<G> {
+    fn parts_mut(&mut self) -> Option<&mut Parts> {
+        (**self).parts_mut()
+    }
 
-            /// The position of each stop.
-            pub fn positions(&self) -> &[f32] {
-                &self.0.positions
-            }
+    fn clone_boxed<'a>(&self) -> Box<dyn Gradient + 'a>
+    where
+        Self: 'a,
+    {
+        (**self).clone_boxed()
+    }
+}
 
-            /// Each stop with its colour.
-            pub fn stops(&self) -> impl ExactSizeIterator<Item = (f32, Color)> + '_ {
-                let colors = self.0.channels.chunks_exact(4).map(|c| Color::new(c[0], c[1], c[2], c[3]));
-                self.0.positions.iter().copied().zip(colors)
+impl<G: Gradient + ?Sized> Gradient for Box<G> {
+    fn as_slices(&self) -> slices::Ramp<'_> {
+        (**self).as_slices()
+    }
+}
+
+impl Clone for Box<dyn Gradient + '_> {
+    fn clone(&self) -> Self {
+        (**self).clone_boxed()
+    }
+}
+
+/// Makes a type that lends slices which passed the check a [`Gradient`]; of stops, it says where these are.
+macro_rules! is_gradient {
+    ($name:ty, $ramp:ident => $slices:expr $(, edited in $parts:tt)?) => {
+        impl $crate::gradient::sealed::Sealed for $name {
+            $(
+                fn parts_mut(&mut self) -> Option<&mut Parts> {
+                    Some(&mut self.$parts)
+                }
+            )?
+
+            fn clone_boxed<'a>(&self) -> alloc::boxed::Box<dyn $crate::Gradient + 'a>
+            where
+                Self: 'a,
+            {
+                alloc::boxed::Box::new(self.clone())
             }
         }
 
-        impl Gradient for $name {
-            fn lent(&self) -> lent::Ramp<'_> {
-                self.0.lent($kind)
+        impl $crate::Gradient for $name {
+            fn as_slices(&self) -> $crate::slices::Ramp<'_> {
+                let $ramp = self;
+                $slices
             }
         }
     };
 }
-
-of_stops!(
-    /// Colours mixed linearly between stops.
-    ///
-    /// ```
-    /// use guineaplume::{Color, Gradient, LinearGradient, Refusal};
-    ///
-    /// let ramp = LinearGradient::new(&[0.0, 1.0], &[Color::new(0., 0., 0., 1.), Color::new(1., 1., 1., 1.)])?;
-    /// assert_eq!(ramp.at(0.25), Color::new(0.25, 0.25, 0.25, 1.0));
-    /// assert_eq!(ramp.domain(), (0.0, 1.0));
-    /// # Ok::<(), Refusal>(())
-    /// ```
-    LinearGradient,
-    Kind::Linear
-);
-
-of_stops!(
-    /// Colours mixed by a smooth step between stops.
-    SmoothstepGradient,
-    Kind::Smoothstep
-);
-
-of_stops!(
-    /// Flat bands with soft edges: an even number of stops, of which each pair is one band.
-    ///
-    /// ```
-    /// use guineaplume::{Color, Gradient, Refusal, SharpGradient};
-    ///
-    /// let colors = [Color::new(0., 0., 0., 1.), Color::new(1., 1., 1., 1.)];
-    /// let ramp = SharpGradient::build(&colors, (0.0, 1.0), 0.5)?;
-    /// assert_eq!(ramp.positions(), [0.0, 0.4375, 0.5625, 1.0]);
-    /// assert_eq!(ramp.at(0.3), colors[0]);
-    /// # Ok::<(), Refusal>(())
-    /// ```
-    SharpGradient,
-    Kind::Sharp
-);
-
-of_stops!(
-    /// A basis spline: its curve starts and ends at the outer stops' colours, and is drawn towards the others without
-    /// running through them.
-    BasisGradient,
-    Kind::Basis
-);
-
-of_stops!(
-    /// A Catmull-Rom spline through the colours of stops.
-    CatmullRomGradient,
-    Kind::CatmullRom
-);
-
-impl SharpGradient {
-    /// Bands of equal width on a domain. Softness 0 is hard edges; it is taken into 0 to 1, and is 0.1 where it is not
-    /// finite. Refused with 17 where there is no colour, there are more than 256, or the domain cannot be parted so; with 2
-    /// where a colour is not finite.
-    pub fn build(colors: &[Color], domain: (f32, f32), softness: f32) -> Result<SharpGradient, Refusal> {
-        let mut positions = vec![0.0; 2 * colors.len()];
-        let mut channels = vec![0.0; 8 * colors.len()];
-        let out = lent::StopsMut { positions: &mut positions, channels: &mut channels };
-        lent::sharp(&flat(colors), domain, softness, out)?;
-        Ok(SharpGradient(Parts { positions, channels, codes: Vec::new() }))
-    }
-}
-
-/// What a refresh needs of a ramp of stops.
-macro_rules! refreshed {
-    ($name:ident) => {
-        impl Refresh for $name {
-            fn refresh(&mut self, stop: usize, color: Color, record: &mut Record) -> Result<usize, Refusal> {
-                self.edit(Edit::Color { stop, color }, record)
-            }
-
-            fn refresh_list(&mut self, stop: usize, color: Color, record: &mut Record) -> Result<List, Refusal> {
-                self.edit_list(Edit::Color { stop, color }, record)
-            }
-
-            fn edit(&mut self, edit: Edit, record: &mut Record) -> Result<usize, Refusal> {
-                let evaluations = self.lent().refresh(edit, record.threshold(), record.lent_mut())?;
-                edit.make(&mut self.0.positions, &mut self.0.channels);
-                record.evaluations = evaluations;
-                Ok(evaluations)
-            }
-
-            fn edit_list(&mut self, edit: Edit, record: &mut Record) -> Result<List, Refusal> {
-                let refreshed = self.edit(edit, record)?;
-                self.thin(record).map(|list| list.after(refreshed))
-            }
-        }
-    };
-}
-
-refreshed!(LinearGradient);
-refreshed!(SmoothstepGradient);
-refreshed!(BasisGradient);
-refreshed!(CatmullRomGradient);
-
-/// The segments of a GIMP gradient file (.ggr).
-///
-/// ```
-/// use guineaplume::{Color, GimpGradient, Gradient, ParseGgrError, Refusal};
-///
-/// let text = b"GIMP Gradient\nName: Shelf\n1\n0 0.5 1 0 0 0 1 1 1 1 1 0 0\n";
-/// let (black, white) = (Color::new(0., 0., 0., 1.), Color::new(1., 1., 1., 1.));
-/// let ramp = GimpGradient::new(text, &black, &white)?;
-/// assert_eq!(ramp.name(), "Shelf");
-/// assert_eq!(ramp.at(0.25), Color::new(0.25, 0.25, 0.25, 1.0));
-///
-/// let short = GimpGradient::new(&text[..28], &black, &white).unwrap_err();
-/// assert_eq!(short, ParseGgrError { refusal: Refusal::FewLines, line: 3 });
-/// assert_eq!(short.to_string(), "the GIMP text has fewer segments than it counts (line 3)");
-/// # Ok::<(), ParseGgrError>(())
-/// ```
-#[derive(Clone, PartialEq, Debug)]
-pub struct GimpGradient {
-    parts: Parts,
-    name: String,
-}
-
-impl GimpGradient {
-    /// Reads a file's text. Foreground and background are what a segment may name in place of a colour of its own. Refused
-    /// with 2 where one of these two is not finite, and with 10 to 16 and 18.
-    pub fn new(text: &[u8], foreground: &Color, background: &Color) -> Result<GimpGradient, ParseGgrError> {
-        let mut positions = vec![0.0; 3 * MOST_SEGMENTS];
-        let mut channels = vec![0.0; 8 * MOST_SEGMENTS];
-        let mut codes = vec![0; 2 * MOST_SEGMENTS];
-        let out = lent::SegmentsMut { positions: &mut positions, channels: &mut channels, codes: &mut codes };
-        let segments = lent::read(text, *foreground, *background, out)?;
-        positions.truncate(3 * segments);
-        channels.truncate(8 * segments);
-        codes.truncate(2 * segments);
-        Ok(GimpGradient { parts: Parts { positions, channels, codes }, name: name_of(text) })
-    }
-
-    /// The name that the file gives itself.
-    pub fn name(&self) -> &str {
-        &self.name
-    }
-
-    /// How many segments it has.
-    pub fn segments(&self) -> usize {
-        self.parts.codes.len() / 2
-    }
-}
-
-/// A text that was read is ASCII, and its name no longer than it.
-fn name_of(text: &[u8]) -> String {
-    let mut name = vec![0; text.len()];
-    let length = lent::name(text, &mut name);
-    name[..length].iter().copied().map(char::from).collect()
-}
-
-impl Gradient for GimpGradient {
-    fn lent(&self) -> lent::Ramp<'_> {
-        self.parts.lent(Kind::Gimp)
-    }
-}
+pub(crate) use is_gradient;

@@ -1,8 +1,8 @@
 //! Linear ramps whose flattening cannot be refused.
 
 use crate::color::Color;
-use crate::gradient::{taken, Gradient, LinearGradient};
-use crate::record::{List, Record};
+use crate::views::taken;
+use crate::{Gradient, LinearGradient, List, Record};
 
 /// A linear ramp that runs from exactly 0 to exactly 1 and has all its channels within 0 to 1. It is proved that such a ramp
 /// is never refused, so that there is no `Result` here: the list has 2 to 4,609 stops, whose positions never fall and whose
@@ -25,6 +25,7 @@ pub struct Ordinary<'a>(&'a LinearGradient);
 
 impl<'a> Ordinary<'a> {
     /// The ramp, where it is ordinary. -0 is 0.
+    #[must_use]
     pub fn of(ramp: &'a LinearGradient) -> Option<Ordinary<'a>> {
         let within = |(_, color): (f32, Color)| color.to_array().iter().all(|c| (0.0..=1.0).contains(c));
         let ends = (ramp.positions().first(), ramp.positions().last());
@@ -32,11 +33,13 @@ impl<'a> Ordinary<'a> {
     }
 
     /// [`Gradient::linearize`], which cannot be refused.
+    #[must_use]
     pub fn linearize(&self, threshold: f32) -> List {
         taken(self.0.linearize(threshold))
     }
 
     /// [`Gradient::flatten`], which cannot be refused.
+    #[must_use]
     pub fn flatten(&self, threshold: f32) -> (Record, List) {
         taken(self.0.flatten(threshold))
     }

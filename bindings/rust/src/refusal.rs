@@ -1,8 +1,7 @@
 //! Why an answer was refused.
 
-use crate::calls;
-use std::error::Error;
-use std::fmt;
+use crate::ffi;
+use core::fmt;
 
 /// Why an answer was refused. Each has a number, the same in every face of the library.
 ///
@@ -17,6 +16,7 @@ use std::fmt;
 /// ```
 #[derive(Clone, Copy, PartialEq, Eq, Hash, Debug)]
 #[repr(u8)]
+#[non_exhaustive]
 pub enum Refusal {
     /// 1: too few stops, too many, an odd number for sharp, segments that are not carried, or lengths that disagree.
     Misshapen = 1,
@@ -100,34 +100,42 @@ const ALL: [Refusal; 24] = [
 
 impl Refusal {
     /// Its number, 1 to 24.
+    #[must_use]
     pub fn number(self) -> u32 {
         self as u32
     }
 
     /// The refusal with this number, if there is one.
+    #[must_use]
     pub fn from_number(number: u32) -> Option<Refusal> {
         ALL.into_iter().find(|refusal| refusal.number() == number)
     }
 }
 
-/// The text that a call of the library writes, which is asked first how long it is.
-pub(crate) fn text(write: impl Fn(&mut [u8]) -> usize) -> String {
-    let mut bytes = vec![0; write(&mut [])];
-    write(&mut bytes);
-    String::from_utf8(bytes).expect("the library's words are ASCII")
+/// Room for the words of any refusal or verdict.
+const MOST_WORDS: usize = 256;
+
+/// Hands on the words that a call of the library writes.
+pub(crate) fn with_words<T>(write: impl Fn(&mut [u8]) -> usize, hand: impl FnOnce(&str) -> T) -> T {
+    let mut room = [0; MOST_WORDS];
+    let length = write(&mut room);
+    // the words are ASCII, and shorter than the room (`tests/refusals.rs`)
+    hand(room.get(..length).and_then(|words| core::str::from_utf8(words).ok()).unwrap_or_default())
 }
 
 /// The library's words.
 impl fmt::Display for Refusal {
     fn fmt(&self, f: &mut fmt::Formatter<'_>) -> fmt::Result {
-        f.write_str(&text(|out| calls::message(self.number(), out)))
+        with_words(|room| ffi::message(self.number(), room), |words| f.write_str(words))
     }
 }
 
-impl Error for Refusal {}
+#[cfg(feature = "std")]
+impl std::error::Error for Refusal {}
 
 /// Why a GIMP text was refused, and at which line.
 #[derive(Clone, Copy, PartialEq, Eq, Debug)]
+#[non_exhaustive]
 pub struct ParseGgrError {
     /// Why.
     pub refusal: Refusal,
@@ -144,8 +152,9 @@ impl fmt::Display for ParseGgrError {
     }
 }
 
-impl Error for ParseGgrError {
-    fn source(&self) -> Option<&(dyn Error + 'static)> {
+#[cfg(feature = "std")]
+impl std::error::Error for ParseGgrError {
+    fn source(&self) -> Option<&(dyn std::error::Error + 'static)> {
         Some(&self.refusal)
     }
 }

@@ -1,8 +1,8 @@
 //! A list handed out one stop at a time.
 
-use std::iter::FusedIterator;
+use core::iter::FusedIterator;
 
-use crate::lent::{answer, with_ramp, Ramp, Record};
+use crate::slices::{answer, with_ramp, Ramp, Record};
 use crate::{Color, Refusal};
 
 /// Where a caller is in a list: all that is kept between two steps.
@@ -36,6 +36,7 @@ impl ListPlace {
     fn told(state: usize, row: usize, index: usize) -> ListPlace {
         match state {
             0 => ListPlace::Start,
+            #[allow(clippy::cast_possible_truncation)]
             1 => ListPlace::After { row: row as u32, index: index as u32 },
             _ => ListPlace::Ended,
         }
@@ -54,8 +55,9 @@ pub struct Handed {
 }
 
 impl Ramp<'_> {
-    /// The next stop after a place. Refusals 1 to 5 and 20, a place outside the record among them (5), leave the place as it
+    /// The next stop after a place. In what is told, refusals 1 to 5 and 20, a place outside the record among them (5), leave the place as it
     /// was; after 8 and 9 it is the end. There is no 7.
+    #[must_use]
     pub fn next_stop(&self, threshold: f32, record: Record<'_>, place: ListPlace) -> Handed {
         let Record { rows, counts, marks } = record;
         let (state, row, index) = place.plain();
@@ -83,16 +85,19 @@ pub struct Stops<'a> {
 
 impl<'a> Stops<'a> {
     /// The stops of a lent record, from its first.
+    #[must_use]
     pub fn new(ramp: Ramp<'a>, threshold: f32, record: Record<'a>) -> Stops<'a> {
         Stops { ramp, threshold, record, place: ListPlace::Start, evaluations: 0 }
     }
 
     /// How many colours the steps so far have asked for: with the last stop, as many as the whole list.
+    #[must_use]
     pub fn evaluations(&self) -> usize {
         self.evaluations
     }
 
     /// Where the next step goes on from.
+    #[must_use]
     pub fn place(&self) -> ListPlace {
         self.place
     }

@@ -1,9 +1,9 @@
 //! What is said of a list that was made elsewhere.
 
-use crate::calls;
-use crate::lent::CELLS;
-use crate::refusal::text;
-use std::fmt;
+use crate::ffi;
+use crate::refusal::with_words;
+use crate::slices::CELLS;
+use core::fmt;
 
 /// What is said of a list of stops that was made elsewhere: yes, or no with the first thing that is wrong.
 ///
@@ -27,6 +27,7 @@ use std::fmt;
 /// # Ok::<(), Refusal>(())
 /// ```
 #[derive(Clone, Copy, PartialEq, Debug)]
+#[non_exhaustive]
 pub enum Verdict {
     /// The list shows the ramp within the threshold.
     Yes,
@@ -79,6 +80,7 @@ impl Verdict {
     }
 
     /// Whether it is yes.
+    #[must_use]
     pub fn is_yes(self) -> bool {
         self == Verdict::Yes
     }
@@ -87,12 +89,17 @@ impl Verdict {
 /// The library's words, with the stop or the point that is named.
 impl fmt::Display for Verdict {
     fn fmt(&self, f: &mut fmt::Formatter<'_>) -> fmt::Result {
-        let said = text(|out| calls::verdict_message(self.number(), out));
-        match *self {
-            Verdict::BadStop { stop } => f.write_str(&said.replacen("a stop", &format!("stop {stop}"), 1)),
-            Verdict::TooFar { row: CELLS, t, .. } => write!(f, "{said} at {t} (the end of the ramp)"),
-            Verdict::TooFar { row, index, t } => write!(f, "{said} at {t} (point {index} of row {row})"),
-            _ => f.write_str(&said),
+        with_words(|room| ffi::verdict_message(self.number(), room), |words| self.say(words, f))
+    }
+}
+
+impl Verdict {
+    fn say(self, words: &str, f: &mut fmt::Formatter<'_>) -> fmt::Result {
+        match (self, words.split_once("a stop")) {
+            (Verdict::BadStop { stop }, Some((before, after))) => write!(f, "{before}stop {stop}{after}"),
+            (Verdict::TooFar { row: CELLS, t, .. }, _) => write!(f, "{words} at {t} (the end of the ramp)"),
+            (Verdict::TooFar { row, index, t }, _) => write!(f, "{words} at {t} (point {index} of row {row})"),
+            _ => f.write_str(words),
         }
     }
 }

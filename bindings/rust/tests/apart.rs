@@ -1,6 +1,8 @@
 //! Which depths became one: the accident that this is for, the examples of the rule, and what each refusal leaves.
 
-use guineaplume::lent::{self, Kind, Ramp, CLOSE, MERGED, MOST_POINTS, MOVED};
+#![cfg(feature = "std")]
+
+use guineaplume::slices::{self, Kind, Ramp, CLOSE, MERGED, MOST_POINTS, MOVED};
 use guineaplume::{Apart, Color, Edit, Gradient, LinearGradient, List, Refresh, Refusal, Verdict};
 
 const THRESHOLDS: [f32; 3] = [0.001, 0.007, 0.035];
@@ -111,7 +113,7 @@ fn of_grays(positions: &[f32]) -> Ramp<'_> {
 }
 
 /// Of black to white on 0..1, with a byte more than depths.
-fn asked(step: f32, depths: &[f32], positions: &[f32], channels: &[f32]) -> (Result<lent::Apart, Refusal>, Vec<u8>) {
+fn asked(step: f32, depths: &[f32], positions: &[f32], channels: &[f32]) -> (Result<slices::Apart, Refusal>, Vec<u8>) {
     let mut faults = vec![RUBBISH; depths.len() + 1];
     (of_grays(&[0.0, 1.0]).apart(0.007, step, depths, positions, channels, &mut faults), faults)
 }
@@ -121,7 +123,7 @@ fn a_byte_for_each_depth_and_what_lies_past_them_stays() {
     // the list is black up to a half
     let (positions, channels) = ([0.0, 0.5, 1.0], [&GRAY[..4], &GRAY[..4], &GRAY[4..]].concat());
     let (told, faults) = asked(STEP, &[0.0, 0.25, 0.25, 0.5, 1.0], &positions, &channels);
-    assert_eq!(told, Ok(lent::Apart { moved: 3, close: 1, merged: 2, first_merged: Some(1) }));
+    assert_eq!(told, Ok(slices::Apart { moved: 3, close: 1, merged: 2, first_merged: Some(1) }));
     assert_eq!(faults, [0, MOVED | MERGED, MOVED | CLOSE, MOVED | MERGED, 0, RUBBISH]);
     // one depth has none before it
     assert_eq!(asked(STEP, &[0.25], &positions, &channels).1, [MOVED, RUBBISH]);
@@ -130,9 +132,9 @@ fn a_byte_for_each_depth_and_what_lies_past_them_stays() {
 #[test]
 fn two_depths_are_apart_above_the_step_alone() {
     let own = |step: f32, depths: &[f32]| asked(step, depths, &[0.0, 1.0], &GRAY).1;
-    let between = lent::root(3.0 * 0.25 * 0.25) / 2.0;
+    let between = slices::root(3.0 * 0.25 * 0.25) / 2.0;
     assert_eq!(own(between, &[0.25, 0.5]), [0, CLOSE, RUBBISH]);
-    assert_eq!(own(between.next_down(), &[0.25, 0.5]), [0, 0, RUBBISH]);
+    assert_eq!(own(f32::from_bits(between.to_bits() - 1), &[0.25, 0.5]), [0, 0, RUBBISH]);
     assert_eq!(own(0.0, &[0.25, 0.25, 0.5]), [0, CLOSE, 0, RUBBISH]);
     assert_eq!(own(-0.0, &[0.25, 0.5]), [0, 0, RUBBISH]);
     assert_eq!(own(f32::MAX, &[0.0, 1.0]), [0, CLOSE, RUBBISH]);
@@ -144,13 +146,13 @@ fn a_difference_that_is_not_a_number_is_a_fault() {
     let huge = [-3.0e38, 0.0, 0.0, 1.0, 3.0e38, 1.0, 1.0, 1.0];
     let (wide, mut faults) = ([0.0, 1.0e38], [RUBBISH; 2]);
     let told = of_grays(&wide).apart(0.007, STEP, &[1.0e-45, 0.5e38], &wide, &huge, &mut faults);
-    assert_eq!(told, Ok(lent::Apart { moved: 2, close: 0, merged: 1, first_merged: Some(1) }));
+    assert_eq!(told, Ok(slices::Apart { moved: 2, close: 0, merged: 1, first_merged: Some(1) }));
     assert_eq!(faults, [MOVED, MOVED | MERGED]);
     // and in the ramp
     let ramp = Ramp { kind: Kind::CatmullRom, positions: &[0.0, 0.5, 1.0], channels: &[3.0e38; 12], codes: &[] };
     let told = ramp.apart(0.007, STEP, &[0.25, 0.3], &[0.0, 1.0], &GRAY, &mut faults);
     assert!(ramp.at(0.25).unwrap().r.is_nan());
-    assert_eq!(told, Ok(lent::Apart { moved: 2, close: 1, merged: 0, first_merged: None }));
+    assert_eq!(told, Ok(slices::Apart { moved: 2, close: 1, merged: 0, first_merged: None }));
     assert_eq!(faults, [MOVED, MOVED | CLOSE]);
 }
 
@@ -164,7 +166,8 @@ fn refusals_in_their_order_change_nothing() {
         let (told, faults) = asked(nan, &[], positions, &vec![0.5; channels]);
         assert_eq!((told, faults), (Err(Refusal::BadList), vec![RUBBISH]), "{positions:?}");
     }
-    let depths: [&[f32]; 6] = [&[], &[nan], &[0.0, f32::INFINITY], &[-0.001], &[0.5, 1.0f32.next_up()], &[0.5, 0.25]];
+    let depths: [&[f32]; 6] =
+        [&[], &[nan], &[0.0, f32::INFINITY], &[-0.001], &[0.5, f32::from_bits(0x3f80_0001)], &[0.5, 0.25]];
     for depths in depths {
         let (told, faults) = asked(nan, depths, &[-0.0, 1.0], &GRAY);
         assert_eq!((told, faults), (Err(Refusal::BadDepths), vec![RUBBISH; depths.len() + 1]), "{depths:?}");

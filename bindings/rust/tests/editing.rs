@@ -1,5 +1,7 @@
 //! Stops moved, added and removed: the ramp and its record change together or not at all.
 
+#![cfg(feature = "std")]
+
 use guineaplume::{BasisGradient, Color, Edit, Gradient, LinearGradient, Record, Refresh, Refusal, SmoothstepGradient};
 
 fn gray(x: f32) -> Color {
@@ -29,12 +31,12 @@ fn all_sorts<G: Refresh>(mut ramp: G) {
     made(ramp, &mut record, Edit::Add { stop: 2, position: 0.3, color: gray(0.9) });
     made(ramp, &mut record, Edit::Color { stop: 0, color: gray(0.6) });
     for stops in (2..6).rev() {
-        assert_eq!(ramp.lent().positions.len(), stops);
+        assert_eq!(ramp.as_slices().positions.len(), stops);
         if stops > 2 {
             made(ramp, &mut record, Edit::Remove { stop: 1 });
         }
     }
-    assert_eq!(ramp.lent().positions, [0.0, 1.0]);
+    assert_eq!(ramp.as_slices().positions, [0.0, 1.0]);
 }
 
 #[test]

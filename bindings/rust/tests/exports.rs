@@ -4,7 +4,7 @@ use std::path::Path;
 use std::{fs, iter};
 
 const HEADER: &str = include_str!("../../../include/colorgrad_calls.h");
-const TABLE: &str = include_str!("../src/calls.rs");
+const TABLE: &str = include_str!("../src/ffi.rs");
 const SOURCE: &str = concat!(env!("CARGO_MANIFEST_DIR"), "/../../crates/colorgrad_c/src");
 
 /// An export: its name, the name and the type of each parameter, and the type of its answer.

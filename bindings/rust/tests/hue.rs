@@ -1,5 +1,7 @@
 //! GIMP segments coloured by hue.
 
+#![cfg(feature = "std")]
+
 use guineaplume::{Color, GimpGradient, Gradient, ParseGgrError, Refusal};
 
 const BLACK: Color = Color::new(0.0, 0.0, 0.0, 1.0);
@@ -38,7 +40,7 @@ fn a_step_shows_its_ends_clamped() {
 }
 
 #[test]
-fn curved_segments_are_still_refused() {
-    let refused = read("0 .5 1 1 0 0 1 0 1 0 1 0 1\n0 .5 1 1 0 0 1 0 1 0 1 1 1").unwrap_err();
-    assert_eq!(refused, ParseGgrError { refusal: Refusal::NotCarried, line: 5 });
+fn a_curved_segment_with_its_middle_outside_is_refused() {
+    let refused = read("0 .5 1 1 0 0 1 0 1 0 1 0 1\n1 .5 1 1 0 0 1 0 1 0 1 1 1").unwrap_err();
+    assert_eq!((refused.refusal, refused.line), (Refusal::NotCarried, 5));
 }

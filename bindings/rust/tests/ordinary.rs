@@ -1,5 +1,7 @@
 //! Ramps of which it is promised that flattening them is never refused.
 
+#![cfg(feature = "std")]
+
 use guineaplume::{Color, Gradient, LinearGradient, Ordinary, Refusal, SmoothstepGradient};
 
 fn reds(reds: &[f32]) -> Vec<Color> {
@@ -15,7 +17,7 @@ fn zero_of_either_sign() -> Result<(), Refusal> {
             let (record, list) = ordinary.flatten(threshold);
             assert_eq!(Ok((record, list.clone())), ramp.flatten(threshold));
             assert_eq!(ordinary.linearize(threshold), list);
-            assert!((2..=guineaplume::lent::MOST_POINTS).contains(&list.len()));
+            assert!((2..=guineaplume::slices::MOST_POINTS).contains(&list.len()));
             assert!(list.positions().windows(2).all(|p| p[0] <= p[1]));
             assert!(list.colors().iter().flat_map(|c| c.to_array()).all(|c| (0.0..=1.0).contains(&c)));
         }

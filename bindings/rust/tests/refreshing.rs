@@ -1,6 +1,8 @@
 //! A refreshed record and its list are those made afresh.
 
-use guineaplume::lent::{Listed, RecordMut, StopsMut, MOST_POINTS};
+#![cfg(feature = "std")]
+
+use guineaplume::slices::{Listed, RecordMut, StopsMut, MOST_POINTS};
 use guineaplume::{
     BasisGradient, CatmullRomGradient, Color, Edit, Gradient, LinearGradient, List, Record, Refresh, SmoothstepGradient,
 };
@@ -37,7 +39,7 @@ fn check_lent(ramp: &impl Gradient, record: &Record, edit: Edit) -> impl Fn(&Rec
     let (mut positions, mut channels) = (vec![7.0; MOST_POINTS], vec![7.0; 4 * MOST_POINTS]);
     let lent = RecordMut { rows: &mut rows, counts: &mut counts, marks: &mut marks };
     let out = StopsMut { positions: &mut positions, channels: &mut channels };
-    let made = ramp.lent().refresh_list(edit, record.threshold(), lent, out).expect("a list");
+    let made = ramp.as_slices().refresh_list(edit, record.threshold(), lent, out).expect("a list");
     move |record, list| {
         assert_eq!(made, Listed { stops: list.len(), evaluations: list.evaluations() });
         assert_eq!((&rows[..], &counts[..], &marks[..]), (record.rows(), record.counts(), record.marks()));

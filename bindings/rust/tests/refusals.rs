@@ -1,6 +1,8 @@
 //! Each refusal, what it leaves in lent memory, and that its number and message are the header's.
 
-use guineaplume::lent::{self, Kind, Record, RecordMut, SegmentsMut, StopsMut, CELLS, MARKS, MOST_POINTS, ROWS};
+#![cfg(feature = "std")]
+
+use guineaplume::slices::{self, Kind, Record, RecordMut, SegmentsMut, StopsMut, CELLS, MARKS, MOST_POINTS, ROWS};
 use guineaplume::{
     Color, Edit, GimpGradient, Gradient, LinearGradient, ParseGgrError, Refresh, Refusal, SharpGradient,
 };
@@ -8,14 +10,19 @@ use guineaplume::{
 const BLACK: Color = Color::new(0.0, 0.0, 0.0, 1.0);
 const WHITE: Color = Color::new(1.0, 1.0, 1.0, 1.0);
 const GRAY: [f32; 8] = [0.0, 0.0, 0.0, 1.0, 1.0, 1.0, 1.0, 1.0];
+/// Why a text was refused, and the line.
+fn blamed(error: ParseGgrError) -> (Refusal, usize) {
+    (error.refusal, error.line)
+}
+
 /// What stands in lent memory before a call.
 const RUBBISH: f32 = 7.0;
 
-fn ramp<'a>(kind: Kind, positions: &'a [f32], channels: &'a [f32]) -> lent::Ramp<'a> {
-    lent::Ramp { kind, positions, channels, codes: &[] }
+fn ramp<'a>(kind: Kind, positions: &'a [f32], channels: &'a [f32]) -> slices::Ramp<'a> {
+    slices::Ramp { kind, positions, channels, codes: &[] }
 }
 
-fn gray() -> lent::Ramp<'static> {
+fn gray() -> slices::Ramp<'static> {
     ramp(Kind::Linear, &[0.0, 1.0], &GRAY)
 }
 
@@ -43,7 +50,7 @@ impl Desk {
         Desk::new(MOST_POINTS, 4 * MOST_POINTS)
     }
 
-    fn flatten(&mut self, ramp: lent::Ramp<'_>) -> Result<lent::Listed, Refusal> {
+    fn flatten(&mut self, ramp: slices::Ramp<'_>) -> Result<slices::Listed, Refusal> {
         ramp.flatten(
             0.007,
             RecordMut { rows: &mut self.rows, counts: &mut self.counts, marks: &mut self.marks },
@@ -51,7 +58,7 @@ impl Desk {
         )
     }
 
-    fn thin(&mut self, ramp: lent::Ramp<'_>) -> Result<lent::Listed, Refusal> {
+    fn thin(&mut self, ramp: slices::Ramp<'_>) -> Result<slices::Listed, Refusal> {
         ramp.thin(
             0.007,
             Record { rows: &self.rows, counts: &self.counts, marks: &self.marks },
@@ -59,7 +66,7 @@ impl Desk {
         )
     }
 
-    fn refresh(&mut self, ramp: lent::Ramp<'_>, stop: usize, color: Color) -> Result<usize, Refusal> {
+    fn refresh(&mut self, ramp: slices::Ramp<'_>, stop: usize, color: Color) -> Result<usize, Refusal> {
         let record = RecordMut { rows: &mut self.rows, counts: &mut self.counts, marks: &mut self.marks };
         ramp.refresh(Edit::Color { stop, color }, 0.007, record)
     }
@@ -79,7 +86,7 @@ fn misshapen() {
     assert_eq!(LinearGradient::new(&[0.0; 2049], &[BLACK; 2049]), Err(Refusal::Misshapen));
     assert_eq!(LinearGradient::new(&[0.0, 1.0], &[BLACK]), Err(Refusal::Misshapen));
     assert_eq!(SharpGradient::new(&[0.0; 3], &[BLACK; 3]), Err(Refusal::Misshapen));
-    assert_eq!(lent::Ramp { codes: &[0], ..gray() }.check(), Err(Refusal::Misshapen));
+    assert_eq!(slices::Ramp { codes: &[0], ..gray() }.check(), Err(Refusal::Misshapen));
     let mut desk = Desk::roomy();
     assert_eq!(desk.flatten(ramp(Kind::Basis, &[0.0, 1.0], &GRAY[..7])), Err(Refusal::Misshapen));
     assert!(desk.record_is_rubbish() && desk.outputs_are(RUBBISH));
@@ -93,8 +100,7 @@ fn not_finite_and_falling() {
     assert_eq!(LinearGradient::new(&[1.0, 0.0], &[BLACK, hot]), Err(Refusal::NotFinite));
     assert_eq!(SharpGradient::build(&[hot], (0.0, 1.0), 0.0), Err(Refusal::NotFinite));
     let text = b"GIMP Gradient\nName: x\n1\n0 0.5 1 0 0 0 1 1 1 1 1 0 0\n";
-    let refused = ParseGgrError { refusal: Refusal::NotFinite, line: 0 };
-    assert_eq!(GimpGradient::new(text, &hot, &WHITE), Err(refused));
+    assert_eq!(GimpGradient::new(text, &hot, &WHITE).map_err(blamed), Err((Refusal::NotFinite, 0)));
     let mut out = [RUBBISH; 8];
     assert_eq!(ramp(Kind::Linear, &[1.0, 0.0], &GRAY).paint(&[0.5], &mut out), Err(Refusal::Falling));
     assert_eq!(out, [RUBBISH; 8]);
@@ -187,7 +193,7 @@ fn bad_edit() {
     assert_eq!(desk.refresh(gray(), 2, WHITE), Err(Refusal::BadEdit));
     assert_eq!(desk.refresh(gray(), usize::MAX, WHITE), Err(Refusal::BadEdit));
     assert_eq!(desk.refresh(gray(), 0, Color { g: f32::NAN, ..BLACK }), Err(Refusal::BadEdit));
-    assert_eq!(desk.refresh(lent::Ramp { kind: Kind::Sharp, ..gray() }, 0, WHITE), Err(Refusal::BadEdit));
+    assert_eq!(desk.refresh(slices::Ramp { kind: Kind::Sharp, ..gray() }, 0, WHITE), Err(Refusal::BadEdit));
     assert!(desk.record_is_rubbish());
     let mut owned = LinearGradient::new(&[0.0, 1.0], &[BLACK, WHITE]).expect("a ramp");
     let (before, mut record) = (owned.clone(), owned.sample(0.007).expect("its record"));
@@ -206,7 +212,7 @@ fn no_room() {
         assert!(desk.outputs_are(0.0));
     }
     let mut desk = Desk::new(3, 9);
-    assert_eq!(desk.flatten(gray()), Ok(lent::Listed { stops: 2, evaluations: 215 }));
+    assert_eq!(desk.flatten(gray()), Ok(slices::Listed { stops: 2, evaluations: 215 }));
     assert_eq!((desk.positions[2], desk.channels[8]), (RUBBISH, RUBBISH));
     let mut out = [RUBBISH; 7];
     assert_eq!(gray().paint(&[0.0, 1.0], &mut out), Err(Refusal::NoRoom));
@@ -224,6 +230,13 @@ fn list_not_finite_and_falling() {
     desk.rows[0] = 2.0;
     assert_eq!(desk.thin(gray()), Err(Refusal::ListFalling));
     assert!(desk.outputs_are(0.0));
+}
+
+/// By document 01's rules, with room for all.
+fn strict(text: &str) -> Result<usize, ParseGgrError> {
+    let (mut positions, mut channels, mut codes) = (vec![0.0; 768], vec![0.0; 2048], vec![0; 512]);
+    let out = SegmentsMut { positions: &mut positions, channels: &mut channels, codes: &mut codes };
+    slices::read(text.as_bytes(), BLACK, WHITE, out)
 }
 
 #[test]
@@ -247,18 +260,43 @@ fn gimp_texts() {
         (good.replace("0 0.5 1 0", "0 1.5 1 0"), Refusal::Torn, 4),
     ];
     for (text, refusal, line) in cases {
-        assert_eq!(GimpGradient::new(text.as_bytes(), &BLACK, &WHITE), Err(ParseGgrError { refusal, line }), "{text}");
+        assert_eq!(strict(&text).map_err(blamed), Err((refusal, line)), "{text}");
     }
-    let plus = good.replace("\n1\n", "\n+1\n");
-    assert!(GimpGradient::new(plus.as_bytes(), &BLACK, &WHITE).is_ok(), "a count with a plus");
+    assert_eq!(strict(&good.replace("\n1\n", "\n+1\n")), Ok(1), "a count with a plus");
     let (mut positions, mut channels, mut codes) = ([RUBBISH; 4], [RUBBISH; 9], [9u8; 1]);
     let out = SegmentsMut { positions: &mut positions, channels: &mut channels, codes: &mut codes };
-    let refused = ParseGgrError { refusal: Refusal::TooManySegments, line: 3 };
-    assert_eq!(lent::read(good.as_bytes(), BLACK, WHITE, out), Err(refused));
+    let refused = slices::read(good.as_bytes(), BLACK, WHITE, out).map_err(blamed);
+    assert_eq!(refused, Err((Refusal::TooManySegments, 3)));
     assert_eq!((positions, channels, codes), ([0.0; 4], [0.0; 9], [0; 1]));
     let mut name = [0; 3];
-    assert_eq!((lent::name(good.as_bytes(), &mut name), name), (1, [b'x', 0, 0]));
-    assert_eq!((lent::name(good.as_bytes(), &mut []), lent::name(b"", &mut name)), (1, 0));
+    assert_eq!((slices::name(good.as_bytes(), &mut name), name), (1, [b'x', 0, 0]));
+    assert_eq!((slices::name(good.as_bytes(), &mut []), slices::name(b"", &mut name)), (1, 0));
+}
+
+#[test]
+fn gimp_texts_as_gimp_saves_them() {
+    let good = "GIMP Gradient\nName: x\n1\n0 0.5 1 0 0 0 1 1 1 1 1 0 0\n";
+    let read = |text: &str| GimpGradient::new(text.as_bytes(), &BLACK, &WHITE);
+    let same = read(good).expect("a plain text");
+    let named = read(&good.replace('x', "\u{41c}\u{43e}\u{440}\u{435}")).expect("a name in another script");
+    assert_eq!((same.name(), named.name(), named.at(0.25)), ("x", "\u{41c}\u{43e}\u{440}\u{435}", same.at(0.25)));
+    let long = read(&good.replace("0.5 1", "0.50000000000000000000 1.0000000000000000e+00")).expect("long numbers");
+    assert_eq!(long, same);
+    let curved = read(&good.replace("0 0\n", "1 0\n")).expect("a curved segment");
+    assert_eq!((curved.at(0.5).r, curved.as_slices().kind), (0.5, Kind::GimpSaved));
+    assert_eq!(strict(&good.replace("0 0.5", "0 5e-1")).map_err(blamed), Err((Refusal::BadSegment, 4)));
+    let cases = [
+        (good.replace("\n1\n", "\n1\u{e9}\n"), Refusal::NotAText, 0),
+        (good.replace("1 1 1 1", "1 1 1 \u{e9}"), Refusal::NotAText, 0),
+        (" ".repeat(131_073), Refusal::NotAText, 0),
+        (good.replace("1 1 1 1", "1 1 1 1e39"), Refusal::BadSegment, 4),
+        (good.replace("1 1 1 1", "1 1 1 0.12345678901234567891"), Refusal::BadSegment, 4),
+        (good.replace("0 0.5 1 0", "0 1.5 1 0").replace("0 0\n", "1 0\n"), Refusal::NotCarried, 4),
+    ];
+    for (text, refusal, line) in cases {
+        assert_eq!(read(&text).map_err(blamed), Err((refusal, line)), "{text}");
+    }
+    assert_eq!(slices::name_saved(good.as_bytes(), &mut []), 1);
 }
 
 #[test]
@@ -269,7 +307,7 @@ fn not_built() {
     assert_eq!(SharpGradient::build(&[WHITE], (0.0, f32::NAN), 0.5), Err(Refusal::NotBuilt));
     let (mut positions, mut channels) = ([RUBBISH; 3], [RUBBISH; 16]);
     let out = StopsMut { positions: &mut positions, channels: &mut channels };
-    assert_eq!(lent::sharp(&GRAY, (0.0, 1.0), 0.5, out), Err(Refusal::Misshapen));
+    assert_eq!(slices::sharp(&GRAY, (0.0, 1.0), 0.5, out), Err(Refusal::Misshapen));
     assert_eq!((positions, channels), ([RUBBISH; 3], [RUBBISH; 16]));
 }
 
@@ -287,10 +325,9 @@ fn empty_slices() {
     assert_eq!(desk.refresh(nothing, 0, BLACK).map(|_| ()), refused);
     assert_eq!(desk.flatten(gray()), Err(Refusal::BadRecord));
     assert_eq!(gray().paint(&[], &mut []), Ok(()));
-    assert_eq!((lent::token(b""), lent::desk(b"", &mut [])), (None, 9));
+    assert_eq!((slices::token(b""), slices::desk(b"", &mut [])), (None, 9));
     let out = SegmentsMut { positions: &mut [], channels: &mut [], codes: &mut [] };
-    let refused = ParseGgrError { refusal: Refusal::NoSegment, line: 4 };
-    assert_eq!(lent::read(b"", BLACK, WHITE, out), Err(refused));
+    assert_eq!(slices::read(b"", BLACK, WHITE, out).map_err(blamed), Err((Refusal::NoSegment, 4)));
 }
 
 #[test]

@@ -1,6 +1,8 @@
 //! What is said of lists made elsewhere: each verdict, in its order, and that its message is the header's.
 
-use guineaplume::lent::{Kind, Ramp, CELLS, MOST_POINTS};
+#![cfg(feature = "std")]
+
+use guineaplume::slices::{Kind, Ramp, CELLS, MOST_POINTS};
 use guineaplume::{Color, Gradient, LinearGradient, Refusal, SmoothstepGradient, Verdict};
 
 const GRAY: [f32; 8] = [0.0, 0.0, 0.0, 1.0, 1.0, 1.0, 1.0, 1.0];

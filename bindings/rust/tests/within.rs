@@ -1,6 +1,8 @@
 //! Lists that keep their word: the prints of the rule, the ramp's own positions held, and what each refusal leaves.
 
-use guineaplume::lent::{self, Kind, Record, RecordMut, StopsMut, CELLS, MARKS, MOST_POINTS, MOST_WEIGHED, ROWS};
+#![cfg(feature = "std")]
+
+use guineaplume::slices::{self, Kind, Record, RecordMut, StopsMut, CELLS, MARKS, MOST_POINTS, MOST_WEIGHED, ROWS};
 use guineaplume::{Color, Edit, Gradient, LinearGradient, Refresh, Refusal, SmoothstepGradient, Verdict};
 
 const THRESHOLDS: [f32; 3] = [0.001, 0.007, 0.035];
@@ -29,6 +31,14 @@ fn depths() -> LinearGradient {
 }
 
 /// Half the root of the summed squares.
+/// The f32 next to one that is not negative, above it or below.
+fn beside(x: f32, by: i32) -> f32 {
+    match x.to_bits() {
+        0 => by as f32 * f32::from_bits(1),
+        bits => f32::from_bits((bits as i32 + by) as u32),
+    }
+}
+
 fn apart(x: Color, y: Color) -> f32 {
     let squares: f32 = x.to_array().iter().zip(y.to_array()).map(|(a, b)| (a - b) * (a - b)).sum();
     squares.sqrt() / 2.0
@@ -81,7 +91,7 @@ fn own_positions_are_held() -> Result<(), Refusal> {
         for (ramp, record) in [(depths(), stale.sample(threshold)?), (depths(), depths().sample(threshold)?)] {
             for hold in [0.001, threshold] {
                 let shown = ramp.thin_within(&record, hold)?.gradient()?;
-                let own = ramp.positions().iter().flat_map(|p| [*p, p.next_down(), p.next_up()]);
+                let own = ramp.positions().iter().flat_map(|p| [*p, beside(*p, -1), beside(*p, 1)]);
                 assert!(own.clone().all(|t| apart(shown.at(t), ramp.at(t)) <= hold * 1.00001));
             }
         }
@@ -110,12 +120,12 @@ fn judged_and_refreshed() -> Result<(), Refusal> {
 #[test]
 fn holds_in_force() {
     for asked in [f32::NAN, f32::INFINITY, f32::NEG_INFINITY, 0.0, -1.0, 0.0009] {
-        assert_eq!(lent::hold(asked, 0.007), 0.001);
+        assert_eq!(slices::hold(asked, 0.007), 0.001);
     }
-    assert_eq!(lent::hold(0.003, 0.007), 0.003);
-    assert_eq!(lent::hold(0.01, 0.007), 0.007);
-    assert_eq!(lent::hold(1.0, f32::NAN), 0.007);
-    assert_eq!((lent::hold(1.0, 1.0), lent::hold(1.0, 0.0)), (0.035, 0.001));
+    assert_eq!(slices::hold(0.003, 0.007), 0.003);
+    assert_eq!(slices::hold(0.01, 0.007), 0.007);
+    assert_eq!(slices::hold(1.0, f32::NAN), 0.007);
+    assert_eq!((slices::hold(1.0, 1.0), slices::hold(1.0, 0.0)), (0.035, 0.001));
 }
 
 /// A record and the room for a list, lent together.
@@ -138,13 +148,13 @@ impl Desk {
         }
     }
 
-    fn flatten(&mut self, ramp: lent::Ramp<'_>) -> Result<lent::Listed, Refusal> {
+    fn flatten(&mut self, ramp: slices::Ramp<'_>) -> Result<slices::Listed, Refusal> {
         let record = RecordMut { rows: &mut self.rows, counts: &mut self.counts, marks: &mut self.marks };
         let out = StopsMut { positions: &mut self.positions, channels: &mut self.channels };
         ramp.flatten_within(0.007, 0.001, record, out)
     }
 
-    fn thin(&mut self, ramp: lent::Ramp<'_>) -> Result<lent::Listed, Refusal> {
+    fn thin(&mut self, ramp: slices::Ramp<'_>) -> Result<slices::Listed, Refusal> {
         let record = Record { rows: &self.rows, counts: &self.counts, marks: &self.marks };
         let out = StopsMut { positions: &mut self.positions, channels: &mut self.channels };
         ramp.thin_within(0.007, 0.001, record, out)
@@ -159,12 +169,15 @@ impl Desk {
 fn refusals_that_change_nothing() {
     let ramp = grays(&[0.0, 1.0], &[0.0, 1.0]);
     let mut desk = Desk::new(MOST_POINTS);
-    assert_eq!(desk.thin(ramp.lent()), Err(Refusal::OtherThreshold));
+    assert_eq!(desk.thin(ramp.as_slices()), Err(Refusal::OtherThreshold));
     desk.counts[35] = 129;
-    assert_eq!(desk.thin(ramp.lent()), Err(Refusal::BadRecord));
+    assert_eq!(desk.thin(ramp.as_slices()), Err(Refusal::BadRecord));
     desk.counts.pop();
-    assert_eq!(desk.flatten(ramp.lent()), Err(Refusal::BadRecord));
-    assert_eq!(desk.flatten(lent::Ramp { kind: Kind::Sharp, codes: &[0], ..ramp.lent() }), Err(Refusal::Misshapen));
+    assert_eq!(desk.flatten(ramp.as_slices()), Err(Refusal::BadRecord));
+    assert_eq!(
+        desk.flatten(slices::Ramp { kind: Kind::Sharp, codes: &[0], ..ramp.as_slices() }),
+        Err(Refusal::Misshapen)
+    );
     assert!(desk.outputs_are(RUBBISH) && desk.rows.iter().all(|x| *x == RUBBISH));
 }
 
@@ -172,21 +185,21 @@ fn refusals_that_change_nothing() {
 fn refusals_that_leave_zeros() {
     let ramp = depths();
     let mut desk = Desk::new(11);
-    assert_eq!(desk.flatten(ramp.lent()), Err(Refusal::NoRoom));
+    assert_eq!(desk.flatten(ramp.as_slices()), Err(Refusal::NoRoom));
     assert!(desk.outputs_are(0.0) && desk.counts[0] == 1, "the record is filled, the outputs are zero");
     let wild = grays(&[0.0, 0.5, 1.0], &[-3e38, 3e38, -3e38]);
     let mut desk = Desk::new(12);
-    assert_eq!(desk.flatten(wild.lent()), Err(Refusal::ListNotFinite));
+    assert_eq!(desk.flatten(wild.as_slices()), Err(Refusal::ListNotFinite));
     assert!(desk.outputs_are(0.0));
     // a hard edge from a huge colour to another: a + 1 * (b - a) is 0 and not b
     let huge = grays(&[0.0, 0.5, 0.5, 1.0], &[1e30, 1e30, 0.5, 0.5]);
     let mut desk = Desk::new(MOST_POINTS);
-    assert_eq!(desk.flatten(huge.lent()), Err(Refusal::NotShown));
+    assert_eq!(desk.flatten(huge.as_slices()), Err(Refusal::NotShown));
     assert!(desk.outputs_are(0.0) && desk.counts[0] == 1);
-    assert_eq!(desk.thin(huge.lent()), Err(Refusal::NotShown));
+    assert_eq!(desk.thin(huge.as_slices()), Err(Refusal::NotShown));
     let tame = grays(&[0.0, 0.5, 0.5, 1.0], &[16_382.0, 16_382.0, 0.3, 0.3]);
     assert!(tame.flatten_within(0.007, 0.001).is_ok());
-    assert!(desk.flatten(tame.lent()).is_ok_and(|made| made.evaluations <= 13_716 + MOST_WEIGHED));
+    assert!(matches!(desk.flatten(tame.as_slices()), Ok(made) if made.evaluations <= 13_716 + MOST_WEIGHED));
 }
 
 /// Many stops of wild colours, smoothly joined, need more stops than a judge takes; mixed linearly no more than they are.
@@ -198,5 +211,5 @@ fn too_many_stops() {
     let ramp = SmoothstepGradient::new(&positions, &colors).expect("a ramp");
     assert_eq!(ramp.flatten_within(0.001, 0.001), Err(Refusal::NoRoom));
     let linear = LinearGradient::new(&positions, &colors).expect("a ramp");
-    assert!(linear.flatten_within(0.001, 0.001).is_ok_and(|(_, list)| list.len() <= n));
+    assert!(matches!(linear.flatten_within(0.001, 0.001), Ok((_, list)) if list.len() <= n));
 }

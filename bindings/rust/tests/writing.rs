@@ -1,6 +1,8 @@
 //! Lists written as GIMP texts: their bytes, what each refusal leaves, and that they read back.
 
-use guineaplume::lent::{self, written_bytes, MOST_NUMERAL, MOST_WRITTEN};
+#![cfg(feature = "std")]
+
+use guineaplume::slices::{self, written_bytes, MOST_NUMERAL, MOST_WRITTEN};
 use guineaplume::{Color, GimpGradient, Gradient, LinearGradient, Refusal};
 
 const BLACK: Color = Color::new(0.0, 0.0, 0.0, 1.0);
@@ -14,7 +16,7 @@ const GRAY_TEXT: &str = concat!(
 
 fn text_of(x: f32) -> String {
     let mut out = [0; MOST_NUMERAL];
-    let len = lent::numeral(x, &mut out);
+    let len = slices::numeral(x, &mut out);
     String::from_utf8(out[..len].to_vec()).unwrap()
 }
 
@@ -35,7 +37,7 @@ fn numbers() {
     for bits in (1e-6f32.to_bits()..=1e6f32.to_bits()).step_by(99_991) {
         let x = f32::from_bits(bits);
         assert_eq!(text_of(x).parse::<f32>().map(f32::to_bits), Ok(bits));
-        assert_eq!(lent::token(text_of(-x).as_bytes()).map(f32::to_bits), Some((-x).to_bits()));
+        assert_eq!(slices::token(text_of(-x).as_bytes()).map(f32::to_bits), Some((-x).to_bits()));
     }
 }
 
@@ -43,7 +45,7 @@ fn numbers() {
 fn what_a_refusal_leaves() {
     let write = |positions: &[f32], channels: &[f32], room: usize| {
         let mut text = vec![7u8; room];
-        let answer = lent::write_ggr(positions, channels, &mut text);
+        let answer = slices::write_ggr(positions, channels, &mut text);
         (answer, text)
     };
     let (long, room) = (GRAY_TEXT.len(), written_bytes(2));
@@ -71,7 +73,7 @@ fn a_pair_of_no_length_is_kept() {
     let mut text = vec![0; written_bytes(4)];
     let positions = [0.0, 0.25, 0.25, 1.0];
     let channels: Vec<f32> = (0..16).map(|i| i as f32 / 16.0).collect();
-    let bytes = lent::write_ggr(&positions, &channels, &mut text).unwrap();
+    let bytes = slices::write_ggr(&positions, &channels, &mut text).unwrap();
     let text = std::str::from_utf8(&text[..bytes]).unwrap();
     assert!(text.contains("\n3\n") && text.contains("\n0.250000000 0.250000000 0.250000000 "));
     assert!(GimpGradient::new(text.as_bytes(), &BLACK, &WHITE).is_ok());
@@ -90,10 +92,10 @@ fn lists_read_back() {
         (positions[0], positions[n - 1]) = (0.0, 1.0);
         let channels: Vec<f32> = (0..4 * n).map(|_| next().max(1e-6)).collect();
         let mut text = vec![0; written_bytes(n)];
-        let bytes = lent::write_ggr(&positions, &channels, &mut text).unwrap();
+        let bytes = slices::write_ggr(&positions, &channels, &mut text).unwrap();
         let (mut p, mut c, mut k) = (vec![9.0; 3 * n], vec![9.0; 8 * n], vec![9; 2 * n]);
-        let out = lent::SegmentsMut { positions: &mut p, channels: &mut c, codes: &mut k };
-        assert_eq!(lent::read(&text[..bytes], BLACK, WHITE, out), Ok(n - 1));
+        let out = slices::SegmentsMut { positions: &mut p, channels: &mut c, codes: &mut k };
+        assert_eq!(slices::read(&text[..bytes], BLACK, WHITE, out), Ok(n - 1));
         for i in 0..n - 1 {
             assert_eq!(
                 (p[3 * i].to_bits(), p[3 * i + 2].to_bits()),

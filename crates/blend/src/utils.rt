@@ -26,7 +26,7 @@ pub fn interpolate_linear(p: Rgba, q: Rgba, t: f32) -> Rgba
     }
 }
 
-pub fn interpolate_smoothstep(p: Rgba, q: Rgba, t: f32) -> Rgba
+pub(crate) fn interpolate_smoothstep(p: Rgba, q: Rgba, t: f32) -> Rgba
     ensures { λ r. ⌜ r ≡ smooth p q t ⌝ }
 {
     Rgba {

@@ -1,9 +1,11 @@
 // The public face: every call of the library under one name, with the theorems on them (proofs/Refreshing). It has no
 // code of its own. A ramp is lent as slices, and every call answers for any slices at all.
 
-// Making a ramp: sharp bands, and a GIMP text's segments and name.
+// Making a ramp: sharp bands, and a GIMP text's segments and name, by document 01's rules or as GIMP saves it.
 pub use ggr::name;
+pub use ggr::name_saved;
 pub use ggr::read;
+pub use ggr::read_saved;
 pub use sharp_ramp::build;
 
 // Its colour at a point, and at many.
@@ -29,6 +31,10 @@ pub use ggr_writing::write;
 // the changed ramp.
 pub use refresh::refresh;
 pub use refresh::refresh_list;
+
+// The way to edit: ramp, record and list as one thing, of one ramp through any number of edits.
+pub use sheet::edit;
+pub use sheet::open;
 
 // A list that was made elsewhere: whether it shows a ramp within a threshold, and what is wrong if not.
 pub use judge::judge;

@@ -9,14 +9,15 @@ use Rattle.stops.specs.declared.Kind.{Kind}
 use Rattle.sampling.specs.Lent.{Held}
 use Rattle.linearize.specs.Desk.{numberOfListed}
 use Rattle.refresh.specs.declared.editing.Edit.{Edit}
-use Rattle.refresh.specs.RefreshDesk.{Refreshes, RefreshLists, numberOfRefreshed}
-use Rattle.refresh.specs.declared.Refreshed.{Refreshed}
-use Rattle.refresh.specs.declared.Refreshed.the-variants as refreshed
+use Rattle.refresh.specs.RefreshDesk.{Refreshes, RefreshLists}
+use Rattle.sampling.specs.Sampling.{numberOfSampled}
+use Rattle.sampling.specs.declared.Sampled.{Sampled}
+use Rattle.sampling.specs.declared.Sampled.the-variants as sampled
 use Rattle.linearize.specs.declared.Listed.{Listed}
 use Rattle.linearize.specs.declared.Listed.the-variants as listed
 use Rattle.colorgrad_c.specs.plain.Telling.{Reply}
 use Rattle.colorgrad_c.specs.plain.Kinds.{CodedRamp, Tells}
-use Rattle.colorgrad_c.specs.plain.Lists.{listedTold, refreshedTold}
+use Rattle.colorgrad_c.specs.plain.Lists.{listedTold, sampledTold}
 use Rattle.colorgrad_c.specs.Lists.{Lendings}
 
 -- the promises of `refresh`, of a ramp of any kind and an edit; a code that names no kind is 1 and changes nothing
@@ -24,8 +25,8 @@ module _ (by : CodedRamp) (e : Edit) (asked : Float) where
   abbrev pub CodedRefreshes : Change Held → Reply (List ℕ) → Type 0
   CodedRefreshes held =
       Tells (by .code) (λ (kind : Kind). Refreshes (by .ramp kind) e asked held)
-      (λ (a : Refreshed). (a ≡ refreshed.Refused misshapen) × (held .exit ≡ held .entry))
-      numberOfRefreshed refreshedTold
+      (λ (a : Sampled). (a ≡ sampled.Refused misshapen) × (held .exit ≡ held .entry))
+      numberOfSampled sampledTold
 
   abbrev pub CodedRelists : Lendings → ℕ → Type 0
   CodedRelists l n =

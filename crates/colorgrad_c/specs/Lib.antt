@@ -6,6 +6,7 @@ pub mod Gimp
 pub mod Lists
 pub mod Judging
 pub mod Edits
+pub mod Sheets
 pub mod inner
 pub mod Writer
 pub mod plain

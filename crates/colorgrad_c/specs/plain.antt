@@ -6,3 +6,4 @@ pub mod Lists
 pub mod Name
 pub mod Steps
 pub mod Verdicts
+pub mod Sheets

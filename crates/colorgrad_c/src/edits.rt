@@ -3,10 +3,10 @@ use crate::plain::edits::edit_of;
 use crate::plain::kinds;
 use crate::plain::kinds::Coded;
 use crate::plain::lists::tell_listed;
-use crate::plain::lists::tell_refreshed;
+use crate::plain::lists::tell_sampled;
 use linearize::Listed;
-use refresh::Refreshed;
 use refusals::MISSHAPEN;
+use sampling::Sampled;
 ghost use Rattle.sampling.specs.Lent.{lentHeld};
 ghost use Rattle.colorgrad_c.specs.plain.Telling.{reply};
 ghost use Rattle.colorgrad_c.specs.plain.Kinds.{rampBy};
@@ -28,16 +28,16 @@ pub extern "C" fn colorgrad_edit_told(
     g: f32,
     b: f32,
     a: f32,
-    asked: f32,
+    threshold: f32,
     rows: &mut [f32],
     counts: &mut [u8],
     marks: &mut [u32],
     told: &mut [usize],
 ) -> u32
-    ensures { λ n. ⌜ CodedRefreshes (rampBy kind positions channels codes) (editOf sort stop at r g b a) asked (lentHeld rows counts marks) (reply n told) ⌝ }
+    ensures { λ n. ⌜ CodedRefreshes (rampBy kind positions channels codes) (editOf sort stop at r g b a) threshold (lentHeld rows counts marks) (reply n told) ⌝ }
 {
     let Coded::Of(known) = kinds::kind_of(kind) else {
-        return tell_refreshed(Refreshed::Refused(MISSHAPEN), told);
+        return tell_sampled(Sampled::Refused(MISSHAPEN), told);
     };
     let edit = edit_of(sort, stop, at, r, g, b, a);
     let refreshed = refresh::refresh(
@@ -46,12 +46,12 @@ pub extern "C" fn colorgrad_edit_told(
         channels,
         codes,
         edit,
-        asked,
+        threshold,
         rows,
         counts,
         marks,
     );
-    tell_refreshed(refreshed, told)
+    tell_sampled(refreshed, told)
 }
 
 // Tells how many stops were written, and the evaluations.
@@ -68,7 +68,7 @@ pub extern "C" fn colorgrad_edit_list_told(
     g: f32,
     b: f32,
     a: f32,
-    asked: f32,
+    threshold: f32,
     rows: &mut [f32],
     counts: &mut [u8],
     marks: &mut [u32],
@@ -76,7 +76,7 @@ pub extern "C" fn colorgrad_edit_list_told(
     colours: &mut [f32],
     told: &mut [usize],
 ) -> u32
-    ensures { λ n. ⌜ CodedRelists (rampBy kind positions channels codes) (editOf sort stop at r g b a) asked (lent rows counts marks places colours told) n ⌝ }
+    ensures { λ n. ⌜ CodedRelists (rampBy kind positions channels codes) (editOf sort stop at r g b a) threshold (lent rows counts marks places colours told) n ⌝ }
 {
     let Coded::Of(known) = kinds::kind_of(kind) else {
         return tell_listed(Listed::Refused(MISSHAPEN), told);
@@ -88,7 +88,7 @@ pub extern "C" fn colorgrad_edit_list_told(
         channels,
         codes,
         edit,
-        asked,
+        threshold,
         rows,
         counts,
         marks,

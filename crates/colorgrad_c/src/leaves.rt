@@ -4,6 +4,7 @@ ghost use Rattle.stops.specs.Lent.{old, new};
 ghost use Rattle.sqrt.specs.Root.{rootOf};
 ghost use Rattle.sqrt.specs.Cutoff.{IsCutoff};
 ghost use Rattle.decimal.specs.Decimal.{readOf};
+ghost use Rattle.decimal.specs.Long.{readLongOf};
 ghost use Rattle.sampling.specs.Constants.{thresholdOf};
 ghost use Rattle.within.specs.Lists.{holdOf};
 ghost use Rattle.colorgrad_c.specs.plain.Telling.{telling};
@@ -67,4 +68,13 @@ pub extern "C" fn colorgrad_token_told(text: &[u8], value: &mut [f32]) -> u32
     ensures { λ _. ⌜ new value ≡ telling (valueTold (readOf (old text))) (old value) ⌝ }
 {
     tell_token(decimal::read(text), value)
+}
+
+// The same of a long token.
+#[no_mangle]
+pub extern "C" fn colorgrad_long_token_told(text: &[u8], value: &mut [f32]) -> u32
+    ensures { λ r. ⌜ r ≡ isNumber (readLongOf (old text)) ⌝ }
+    ensures { λ _. ⌜ new value ≡ telling (valueTold (readLongOf (old text))) (old value) ⌝ }
+{
+    tell_token(decimal::read_long(text), value)
 }

@@ -9,6 +9,7 @@ pub mod leaves;
 pub mod lists;
 pub mod plain;
 pub mod ramps;
+pub mod sheets;
 pub mod steps;
 pub mod tool;
 pub mod writer;

@@ -5,6 +5,7 @@ pub mod kinds;
 pub mod lists;
 pub mod name;
 pub mod ramps;
+pub mod sheets;
 pub mod steps;
 pub mod telling;
 pub mod verdicts;

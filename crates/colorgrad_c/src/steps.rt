@@ -18,7 +18,7 @@ pub extern "C" fn colorgrad_next_stop_told(
     positions: &[f32],
     channels: &[f32],
     codes: &[u8],
-    asked: f32,
+    threshold: f32,
     rows: &[f32],
     counts: &[u8],
     marks: &[u32],
@@ -28,7 +28,7 @@ pub extern "C" fn colorgrad_next_stop_told(
     told: &mut [usize],
     stop: &mut [f32],
 ) -> u32
-    ensures { λ r. ⌜ CodedHandsOut (rampBy kind positions channels codes) asked (lentHeld rows counts marks) state row index (replies r told stop) ⌝ }
+    ensures { λ r. ⌜ CodedHandsOut (rampBy kind positions channels codes) threshold (lentHeld rows counts marks) state row index (replies r told stop) ⌝ }
 {
     let place = place_from(state, row, index);
     let Coded::Of(known) = kinds::kind_of(kind) else {
@@ -44,7 +44,7 @@ pub extern "C" fn colorgrad_next_stop_told(
         positions,
         channels,
         codes,
-        asked,
+        threshold,
         rows,
         counts,
         marks,

@@ -8,16 +8,19 @@ use lib.Dec.{lit≤}
 use lib.Pow.{pow-add, pow-mono}
 
 -- ---- how often a number is doubled
-few : (p x k n : ℕ) → 0 < p → p * 2 ^ x ≡ n → n < 2 ^ k → x < k
+pub few : (p x k n : ℕ) → 0 < p → p * 2 ^ x ≡ n → n < 2 ^ k → x < k
 few p x k n h e l = lt-of-not-le (λ (g : k ≤ x). not-le-of-lt l (le-trans (pow-mono g) (le-trans (under p (2 ^ x) h) (le-of-eq e))))
   where
     under : (p x : ℕ) → 0 < p → x ≤ p * x
     under p x h = le-trans (le-of-eq (sym (one-mul x))) (mul-le-mul-right x h)
 
-pub down-few : (num den m rest down : ℕ) → 0 < num → num * 2 ^ down ≡ m * den + rest → rest < den → m < 8388608 → den < 2 ^ 42 → down < 65
-down-few num den m rest down h e r l b = few num down 65 (m * den + rest) h e (lt-of-lt-of-le (digits-lt l r) (le-trans (mul-le-mul-left 8388608 (below den b)) (lit≤ tt)))
+-- num has 64 digits and den fewer: a quotient of 23 digits is reached before 23 doublings
+pub down-few : (num den m rest down : ℕ) → 2 ^ 63 ≤ num → num * 2 ^ down ≡ m * den + rest → rest < den → m < 8388608 → den < 2 ^ 63 → down < 23
+down-few num den m rest down h e r l b =
+    lt-of-not-le (λ (g : 23 ≤ down). not-le-of-lt (lt-of-lt-of-le (digits-lt l r) (mul-le-mul-left 8388608 (below den b)))
+    (le-trans (le-trans (mul-le-mul-left (2 ^ 63) (pow-mono {i = 23} {j = down} g)) (mul-le-mul-right (2 ^ down) h)) (le-of-eq e)))
   where
-    below : (x : ℕ) → x < 2 ^ 42 → x ≤ 2 ^ 42
+    below : (x : ℕ) → x < 2 ^ 63 → x ≤ 2 ^ 63
     below x h = omega arith
 
 -- ---- a turn of the division

@@ -1,59 +1,42 @@
--- `round` to binary32 is the nearest f32 of the sign, a tie to the even one, and nothing else is (`round-is-nearest`, `nearest-is-round`): for every fraction of a whole number below 2 ^ 64. Assumes nothing.
+-- `round` to binary32 is the nearest f32 of the sign, a tie to the even one, and nothing else is (`round-is-nearest`, `nearest-is-round`): for every fraction up to where infinity begins. From there on it is infinite (`round-infinite`). Assumes nothing.
 use mathlib.Core.Path.{_≡_, refl, sym, ap, _∙_, subst}
 use mathlib.Core.Logic.{_⊎_, inl, inr}
 use mathlib.Core.Bool.{Bool}
 use Prim.Native.Nat.{ℕ, _+_, _-_, _*_, _/_, _%_, _^_, _≤_, _<_}
-use native.Mathlib.Nat.{le-trans, le-of-eq, le-of-lt, le-antisymm, lt-of-lt-of-le, lt-of-le-of-lt, lt-of-not-le, mul-pos, mod-lt, div-add-mod', div-div-eq-div-mul, div-le-self, le-div-iff-mul-le}
+use native.Mathlib.Nat.{le-trans, le-of-eq, le-of-lt, le-antisymm, lt-of-lt-of-le, lt-of-le-of-lt, lt-of-not-le, not-le-of-lt, mul-pos, mul-assoc, mul-le-mul-right, mul-lt-mul-of-pos-right, mod-lt, div-add-mod', div-lt-iff-lt-mul, le-div-iff-mul-le}
 use native.Mathlib.Decide.{decLe, ℕ-discrete}
 use native.Mathlib.Omega.{arith}
-use lib.Dec.{lit<}
-use lib.Pow.{pow-pos, pow-mono, pow-add, shl-lt}
+use lib.Dec.{lit<, lit≤}
+use lib.Pow.{pow-pos, pow-mono, pow-lt, pow-add}
 use lib.IntN.{pos}
-use lib.Ieee.{Float, fin, binary32, size, round, toBits, fits}
-use lib.Ieee.Digits.{size-le, size-reaches}
-use lib.Ieee.Fits.{kept-lt, round-is, round-fits}
+use lib.Ieee.{Float, inf, fin, binary32, size, round, toBits, fits}
+use lib.Ieee.Digits.{size-lt, size-le}
+use lib.Ieee.Fits.{round-is, round-fits}
 use lib.Ieee.Exact.{HasValue, units-val}
 use lib.Ieee.Nearest.{closest}
 use Rattle.float.specs.Units.{Sized}
-use Rattle.decimal.specs.Nearest.{far, IsNearest}
+use Rattle.decimal.specs.Nearest.{far, IsNearest, past, Rounded, near, beyond}
 use Rattle.float.proofs.Nearest.{stays, moves}
 use Rattle.float.proofs.Units.{Full, shape, same-units}
 use Rattle.decimal.proofs.LastDigit.{last-digit}
+use Rattle.decimal.proofs.Rounds.{kept-few, kept-full, infinite, round-beyond}
 use Rattle.decimal.proofs.Neighbours.{Between, full-next, few-next, nearer, tie}
 
 -- ---- what `round` picks: in units the fraction is n / p, and it drops k digits
 
-module _ (n p k : ℕ) (k-is : k ≡ size (n / p) - 24) (P : 0 < p) where
-  abbrev u : ℕ
-  u = p * 2 ^ k
+between : (n p k : ℕ) → k ≡ size (n / p) - 24 → 0 < p → Between n p (closest n (p * 2 ^ k)) k
+between n p k e P =
+    record { w = w; rest = n % u; long = sym (div-add-mod' n u); less = mod-lt n (mul-pos P (pow-pos k)); full = kept-full n p k e; few = kept-few n p k e; picks = go (decLe (n % u * 2 + w % 2) u) }
+  where
+    u : ℕ
+    u = p * 2 ^ k
 
-  abbrev w : ℕ
-  w = n / u
+    w : ℕ
+    w = n / u
 
-  w-lt : w < 2 ^ 24
-  w-lt = subst (λ (x : ℕ). x < 2 ^ 24) (ap (λ (j : ℕ). n / p / 2 ^ j) (sym k-is) ∙ div-div-eq-div-mul n p (2 ^ k)) (kept-lt 24 (n / p))
-
-  w-full : Full w k
-  w-full = go (decLe 1 k)
-    where
-      none : (x : ℕ) → x < 1 → x ≡ 0
-      none x h = omega arith
-
-      all : (x z : ℕ) → x ≡ z - 24 → 1 ≤ x → 23 + x < z
-      all x z e h = omega arith
-
-      go : Dec (1 ≤ k) → Full w k
-      go (no f) = inl (none k (lt-of-not-le f))
-      go (yes l) =
-          inr (subst (λ (x : ℕ). 2 ^ 23 ≤ x) (div-div-eq-div-mul n p (2 ^ k))
-          (le-div-iff-mul-le (pow-pos k) .1 (le-trans (le-of-eq (sym (pow-add 2 23 k))) (size-reaches (n / p) (23 + k) (all k (size (n / p)) k-is l)))))
-
-  between : Between n p (closest n u) k
-  between = record { w = w; rest = n % u; long = sym (div-add-mod' n u); less = mod-lt n (mul-pos P (pow-pos k)); full = w-full; few = w-lt; picks = go (decLe (n % u * 2 + w % 2) u) }
-    where
-      go : Dec (n % u * 2 + w % 2 ≤ u) → ((closest n u ≡ w) × (n % u * 2 + w % 2 ≤ u)) ⊎ ((closest n u ≡ w + 1) × (u < n % u * 2 + w % 2))
-      go (yes l) = inl (sym (stays w (n % u * 2) u l), l)
-      go (no f) = let l = lt-of-not-le f in inr (sym (moves w (n % u * 2) u l), l)
+    go : Dec (n % u * 2 + w % 2 ≤ u) → ((closest n u ≡ w) × (n % u * 2 + w % 2 ≤ u)) ⊎ ((closest n u ≡ w + 1) × (u < n % u * 2 + w % 2))
+    go (yes l) = inl (sym (stays w (n % u * 2) u l), l)
+    go (no f) = let l = lt-of-not-le f in inr (sym (moves w (n % u * 2) u l), l)
 
 -- ---- the rounded fraction is q * 2 ^ k units, and q is so picked
 
@@ -73,20 +56,113 @@ ends n p q k b =
       | inr h ↦ subst (λ (x : ℕ). Full x k × (x ≤ 2 ^ 24)) (sym (h .0)) (full-next (b .full), few-next (b .w) (b .few))
     ]
 
--- it is far from too large
-room : (d p q : ℕ) → d < 2 ^ 64 → q ≤ 2 ^ 24 → q * 2 ^ (size (d * 2 ^ 149 / p) - 24) < 2 ^ 277
-room d p q h l = lt-of-lt-of-le (shl-lt 25 k (lt-of-le-of-lt l (lit< tt))) (pow-mono (fit (size (n / p)) (size-le (n / p) 213 (lt-of-le-of-lt (div-le-self n p) (shl-lt 64 149 h)))))
+-- ---- where infinity begins: in units n / p is 33554431 * 2 ^ 252 there, which is half-way from 16777215 to 16777216 of 2 ^ 253
+
+edge : (p : ℕ) → past * p * 2 ^ 149 ≡ 33554431 * (p * 2 ^ 252)
+edge p = shuffle 33554431 (2 ^ 103) p (2 ^ 149) ∙ ap (λ (x : ℕ). 33554431 * (p * x)) (sym (pow-add 2 103 149))
   where
-    n : ℕ
-    n = d * 2 ^ 149
+    shuffle : (a b c e : ℕ) → a * b * c * e ≡ a * (c * (b * e))
+    shuffle a b c e = omega arith
 
-    k : ℕ
-    k = size (n / p) - 24
+double : (p : ℕ) → p * 2 ^ 253 ≡ p * 2 ^ 252 * 2
+double p = ap (λ (x : ℕ). p * x) (pow-add 2 252 1) ∙ sym (mul-assoc p (2 ^ 252) 2)
 
-    fit : (z : ℕ) → z ≤ 213 → 25 + (z - 24) ≤ 277
-    fit z g = omega arith
+-- below it the number picked is no more than 16777215
+below-edge : (w rest t n u q : ℕ) → u ≡ t * 2 → n ≡ w * u + rest → n < 33554431 * t → w < 16777216 → ((q ≡ w) × (rest * 2 + w % 2 ≤ u)) ⊎ ((q ≡ w + 1) × (u < rest * 2 + w % 2)) → q ≤ 16777215
+below-edge w rest t n u q e f h l (inl g) = omega arith
+below-edge w rest t n u q e f h l (inr g) = go (ℕ-discrete w 16777215)
+  where
+    go : Dec (w ≡ 16777215) → q ≤ 16777215
+    go (no k) = omega arith
+    go (yes k) = absurd (over (f ∙ ap (λ (x : ℕ). x * u + rest) k))
+      where
+        over : n ≡ 16777215 * u + rest → ⊥
+        over m = omega arith
 
-module _ (s : Bool) (d p : ℕ) (P : 0 < p) (h : d < 2 ^ 64) where
+-- from it on it is 16777216
+above-edge : (w rest t n u q : ℕ) → u ≡ t * 2 → n ≡ w * u + rest → rest < u → 33554431 * t ≤ n → w < 16777216 → ((q ≡ w) × (rest * 2 + w % 2 ≤ u)) ⊎ ((q ≡ w + 1) × (u < rest * 2 + w % 2)) → q ≡ 16777216
+above-edge w rest t n u q e f r h l g = go (ℕ-discrete w 16777215)
+  where
+    most : (w ≡ 16777215 → ⊥) → w ≤ 16777214
+    most k = omega arith
+
+    go : Dec (w ≡ 16777215) → q ≡ 16777216
+    go (no k) = absurd (short (mul-le-mul-right u (most k)))
+      where
+        short : w * u ≤ 16777214 * u → ⊥
+        short m = omega arith
+    go (yes k) = at-top (f ∙ ap (λ (x : ℕ). x * u + rest) k) (ap (λ (x : ℕ). x % 2) k) g
+      where
+        at-top : n ≡ 16777215 * u + rest → w % 2 ≡ 1 → ((q ≡ w) × (rest * 2 + w % 2 ≤ u)) ⊎ ((q ≡ w + 1) × (u < rest * 2 + w % 2)) → q ≡ 16777216
+        at-top m o (inl p) = absurd (never m o (p .1))
+          where
+            never : n ≡ 16777215 * u + rest → w % 2 ≡ 1 → rest * 2 + w % 2 ≤ u → ⊥
+            never m o z = omega arith
+        at-top m o (inr p) = omega arith
+
+module _ (d p : ℕ) (P : 0 < p) where
+  abbrev n : ℕ
+  n = d * 2 ^ 149
+
+  abbrev k : ℕ
+  k = size (n / p) - 24
+
+  abbrev q : ℕ
+  q = closest n (p * 2 ^ k)
+
+  room : d < past * p → q ≤ 2 ^ 24 → q * 2 ^ k < 2 ^ 277
+  room h l = go (decLe k 252)
+    where
+      n-less : n < 33554431 * (p * 2 ^ 252)
+      n-less = lt-of-lt-of-le (mul-lt-mul-of-pos-right h (pow-pos 149)) (le-of-eq (edge p))
+
+      size-most : size (n / p) ≤ 277
+      size-most = size-le (n / p) 277 (div-lt-iff-lt-mul P .1 (lt-of-lt-of-le n-less (le-trans (le-of-eq (shuffle 33554431 p (2 ^ 252))) (mul-le-mul-right p (lit≤ {m = 33554431 * 2 ^ 252} {n = 2 ^ 277} tt)))))
+        where
+          shuffle : (a b c : ℕ) → a * (b * c) ≡ a * c * b
+          shuffle a b c = omega arith
+
+      top : (x z : ℕ) → x ≡ z - 24 → z ≤ 277 → (x ≤ 252 → ⊥) → x ≡ 253
+      top x z e g f = omega arith
+
+      go : Dec (k ≤ 252) → q * 2 ^ k < 2 ^ 277
+      go (yes g) = lt-of-le-of-lt (le-trans (mul-le-mul-right (2 ^ k) l) (le-trans (le-of-eq (sym (pow-add 2 24 k))) (pow-mono {i = 24 + k} {j = 276} (up k g)))) (pow-lt {i = 276} {j = 277} (lit< tt))
+        where
+          up : (x : ℕ) → x ≤ 252 → 24 + x ≤ 276
+          up x g = omega arith
+      go (no f) =
+          let k-is : k ≡ 253 = top k (size (n / p)) refl size-most f in
+          let b = between n p k refl P in
+          let l = below-edge (b .w) (b .rest) (p * 2 ^ 252) n (p * 2 ^ k) q (ap (λ (j : ℕ). p * 2 ^ j) k-is ∙ double p) (b .long) n-less (b .few) (b .picks) in
+          lt-of-le-of-lt (mul-le-mul-right (2 ^ k) l) (subst (λ (j : ℕ). 16777215 * 2 ^ j < 2 ^ 277) (sym k-is) (lit< tt))
+
+  pub round-infinite : (s : Bool) → past * p ≤ d → round binary32 s d p ≡ inf s
+  round-infinite s h = go (decLe 254 k)
+    where
+      n-more : 33554431 * (p * 2 ^ 252) ≤ n
+      n-more = le-trans (le-of-eq (sym (edge p))) (mul-le-mul-right (2 ^ 149) h)
+
+      reaches : 2 ^ 276 ≤ n / p
+      reaches = le-div-iff-mul-le P .1 (le-trans (mul-le-mul-right p (lit≤ {m = 2 ^ 276} {n = 33554431 * 2 ^ 252} tt)) (le-trans (le-of-eq (shuffle 33554431 (2 ^ 252) p)) n-more))
+        where
+          shuffle : (a b c : ℕ) → a * b * c ≡ a * (c * b)
+          shuffle a b c = omega arith
+
+      size-least : 276 < size (n / p)
+      size-least = lt-of-not-le (λ (g : size (n / p) ≤ 276). not-le-of-lt (lt-of-lt-of-le (size-lt (n / p)) (pow-mono g)) reaches)
+
+      bottom : (x z : ℕ) → x ≡ z - 24 → 276 < z → (254 ≤ x → ⊥) → x ≡ 253
+      bottom x z e g f = omega arith
+
+      go : Dec (254 ≤ k) → round binary32 s d p ≡ inf s
+      go (yes g) = round-beyond s d p k (kept-full n p k refl) (kept-few n p k refl) g
+      go (no f) =
+          let k-is : k ≡ 253 = bottom k (size (n / p)) refl size-least f in
+          let b = between n p k refl P in
+          let e = above-edge (b .w) (b .rest) (p * 2 ^ 252) n (p * 2 ^ k) q (ap (λ (j : ℕ). p * 2 ^ j) k-is ∙ double p) (b .long) (b .less) n-more (b .few) (b .picks) in
+          round-is binary32 s d p ∙ infinite s q k (subst (λ (j : ℕ). 2 ^ 277 ≤ q * 2 ^ j) (sym k-is) (subst (λ (x : ℕ). 2 ^ 277 ≤ x * 2 ^ 253) (sym e) (lit≤ tt)))
+
+module _ (s : Bool) (d p : ℕ) (P : 0 < p) (h : d < past * p) where
   picked : Picked s d p (round binary32 s d p)
   picked =
       let n = d * 2 ^ 149 in
@@ -97,7 +173,7 @@ module _ (s : Bool) (d p : ℕ) (P : 0 < p) (h : d < 2 ^ 64) where
       record {
         q = q;
         k = k;
-        sized = record { one = round-fits binary32 s d p; is = subst (λ (x : Float). HasValue x s (q * 2 ^ k) (2 ^ 149)) (sym (round-is binary32 s d p)) (units-val binary32 s q k (room d p q h (e .1))) };
+        sized = record { one = round-fits binary32 s d p; is = subst (λ (x : Float). HasValue x s (q * 2 ^ k) (2 ^ 149)) (sym (round-is binary32 s d p)) (units-val binary32 s q k (room d p P h (e .1))) };
         picks = b;
         full = e .0;
         few = e .1;
@@ -136,6 +212,19 @@ module _ (s : Bool) (d p : ℕ) (P : 0 < p) (h : d < 2 ^ 64) where
           let odd : toBits binary32 x % 2 ≡ 1 = last-digit (t .1) (r .k) (subst (λ (a : ℕ). Sized x s a) (t .2) (i .is)) (t .3 .full) (t .3 .few) ∙ t .3 .is in
           let differ : round binary32 s d p ≡ x → ⊥ = λ (g : round binary32 s d p ≡ x). clash (toBits binary32 x % 2) (ap (λ (y : Float). toBits binary32 y % 2) (sym g) ∙ even) odd in
           absurd (clash (toBits binary32 x % 2) (i .even (round binary32 s d p) (r .q * 2 ^ r .k) (r .sized) (sym e) differ) odd)
+
+-- ---- so, of every fraction, what it is rounded to
+module _ (s : Bool) (d p : ℕ) (P : 0 < p) where
+  pub round-is-rounded : Rounded s d p (round binary32 s d p)
+  round-is-rounded = go (decLe (past * p) d)
+    where
+      go : Dec (past * p ≤ d) → Rounded s d p (round binary32 s d p)
+      go (no f) = let h = lt-of-not-le f in near h (round-is-nearest s d p P h)
+      go (yes h) = subst (Rounded s d p) (sym (round-infinite d p P s h)) (beyond h)
+
+  pub rounded-is-round : (r : Float) → Rounded s d p r → r ≡ round binary32 s d p
+  rounded-is-round r (near h i) = nearest-is-round s d p P h r i
+  rounded-is-round r (beyond h) = sym (round-infinite d p P s h)
 
 -- ---- an f32 of the other sign, c units from zero, is no nearer
 pub none-across : {s : Bool} {d p : ℕ} {r : Float} (i : IsNearest s d p r) (c : ℕ) → far d p (i .count) ≤ c * p + d * 2 ^ 149

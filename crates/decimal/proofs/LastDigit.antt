@@ -18,7 +18,7 @@ fields-low s q h = ap (fields s) (mul-one q) ∙ fields-put s q (size q) 0 q ref
     few : (z : ℕ) → z ≤ 23 → z - 24 ≡ 0
     few z l = omega arith
 
-fields-at : (s : Bool) (q k : ℕ) → Full q k → q ≤ 2 ^ 24 → fields s (q * 2 ^ k) ≡ cond s (2 ^ 31) 0 + k * 2 ^ 23 + q
+pub fields-at : (s : Bool) (q k : ℕ) → Full q k → q ≤ 2 ^ 24 → fields s (q * 2 ^ k) ≡ cond s (2 ^ 31) 0 + k * 2 ^ 23 + q
 fields-at s q k (inr l) h = fields-of s q k l h
 fields-at s q k (inl e) h = subst (λ (j : ℕ). fields s (q * 2 ^ j) ≡ cond s (2 ^ 31) 0 + j * 2 ^ 23 + q) (sym e) (go (decLe (2 ^ 23) q))
   where

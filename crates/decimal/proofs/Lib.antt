@@ -1,14 +1,26 @@
 -- Laws and examples that belong to no one function.
+pub mod Counting
 pub mod Division
 pub mod Examples
 pub mod Finite
 pub mod Grammar
 pub mod IsNearest
 pub mod LastDigit
+pub mod LongAfter
+pub mod LongForms
+pub mod LongGrammar
+pub mod LongPlace
+pub mod LongRuns
+pub mod Moves
 pub mod Neighbours
 pub mod OneForm
 pub mod Parts
 pub mod Place
+pub mod Rounds
 pub mod Scale
 pub mod Quick
+pub mod Significance
+pub mod Tens
 pub mod Theorems
+pub mod WideTurns
+pub mod Words

@@ -1,35 +1,39 @@
 -- Bytes have one form at most: the sign, the digits and how many stand after the point can be read off them (`one-form`). Assumes nothing.
-use mathlib.Core.Path.{_≡_, refl, sym, ap, _∙_}
+use mathlib.Core.Path.{_≡_, refl, sym, ap, _∙_, subst}
+use mathlib.Core.Logic.{_⊎_, inl, inr}
 use mathlib.Core.Bool.{Bool, true, false, cond}
 use mathlib.Core.List.{List, [], _∷_, _++_, append-nil}
 use Prim.Native.Nat.{ℕ, _<_}
 use native.Mathlib.Nat.{lt-irrefl}
+use native.Mathlib.Omega.{arith}
 use lib.Dec.{eqb}
 use lib.ListN.{length}
+use borrow.Author.Tests.{eqb-true}
 use Rattle.decimal.specs.Decimal.{isDigit, areDigits, valueAfter, beforePoint, afterPoint}
+use Rattle.decimal.specs.Long.{isMinus, pastSign}
+use Rattle.decimal.specs.inner.Counted.{isPoint}
 use Rattle.decimal.specs.Form.{Sign, none, plus, minus, Rest, nothing, point, Form}
 use Rattle.decimal.proofs.Parts.{no-digit, first-of, before-run, after-run}
 
 -- ---- the sign, and what follows it
 
-isMinus : List ℕ → Bool
-isMinus [] = false
-isMinus (b ∷ bs) = eqb b 45
+-- a digit or a point stands first
+pub begins : {rest ys : List ℕ} (xs : List ℕ) → Rest rest ys → (tail : List ℕ) → 0 < length (xs ++ ys) → (0 < length xs) ⊎ (isPoint (rest ++ tail) ≡ true)
+begins [] nothing tail l = absurd (lt-irrefl 0 l)
+begins (x ∷ xs) nothing tail l = inl (omega arith)
+begins xs point tail l = inr refl
 
-pastSign : List ℕ → List ℕ
-pastSign [] = []
-pastSign (b ∷ bs) = cond (eqb b 45) bs (cond (eqb b 43) bs (b ∷ bs))
-
-sign-off : {sign rest ys : List ℕ} {neg : Bool} → Sign sign neg → (xs : List ℕ) → Rest rest ys → areDigits xs ≡ true → 0 < length (xs ++ ys)
+pub sign-off : {sign : List ℕ} {neg : Bool} → Sign sign neg → (xs rest : List ℕ) → areDigits xs ≡ true → (0 < length xs) ⊎ (isPoint rest ≡ true)
     → (isMinus (sign ++ (xs ++ rest)) ≡ neg) × (pastSign (sign ++ (xs ++ rest)) ≡ xs ++ rest)
-unfolding isMinus pastSign areDigits
-sign-off none [] nothing h l = absurd (lt-irrefl 0 l)
-sign-off none [] point h l = (refl, refl)
-sign-off none (x ∷ xs) r h l =
+unfolding areDigits
+sign-off none [] rest h (inl l) = absurd (lt-irrefl 0 l)
+sign-off none [] [] h (inr e) = (refl, refl)
+sign-off none [] (b ∷ bs) h (inr e) = let x = eqb-true b 46 e in (ap (λ (y : ℕ). eqb y 45) x, ap (λ (y : ℕ). cond (eqb y 45) bs (cond (eqb y 43) bs (b ∷ bs))) x)
+sign-off none (x ∷ xs) rest h l =
     let d = first-of (isDigit x) (areDigits xs) h in
     (no-digit x 45 d refl, simp (no-digit x 45 d refl, no-digit x 43 d refl))
-sign-off plus xs r h l = (refl, refl)
-sign-off minus xs r h l = (refl, refl)
+sign-off plus xs rest h l = (refl, refl)
+sign-off minus xs rest h l = (refl, refl)
 
 -- ---- the digits before the point and after it
 
@@ -47,7 +51,7 @@ record Off (s : List ℕ) (neg : Bool) (d k : ℕ) : Type 0 where
 
 off : {s : List ℕ} {neg : Bool} {d k : ℕ} → Form s neg d k → Off s neg d k
 off {s} f =
-    let a = sign-off (f .signed) (f .before) (f .ends) (f .digits .0) (f .some) in
+    let a = sign-off (f .signed) (f .before) (f .rest) (f .digits .0) (subst (λ (l : List ℕ). (0 < length (f .before)) ⊎ (isPoint l ≡ true)) (append-nil (f .rest)) (begins (f .before) (f .ends) [] (f .some))) in
     let b = digits-off (f .before) (f .ends) (f .digits .0) in
     let e : pastSign s ≡ f .before ++ f .rest = ap pastSign (f .is) ∙ a .1 in
     record {

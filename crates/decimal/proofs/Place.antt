@@ -16,10 +16,10 @@ use Rattle.decimal.specs.inner.Steps.{DigitRun, RunsTo}
 use Rattle.decimal.proofs.Parts.{digit, digits-none, digits-more, value-split, whole-number, point-number, other-byte, after-byte}
 
 -- ---- a place in the token
-at-byte : (s : List ℕ) (i : ℕ) → i < length s → drop i s ≡ getD s i 0 ∷ drop (i + 1) s
+pub at-byte : (s : List ℕ) (i : ℕ) → i < length s → drop i s ≡ getD s i 0 ∷ drop (i + 1) s
 at-byte s i h = rw (add-one, drop-cons s i 0)
 
-at-end : (s : List ℕ) (i : ℕ) → i ≤ length s → length s ≤ i → drop i s ≡ []
+pub at-end : (s : List ℕ) (i : ℕ) → i ≤ length s → length s ≤ i → drop i s ≡ []
 at-end s i a b = ap (λ (x : ℕ). drop x s) (le-antisymm a b) ∙ drop-length s
 
 -- what holds at the loop's head: the digits from `from` to i make value

@@ -16,13 +16,13 @@ pub ten-le : (n k : ℕ) → n ≤ k → 10 ^ n ≤ 10 ^ k
 ten-le n k h = pow-le-pow-right (lit< tt) h
 
 -- ---- a number moved up to 40 digits, or left where it has more
-module _ (five : ℕ) (p : 0 < five) (h : five < 2 ^ 42) where
+module _ (five : ℕ) (p : 0 < five) (h : five < 2 ^ 63) where
   abbrev z : ℕ
   z = leadingZeros 64 five
 
   pub reaches : 24 ≤ z → DoublesTo five (z - 24)
   reaches l =
-      let t = leading-top 64 five p (lt-of-lt-of-le h (pow-mono {i = 42} {j = 64} (omega arith))) in
+      let t = leading-top 64 five p (lt-of-lt-of-le h (pow-mono {i = 63} {j = 64} (omega arith))) in
       let j = t .0 in
       let e : z + suc j ≡ 64 = t .1 in
       let lo : 2 ^ j ≤ five = t .2 in
@@ -32,23 +32,23 @@ module _ (five : ℕ) (p : 0 < five) (h : five < 2 ^ 42) where
       let top : five * 2 ^ (z - 24) < 2 ^ 40 = subst (λ (x : ℕ). five * 2 ^ (z - 24) < 2 ^ x) e2 (shl-lt (suc j) (z - 24) hi) in
       record {
         lo = subst (λ (x : ℕ). x ≤ five * 2 ^ (z - 24)) (sym (pow-add 2 j (z - 24)) ∙ ap (λ (x : ℕ). 2 ^ x) e1) (mul-le-mul-right (2 ^ (z - 24)) lo);
-        hi = lt-of-lt-of-le top (pow-mono {i = 40} {j = 42} (omega arith));
+        hi = lt-of-lt-of-le top (pow-mono {i = 40} {j = 63} (omega arith));
         few = omega arith;
       }
 
   pub has-reached : z < 24 → DoublesTo five 0
   has-reached l =
-      let t = leading-top 64 five p (lt-of-lt-of-le h (pow-mono {i = 42} {j = 64} (omega arith))) in
+      let t = leading-top 64 five p (lt-of-lt-of-le h (pow-mono {i = 63} {j = 64} (omega arith))) in
       let e : z + suc (t .0) ≡ 64 = t .1 in
       let q : 2 ^ 39 ≤ five = le-trans (pow-mono {i = 39} {j = t .0} (omega arith)) (t .2) in
-      record { lo = le-trans q (le-of-eq (sym (mul-one five))); hi = subst (λ (x : ℕ). x < 2 ^ 42) (sym (mul-one five)) h; few = omega arith }
+      record { lo = le-trans q (le-of-eq (sym (mul-one five))); hi = subst (λ (x : ℕ). x < 2 ^ 63) (sym (mul-one five)) h; few = omega arith }
 
 -- ---- once more: num shows that nothing is cut off
 pub twice-it : (num five up : ℕ) → DoublesTo five up → num < 2 ^ 64 → five * 2 ^ up % 2 ^ 64 ≤ num / 16777216 → ScalesTo num five (five * 2 ^ up % 2 ^ 64 * 2) (up + 1)
 twice-it num five up r b l =
     let lo = r .lo in
     let hi = r .hi in
-    let x : five * 2 ^ up % 2 ^ 64 ≡ five * 2 ^ up = mod-eq-of-lt (lt-of-lt-of-le hi (pow-mono {i = 42} {j = 64} (omega arith))) in
+    let x : five * 2 ^ up % 2 ^ 64 ≡ five * 2 ^ up = mod-eq-of-lt (lt-of-lt-of-le hi (pow-mono {i = 63} {j = 64} (omega arith))) in
     let e : five * 2 ^ (up + 1) ≡ five * 2 ^ up * 2 = ap (λ (x : ℕ). five * x) (pow-add 2 up 1) ∙ sym (mul-assoc five (2 ^ up) 2) in
     record { is = omega arith; some = omega arith; bound = omega arith; above = omega arith; few = omega arith }
 

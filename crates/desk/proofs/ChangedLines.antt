@@ -13,6 +13,7 @@ use Rattle.blend.specs.declared.Rgba.{Rgba}
 use Rattle.blend.specs.declared.Stop.{Stop}
 use Rattle.stops.specs.declared.Kind.the-variants.{Linear, Smoothstep}
 use Rattle.text.specs.Text.{firstOf, restOf, same, starts, fields}
+use Rattle.rows.specs.declared.Notation.the-variants.{Short}
 use Rattle.rows.specs.Rows.{Numbers, all, none, addNumber, numbers}
 use Rattle.rows.specs.declared.digits.Digits.{Digits}
 use Rattle.rows.specs.declared.digits.Digits.the-variants.{Bad, Is}
@@ -75,7 +76,7 @@ made-of p n make (all xs) {z} u k e = go (eqb (length xs) n) refl e where
 
 threshold-not : (p : Entry → Bool) → p entry.Unread ≡ false → ((x : Float) → p (entry.Threshold x) ≡ false) → (fs : List (List ℕ)) → p (thresholdEntry fs) ≡ false
 unfolding thresholdEntry
-threshold-not p u f fs = exactly-not p 1 toThreshold (numbers fs) u (λ xs. f (getD xs 0 nan))
+threshold-not p u f fs = exactly-not p 1 toThreshold (numbers Short fs) u (λ xs. f (getD xs 0 nan))
 
 edit-not-stop : (fs : List (List ℕ)) → isStop (editEntry fs) ≡ false
 unfolding editEntry changeEntry
@@ -83,11 +84,11 @@ edit-not-stop [] = refl
 edit-not-stop (f ∷ fs) = go (stopIndexOf f) where
   go : (c : Digits) → isStop (changeEntry c fs) ≡ false
   go Bad = refl
-  go (Is k) = exactly-not isStop 4 (toChange k) (numbers fs) refl (λ xs. refl)
+  go (Is k) = exactly-not isStop 4 (toChange k) (numbers Short fs) refl (λ xs. refl)
 
 stop-not-change : (fs : List (List ℕ)) → isChange (stopEntry fs) ≡ false
 unfolding stopEntry
-stop-not-change fs = exactly-not isChange 5 toStop (numbers fs) refl (λ xs. refl)
+stop-not-change fs = exactly-not isChange 5 toStop (numbers Short fs) refl (λ xs. refl)
 
 -- a line that says a stop, and one that says an edit
 stop-line : (l : List ℕ) {s : Stop} → entryOf l ≡ entry.Stop s → stopEntry (fields (drop 5 l)) ≡ entry.Stop s
@@ -114,7 +115,7 @@ edit-line l h =
 -- the four numbers after an index
 record Channels (fs : List (List ℕ)) (c : Rgba) : Type 0 where
   pub ys : List Float
-  pub is : numbers (restOf fs) ≡ all ys
+  pub is : numbers Short (restOf fs) ≡ all ys
   pub long : length ys ≡ 4
   pub many : 1 < length fs
   pub colour : channelsAt ys 0 ≡ c
@@ -140,8 +141,8 @@ channels-of (f ∷ fs) {e} h = go (stopIndexOf f) h where
   go : (c : Digits) → changeEntry c fs ≡ entry.Change e → Channels (f ∷ fs) (e .colour)
   go Bad h = absurd (true≢false (sym (ap isChange h)))
   go (Is k) h =
-      let m = made-of isChange 4 (toChange k) (numbers fs) refl refl h in
-      record { ys = m .xs; is = m .is; long = m .long; many = omega (arith, numbers-long fs (m .xs) (m .is), m .long); colour = ap (colourIn (e .colour)) (m .made) }
+      let m = made-of isChange 4 (toChange k) (numbers Short fs) refl refl h in
+      record { ys = m .xs; is = m .is; long = m .long; many = omega (arith, numbers-long Short fs (m .xs) (m .is), m .long); colour = ap (colourIn (e .colour)) (m .made) }
 
 number-all : (x : Float) (ys : List Float) → addNumber (Number x) (all ys) ≡ all (x ∷ ys)
 unfolding addNumber
@@ -160,12 +161,12 @@ unfolding entryOf changedLine starts stopEntry numbers
 changed-entry l d {s} {e} h k =
     let fs = fields (drop 5 l) in
     let gs = fields (drop 5 d) in
-    let m = made-of isStop 5 toStop (numbers fs) refl refl (stop-line l h) in
+    let m = made-of isStop 5 toStop (numbers Short fs) refl refl (stop-line l h) in
     let c = channels-of gs (edit-line d k) in
     let long = m .long in
     let parts : fields (toTab (drop 5 l) ++ afterTab (drop 5 d)) ≡ firstOf fs ∷ restOf gs =
-    fields-to (drop 5 l) (afterTab (drop 5 d)) (omega (arith, numbers-long fs (m .xs) (m .is))) ∙ ap (λ (rest : List (List ℕ)). firstOf fs ∷ rest) (fields-after (drop 5 d) (c .many)) in
+    fields-to (drop 5 l) (afterTab (drop 5 d)) (omega (arith, numbers-long Short fs (m .xs) (m .is))) ∙ ap (λ (rest : List (List ℕ)). firstOf fs ∷ rest) (fields-after (drop 5 d) (c .many)) in
     ap stopEntry parts
-    ∙ ap (exactly 5 toStop) (ap₂ addNumber (head-number fs (m .xs) (m .is) (omega arith)) (c .is) ∙ number-all (getD (m .xs) 0 nan) (c .ys))
+    ∙ ap (exactly 5 toStop) (ap₂ addNumber (head-number Short fs (m .xs) (m .is) (omega arith)) (c .is) ∙ number-all (getD (m .xs) 0 nan) (c .ys))
     ∙ five-numbers (getD (m .xs) 0 nan) (c .ys) (c .long)
     ∙ ap₂ (λ (x : Float) (w : Rgba). entry.Stop (record { position = x; colour = w })) (ap (positionIn nan) (m .made)) (c .colour)

@@ -12,7 +12,7 @@ use Rattle.blend.specs.declared.Stop.{Stop}
 use Rattle.stops.specs.declared.Kind.the-variants.{Linear}
 use Rattle.text.specs.Text.{every, atLf, onFirst, lines, same, starts, fields}
 use Rattle.rows.specs.Digits.{digitsOf, digitsWith}
-use Rattle.rows.specs.Rows.{addNumber, numbers}
+use Rattle.rows.specs.Rows.{tokenOf, addNumber, numbers}
 use Rattle.sampling.specs.Constants.{defaultThreshold}
 use Rattle.entries.specs.Entries.{exactly, thresholdEntry, stopEntry, stopIndexOf, changeEntry, editEntry, entryOf}
 use Rattle.entries.specs.Input.{input, fromEnd, fromEdit, stopsOf, afterStops, fromStops, fromThreshold, fromKind, inputOf}
@@ -39,11 +39,11 @@ both : List Stop
 both = record { position = f0; colour = record { r = f0; g = f0; b = f0; a = f1 } } ∷ record { position = f1; colour = record { r = f1; g = f1; b = f1; a = f1 } } ∷ []
 
 reads : inputOf byEdit ≡ input Linear defaultThreshold both (edit.By green)
-unfolding byEdit green both bytes inputOf lines atLf onFirst fromKind fromThreshold fromStops stopsOf afterStops fromEdit fromEnd entryOf starts same fields exactly stopEntry thresholdEntry editEntry changeEntry stopIndexOf digitsWith digitsOf every numbers addNumber readOf unsignedOf numberOf beforePoint afterPoint valueAfter areDigits round ofBits
+unfolding byEdit green both bytes inputOf lines atLf onFirst fromKind fromThreshold fromStops stopsOf afterStops fromEdit fromEnd entryOf starts same fields exactly stopEntry thresholdEntry editEntry changeEntry stopIndexOf digitsWith digitsOf every numbers addNumber tokenOf readOf unsignedOf numberOf beforePoint afterPoint valueAfter areDigits round ofBits
 reads = refl
 
 made : EditMade byEdit byHand green
-unfolding byEdit byHand green bytes lines atLf onFirst changedLines changedLine toTab afterTab entryOf starts same fields exactly stopEntry thresholdEntry editEntry changeEntry stopIndexOf digitsWith digitsOf every numbers addNumber readOf unsignedOf numberOf beforePoint afterPoint valueAfter areDigits round ofBits
+unfolding byEdit byHand green bytes lines atLf onFirst changedLines changedLine toTab afterTab entryOf starts same fields exactly stopEntry thresholdEntry editEntry changeEntry stopIndexOf digitsWith digitsOf every numbers addNumber tokenOf readOf unsignedOf numberOf beforePoint afterPoint valueAfter areDigits round ofBits
 made =
     record {
       body = bytes "kind\tlinear" ∷ bytes "stop\t0\t0\t0\t0\t1" ∷ bytes "stop\t1\t1\t1\t1\t1" ∷ [];

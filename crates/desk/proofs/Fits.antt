@@ -30,10 +30,12 @@ use Rattle.refresh.specs.declared.editing.Edit.{Edit}
 use Rattle.refresh.specs.declared.editing.Edit.the-variants.{Colour}
 use Rattle.refresh.proofs.RefreshAnswers.{relist-most}
 use Rattle.entries.specs.Input.{Input, unread, input, mostKept, inputOf}
-use Rattle.writing.specs.Printed.{refusedText, listText, Puts}
+use Rattle.text.specs.Output.{Puts}
+use Rattle.writing.specs.Printed.{refusedText, listText}
 use Rattle.desk.specs.Tool.{listRoom, listedText, madeText, onSampled, freshText, relistText, editText, blank, inputText, deskOf, mostPrinted, Prints}
 use Rattle.entries.specs.declared.reading.Edited.the-variants as edit
-use Rattle.writing.proofs.Lengths.{few-digits, length-unread, length-refused, length-list}
+use Rattle.text.proofs.Putting.{few-digits}
+use Rattle.writing.proofs.Lengths.{length-unread, length-refused, length-list}
 use Rattle.desk.proofs.Making.{sets-front}
 
 -- ---- the texts

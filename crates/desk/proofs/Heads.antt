@@ -14,7 +14,8 @@ use Rattle.text.specs.Text.{every, onFirst, notTab, fields}
 use Rattle.text.proofs.Bytes.{every-both}
 use Rattle.rows.proofs.Fields.{fields-past}
 use Rattle.linearize.specs.Desk.{listedOf}
-use Rattle.writing.specs.Printed.{decimalOf, countText, rowsText, lineText, refusedText, evaluationsWord, listText}
+use Rattle.text.specs.Output.{decimalOf, countText}
+use Rattle.writing.specs.Printed.{rowsText, lineText, refusedText, evaluationsWord, listText}
 use Rattle.desk.specs.Recoloured.{firstLine, afterFirst, SameStopLines}
 use Rattle.desk.specs.Tool.{listedText}
 

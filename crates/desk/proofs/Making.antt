@@ -36,7 +36,8 @@ use Rattle.refresh.specs.RefreshDesk.{refreshCheck, newEvaluations, refreshOutp
 use Rattle.refresh.specs.declared.editing.Edit.{Edit}
 use Rattle.refresh.specs.declared.editing.Edit.the-variants.{Colour}
 use Rattle.entries.specs.declared.fields.Recolour.{Recolour}
-use Rattle.writing.specs.Printed.{countText, stopText, rowsText, stopsWord, evaluationsWord, listText, replyText, Puts}
+use Rattle.text.specs.Output.{countText, Puts}
+use Rattle.writing.specs.Printed.{stopText, rowsText, stopsWord, evaluationsWord, listText, replyText}
 use Rattle.writing.specs.declared.Reply.{Reply}
 use Rattle.writing.specs.declared.Reply.the-variants as reply
 use Rattle.desk.specs.inner.Steps.{replyOf, Says, Room}
@@ -44,7 +45,7 @@ use Rattle.desk.specs.Tool.{listRoom, listedText, keptIn, madeText, fres
 use Rattle.entries.specs.declared.reading.Edited.{Edited}
 use Rattle.entries.specs.declared.reading.Edited.the-variants as edit
 use Rattle.desk.specs.declared.Desked.the-variants as desked
-use Rattle.writing.proofs.Texts.{puts-size}
+use Rattle.text.proofs.Putting.{puts-size}
 
 -- ---- stores from the start
 pub sets-front : {A : Type 0} (vs l : List A) → length vs ≤ length l → sets l 0 vs ≡ vs ++ drop (length vs) l

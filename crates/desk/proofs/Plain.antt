@@ -17,6 +17,7 @@ use Rattle.stops.specs.Stops.{finiteRgba}
 use Rattle.stops.specs.declared.Kind.{Kind}
 use Rattle.gradient.specs.Ramp.{isGimp}
 use Rattle.text.specs.Text.{same, starts, fields, lines}
+use Rattle.rows.specs.declared.Notation.the-variants.{Short}
 use Rattle.rows.specs.Rows.{Numbers, all, none, numbers}
 use Rattle.rows.specs.declared.digits.Digits.{Digits}
 use Rattle.rows.specs.declared.digits.Digits.the-variants.{Bad, Is}
@@ -54,17 +55,17 @@ exactly-plain n make (all xs) h f = go (eqb (length xs) n) refl where
 
 stop-plain : (fs : List (List ℕ)) → plainEntry (stopEntry fs) ≡ true
 unfolding stopEntry
-stop-plain fs = exactly-plain 5 toStop (numbers fs) (numbers-finite fs) (λ xs h e.
+stop-plain fs = exactly-plain 5 toStop (numbers Short fs) (numbers-finite Short fs) (λ xs h e.
     rw (h 1 (omega arith), h 2 (omega arith), h 3 (omega arith), h 4 (omega arith)))
 
 threshold-plain : (fs : List (List ℕ)) → plainEntry (thresholdEntry fs) ≡ true
 unfolding thresholdEntry
-threshold-plain fs = exactly-plain 1 toThreshold (numbers fs) (numbers-finite fs) (λ xs h e. refl)
+threshold-plain fs = exactly-plain 1 toThreshold (numbers Short fs) (numbers-finite Short fs) (λ xs h e. refl)
 
 change-plain : (c : Digits) (fs : List (List ℕ)) → plainEntry (changeEntry c fs) ≡ true
 unfolding changeEntry
 change-plain Bad fs = refl
-change-plain (Is k) fs = exactly-plain 4 (toChange k) (numbers fs) (numbers-finite fs) (λ xs h e.
+change-plain (Is k) fs = exactly-plain 4 (toChange k) (numbers Short fs) (numbers-finite Short fs) (λ xs h e.
     rw (h 0 (omega arith), h 1 (omega arith), h 2 (omega arith), h 3 (omega arith)))
 
 edit-plain : (fs : List (List ℕ)) → plainEntry (editEntry fs) ≡ true

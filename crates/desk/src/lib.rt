@@ -9,7 +9,7 @@ use slices::zero_bytes;
 use writing::Reply;
 use writing::write;
 ghost use Rattle.stops.specs.Lent.{old, new};
-ghost use Rattle.writing.specs.Printed.{Puts};
+ghost use Rattle.text.specs.Output.{Puts};
 ghost use Rattle.desk.specs.Tool.{deskOf, Desks, Prints};
 ghost use Rattle.desk.specs.inner.Steps.{Says, Room};
 

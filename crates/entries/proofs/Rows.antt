@@ -11,6 +11,7 @@ use borrow.Author.Tests.{eq-eqb, ne-eqb, le-leb, lt-leb}
 use Rattle.text.specs.declared.Class.the-variants.{NotTab}
 use Rattle.rows.specs.declared.digits.Digits.{Digits}
 use Rattle.rows.specs.declared.digits.Digits.the-variants.{Bad, Is}
+use Rattle.rows.specs.declared.Notation.the-variants.{Short}
 use Rattle.rows.specs.declared.Parting.the-variants.{Tabs}
 use Rattle.text.specs.Text.{fields, same, starts}
 use Rattle.rows.specs.Digits.{digitsWith}
@@ -33,18 +34,18 @@ is-exactly : (k : ℕ) (make : List Float → Entry) (xs : List Float) → lengt
 unfolding exactly
 is-exactly k make xs e = rw (eq-eqb (length xs) k e)
 
-module _ (l : List ℕ) (from : ℕ) (h : from ≤ length l) {d : List Float} {n next : ℕ} (w : RowAt Tabs l from d n next) where
+module _ (l : List ℕ) (from : ℕ) (h : from ≤ length l) {d : List Float} {n next : ℕ} (w : RowAt Short Tabs l from d n next) where
   abbrev here : Numbers
-  here = numbers (fields (drop from l))
+  here = numbers Short (fields (drop from l))
 
   other-row : (k : ℕ) → k ≤ longest → (make : List Float → Entry) → (n ≡ k → ⊥) → entry.Unread ≡ exactly k make here
-  other-row k b make u = not-exactly k make here (λ xs e. row-not w k b u xs (ap numbers (parts-in l from h) ∙ e))
+  other-row k b make u = not-exactly k make here (λ xs e. row-not w k b u xs (ap (numbers Short) (parts-in l from h) ∙ e))
 
   this-row : (k : ℕ) → 0 < k → (make : List Float → Entry) → n ≡ k → make (take k d) ≡ exactly k make here
   this-row k b make e =
       let r = row-is w (omega arith) in
       let f = ap (λ (m : ℕ). take m d) (sym e) in
-      ap make f ∙ is-exactly k make (take n d) (r .1 ∙ e) ∙ ap (exactly k make) (sym (r .0) ∙ ap numbers (parts-in l from h))
+      ap make f ∙ is-exactly k make (take n d) (r .1 ∙ e) ∙ ap (exactly k make) (sym (r .0) ∙ ap (numbers Short) (parts-in l from h))
 
   -- the first k numbers of d are those of its front
   front : (k i : ℕ) → i < k → getD (take k d) i nan ≡ getD d i nan
@@ -68,10 +69,10 @@ module _ (l : List ℕ) (from : ℕ) (h : from ≤ length l) {d : List Float} {n
       sym (rw (front 5 0 (omega arith), front 5 1 (omega arith), front 5 2 (omega arith), front 5 3 (omega arith), front 5 4 (omega arith)))
       ∙ this-row 5 (omega arith) toStop e
 
-  pub change-not : (k : ℕ) → (n ≡ 4 → ⊥) → entry.Unread ≡ exactly 4 (toChange k) (numbers (fields (drop from l)))
+  pub change-not : (k : ℕ) → (n ≡ 4 → ⊥) → entry.Unread ≡ exactly 4 (toChange k) (numbers Short (fields (drop from l)))
   change-not k u = other-row 4 (omega arith) (toChange k) u
 
-  pub change-is : (k : ℕ) → n ≡ 4 → toChange k d ≡ exactly 4 (toChange k) (numbers (fields (drop from l)))
+  pub change-is : (k : ℕ) → n ≡ 4 → toChange k d ≡ exactly 4 (toChange k) (numbers Short (fields (drop from l)))
   change-is k e =
       sym (rw (front 4 0 (omega arith), front 4 1 (omega arith), front 4 2 (omega arith), front 4 3 (omega arith)))
       ∙ this-row 4 (omega arith) (toChange k) e
@@ -111,7 +112,7 @@ module _ (l : List ℕ) (from end : ℕ) (h : from ≤ length l) (e : end ≡ fr
       unfolding changeEntry
       edit-bad b = by-index Bad (short ∙ b)
 
-      pub edit-row : {x : ℕ} {r : Entry} → digitsWith false index ≡ Is x → r ≡ exactly 4 (toChange x) (numbers (fields (drop (end + 1) l))) → r ≡ editEntry (fields (drop from l))
+      pub edit-row : {x : ℕ} {r : Entry} → digitsWith false index ≡ Is x → r ≡ exactly 4 (toChange x) (numbers Short (fields (drop (end + 1) l))) → r ≡ editEntry (fields (drop from l))
       unfolding changeEntry
       edit-row {x} b g = g ∙ by-index (Is x) (short ∙ b)
 

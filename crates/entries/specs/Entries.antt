@@ -11,6 +11,7 @@ use Rattle.stops.specs.declared.Kind.the-variants.{Linear, Smoothstep}
 use Rattle.text.specs.Text.{fields, same, starts}
 use Rattle.rows.specs.Digits.{digitsWith}
 use Rattle.rows.specs.Rows.{Numbers, all, none, numbers}
+use Rattle.rows.specs.declared.Notation.the-variants.{Short}
 use Rattle.rows.specs.declared.digits.Digits.{Digits}
 use Rattle.rows.specs.declared.digits.Digits.the-variants.{Bad, Is}
 use Rattle.entries.specs.declared.fields.Entry.{Entry}
@@ -31,14 +32,14 @@ abbrev pub toThreshold : List Float → Entry
 toThreshold xs = entry.Threshold (getD xs 0 nan)
 
 unfoldable pub thresholdEntry : List (List ℕ) → Entry
-thresholdEntry fs = exactly 1 toThreshold (numbers fs)
+thresholdEntry fs = exactly 1 toThreshold (numbers Short fs)
 
 -- position, then channels
 abbrev pub toStop : List Float → Entry
 toStop xs = entry.Stop (record { position = getD xs 0 nan; colour = channelsAt xs 1 })
 
 unfoldable pub stopEntry : List (List ℕ) → Entry
-stopEntry fs = exactly 5 toStop (numbers fs)
+stopEntry fs = exactly 5 toStop (numbers Short fs)
 
 -- an index of 1 to 18 digits, and no plus
 abbrev pub indexDigits : ℕ
@@ -52,7 +53,7 @@ toChange k xs = entry.Change (record { stop = k; colour = channelsAt xs 0 })
 
 unfoldable pub changeEntry : Digits → List (List ℕ) → Entry
 changeEntry Bad fs = entry.Unread
-changeEntry (Is k) fs = exactly 4 (toChange k) (numbers fs)
+changeEntry (Is k) fs = exactly 4 (toChange k) (numbers Short fs)
 
 unfoldable pub editEntry : List (List ℕ) → Entry
 editEntry [] = entry.Unread

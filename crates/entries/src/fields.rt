@@ -1,6 +1,7 @@
 // A line of the input: its fields, parted by single tabs, and what it says.
 use blend::Rgba;
 use blend::Stop;
+use rows::Notation;
 use rows::Parting;
 use rows::digits::Digits;
 use rows::digits::number_of;
@@ -39,7 +40,7 @@ fn threshold_entry(l: &[u8], from: usize) -> Entry
     requires { ⌜ from ≤ length (now l) ⌝ }
     ensures { λ r. ⌜ r ≡ thresholdEntry (fields (drop from (old l))) ⌝ }
 {
-    let row = row_at(l, from, Parting::Tabs);
+    let row = row_at(l, from, Parting::Tabs, Notation::Short);
     let d = row.d;
     if row.n != 1 {
         return Entry::Unread;
@@ -51,7 +52,7 @@ fn stop_entry(l: &[u8], from: usize) -> Entry
     requires { ⌜ from ≤ length (now l) ⌝ }
     ensures { λ r. ⌜ r ≡ stopEntry (fields (drop from (old l))) ⌝ }
 {
-    let row = row_at(l, from, Parting::Tabs);
+    let row = row_at(l, from, Parting::Tabs, Notation::Short);
     let d = row.d;
     if row.n != 5 {
         return Entry::Unread;
@@ -83,7 +84,7 @@ fn edit_entry(l: &[u8], from: usize) -> Entry
     let Digits::Is(k) = number_of(&l[from..end], false) else {
         return Entry::Unread;
     };
-    let row = row_at(l, end + 1, Parting::Tabs);
+    let row = row_at(l, end + 1, Parting::Tabs, Notation::Short);
     let d = row.d;
     if row.n != 4 {
         return Entry::Unread;

@@ -51,8 +51,32 @@ fn floats(p: &[f32], x: f32) -> u64 {
     n
 }
 
+// The answer by document 01's rules, or by those for what GIMP saves.
+pub(crate) fn read_as(
+    saved: bool,
+    text: &[u8],
+    foreground: Rgba,
+    background: Rgba,
+    positions: &mut [f32],
+    channels: &mut [f32],
+    codes: &mut [u8],
+) -> Answer {
+    if saved {
+        return ggr::read_saved(text, foreground, background, positions, channels, codes);
+    }
+    ggr::read(text, foreground, background, positions, channels, codes)
+}
+
+fn name_as(saved: bool, text: &[u8]) -> &[u8] {
+    if saved {
+        return ggr::name_saved(text);
+    }
+    ggr::name(text)
+}
+
 // What is tried, the answer, and the zeros that the lent outputs then hold.
 pub(crate) fn answer(
+    saved: bool,
     label: &[u8],
     text: &[u8],
     foreground: Rgba,
@@ -61,7 +85,15 @@ pub(crate) fn answer(
     channels: &mut [f32],
     codes: &mut [u8],
 ) {
-    let r = ggr::read(text, foreground, background, positions, channels, codes);
+    let r = read_as(
+        saved,
+        text,
+        foreground,
+        background,
+        positions,
+        channels,
+        codes,
+    );
     out(label);
     out(b": ");
     say(r);
@@ -74,11 +106,18 @@ pub(crate) fn answer(
 }
 
 // The answer with room for two segments: 6 positions, 16 channels and 4 codes, each 9 before. Then the name.
-pub(crate) fn show_with(label: &[u8], text: &[u8], foreground: Rgba, background: Rgba) {
+pub(crate) fn show_with(
+    saved: bool,
+    label: &[u8],
+    text: &[u8],
+    foreground: Rgba,
+    background: Rgba,
+) {
     let mut positions = [9.0f32; 6];
     let mut channels = [9.0f32; 16];
     let mut codes = [9u8; 4];
     answer(
+        saved,
         label,
         text,
         foreground,
@@ -88,12 +127,12 @@ pub(crate) fn show_with(label: &[u8], text: &[u8], foreground: Rgba, background:
         &mut codes,
     );
     out(b", name [");
-    out(ggr::name(text));
+    out(name_as(saved, text));
     out(b"]\n");
 }
 
-pub(crate) fn show(label: &[u8], text: &[u8]) {
-    show_with(label, text, grey(0.25), grey(0.75));
+pub(crate) fn show(saved: bool, label: &[u8], text: &[u8]) {
+    show_with(saved, label, text, grey(0.25), grey(0.75));
 }
 
 // The answer with room for one segment, how many of its channels are the foreground's 0.25, the background's 0.75 and

@@ -26,6 +26,7 @@ pub(crate) fn full() {
     let mut channels = [9.0f32; 2048];
     let mut codes = [9u8; 512];
     answer(
+        false,
         b"256 segments, room 256",
         front(&text, n),
         grey(0.25),
@@ -45,6 +46,7 @@ pub(crate) fn over() {
     let mut channels = [9.0f32; 2056];
     let mut codes = [9u8; 514];
     answer(
+        false,
         b"257 segments, room 257",
         front(&text, n),
         grey(0.25),
@@ -64,6 +66,7 @@ pub(crate) fn narrow(label: &[u8], count: &[u8]) {
     let mut channels = [9.0f32; 15];
     let mut codes = [9u8; 4];
     answer(
+        false,
         label,
         front(&text, n),
         grey(0.25),
@@ -79,6 +82,6 @@ pub(crate) fn narrow(label: &[u8], count: &[u8]) {
 pub(crate) fn long() {
     let mut text = [0u8; 65537];
     many(&mut text, b"1", 1);
-    show(b"65,536 bytes", front(&text, 65536));
-    show(b"65,537 bytes", &text);
+    show(false, b"65,536 bytes", front(&text, 65536));
+    show(false, b"65,537 bytes", &text);
 }

@@ -1,21 +1,18 @@
 -- The f32 just above, and just below, rise with the number. Assumes nothing.
-use mathlib.Core.Path.{_≡_, refl, sym, ap, _∙_, subst}
+use mathlib.Core.Path.{_≡_, refl, sym, _∙_}
 use mathlib.Core.Bool.{Bool, true, false, cond, _&&_, true≢false}
 use Prim.Native.Nat.{ℕ, zero, suc, _+_, _-_, _*_, _≤_, _<_}
-use native.Mathlib.Nat.{lt-of-not-le}
-use native.Mathlib.Decide.{decLe}
 use native.Mathlib.Omega.{arith}
 use borrow.Author.Tests.{ltb-true, ltb-false, eq-eqb}
 use lib.Dec.{T, ltb, eqb}
 use lib.IntN.{ℤ}
 use lib.Ieee.{Float, nan, inf, fin, binary32, up, down, fits, toBits, ofBits, neg, lt, le, eq, isNan}
-use lib.Ieee.Bits.{ofBits-toBits, toBits-lt, is-true}
 use lib.Ieee.Scale.{finite}
 use Rattle.float.specs.F32.{f0}
 use Rattle.float.specs.Number.{magnitudeOf, aboveOf, belowOf}
 use Rattle.float.specs.Units.{plain}
 use Rattle.float.proofs.Order.{as-T, le-trans, lt→le, le-lt-trans, lt-le-trans, le→not-lt, not-lt→le, eq→le, eq→ge, le-refl}
-use Rattle.float.proofs.PatternOrder.{at, pattern-le, pattern-lt, plain-pattern, number-at}
+use Rattle.float.proofs.PatternOrder.{at, pattern-le, pattern-back, pattern-under, pattern-mono, number-at}
 use Rattle.float.proofs.SignedRound.{neg-le}
 use Rattle.float.proofs.Signs.{fits-signed}
 
@@ -30,14 +27,14 @@ not-zero a b h d =
     let y : eqb (a * 1) 0 ≡ true = eq-eqb (a * 1) 0 (omega arith) in
     true≢false (rw (x, y) at d)
 
-neg-side : (x : Float) → finite x ≡ true → lt x f0 ≡ true → magnitudeOf x ≡ neg x
+pub neg-side : (x : Float) → finite x ≡ true → lt x f0 ≡ true → magnitudeOf x ≡ neg x
 unfolding magnitudeOf neg lt ofBits
 neg-side nan f h = absurd (true≢false (sym f))
 neg-side (inf s) f h = absurd (true≢false (sym f))
 neg-side (fin true m e) f h = refl
 neg-side (fin false m e) f h = absurd (not-under (m * up e) (down e) h)
 
-pos-side : (x : Float) → finite x ≡ true → lt x f0 ≡ false → eq x f0 ≡ false → magnitudeOf x ≡ x
+pub pos-side : (x : Float) → finite x ≡ true → lt x f0 ≡ false → eq x f0 ≡ false → magnitudeOf x ≡ x
 unfolding magnitudeOf lt eq ofBits
 pos-side nan f h d = absurd (true≢false (sym f))
 pos-side (inf s) f h d = absurd (true≢false (sym f))
@@ -45,7 +42,7 @@ pos-side (fin false m e) f h d = refl
 pos-side (fin true m e) f h d = absurd (not-zero (m * up e) (down e) h d)
 
 -- ---- the pattern of the magnitude
-abbrev M : Float → ℕ
+abbrev pub M : Float → ℕ
 M x = toBits binary32 (magnitudeOf x)
 
 -- a finite f32
@@ -64,42 +61,35 @@ plain-magnitude nan w = absurd (true≢false (sym (w .1)))
 plain-magnitude (inf s) w = absurd (true≢false (sym (w .1)))
 plain-magnitude (fin s m e) w = tt
 
-back : (x : Float) → One x → at (M x) ≡ magnitudeOf x
-back x w = ofBits-toBits binary32 (magnitudeOf x) (fits-magnitude x w)
+pub back : (x : Float) → One x → at (M x) ≡ magnitudeOf x
+back x w = pattern-back (magnitudeOf x) (fits-magnitude x w) (plain-magnitude x w)
 
-under : (x : Float) → One x → M x < 2139095040
-under x w = plain-pattern (M x) (toBits-lt binary32 (magnitudeOf x) (fits-magnitude x w)) (subst (λ (y : Float). T (plain y)) (sym (back x w)) (plain-magnitude x w))
+pub under : (x : Float) → One x → M x < 2139095040
+under x w = pattern-under (magnitudeOf x) (fits-magnitude x w) (plain-magnitude x w)
 
 in-order : (x y : Float) → One x → One y → T (le (magnitudeOf x) (magnitudeOf y)) → M x ≤ M y
-in-order x y v w h = go (decLe (M x) (M y))
-  where
-    go : Dec (M x ≤ M y) → M x ≤ M y
-    go (yes l) = l
-    go (no f) =
-        let u = under x v in
-        let k : T (lt (magnitudeOf y) (magnitudeOf x)) = rw (back y w, back x v) at (pattern-lt (M y) (M x) (lt-of-not-le f) (omega arith)) in
-        absurd (true≢false (sym (is-true _ k) ∙ le→not-lt (magnitudeOf y) (magnitudeOf x) h))
+in-order x y v w h = pattern-mono (magnitudeOf x) (magnitudeOf y) (fits-magnitude x v) (plain-magnitude x v) (fits-magnitude y w) (plain-magnitude y w) h
 
 -- ---- what lies below zero, and above
 zero-one : T (le (neg f0) (at 1))
 unfolding le neg ofBits
 zero-one = tt
 
-zero-zero : T (le (neg f0) f0)
+pub zero-zero : T (le (neg f0) f0)
 unfolding le neg ofBits
 zero-zero = tt
 
-under-zero : (k : ℕ) → k ≤ 2139095040 → T (le (neg (at k)) (neg f0))
+pub under-zero : (k : ℕ) → k ≤ 2139095040 → T (le (neg (at k)) (neg f0))
 under-zero k l = neg-le f0 (at k) (pattern-le 0 k (omega arith) l)
 
 above-under : (k j : ℕ) → k ≤ 2139095040 → j ≤ 2139095040 → T (le (neg (at k)) (at j))
 above-under k j a b = le-trans (neg (at k)) (neg f0) (at j) (under-zero k a) (le-trans (neg f0) f0 (at j) zero-zero (pattern-le 0 j (omega arith) b))
 
-no-more : (x : Float) → lt x f0 ≡ false → eq x f0 ≡ false → T (le x f0) → ⊥
+pub no-more : (x : Float) → lt x f0 ≡ false → eq x f0 ≡ false → T (le x f0) → ⊥
 unfolding le
 no-more x a b h = rw (a, b) at h
 
-abbrev stepped : Bool → Bool → Float → Float
+abbrev pub stepped : Bool → Bool → Float → Float
 stepped none minus x = cond none (at 1) (cond minus (neg (at (M x - 1))) (at (M x + 1)))
 
 pub above-rises : (p q : Float) → One p → One q → T (le p q) → T (le (aboveOf p) (aboveOf q))
@@ -131,7 +121,7 @@ above-rises p q v w h = go (eq p f0) (lt p f0) (eq q f0) (lt q f0) refl refl ref
         let l = in-order p q v w k in
         pattern-le (M p + 1) (M q + 1) (omega (arith, up, uq)) (omega (arith, up, uq))
 
-one-neg : (x : Float) → One x → One (neg x)
+pub one-neg : (x : Float) → One x → One (neg x)
 unfolding neg
 one-neg nan w = absurd (true≢false (sym (w .1)))
 one-neg (inf s) w = absurd (true≢false (sym (w .1)))

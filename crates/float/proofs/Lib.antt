@@ -21,3 +21,10 @@ pub mod Spans
 pub mod UnitSums
 pub mod Adjacent
 pub mod Neighbours
+pub mod Quotients
+pub mod Chains
+pub mod RoundOff
+pub mod OperationsOff
+pub mod Beside
+pub mod SignedOff
+pub mod Placed

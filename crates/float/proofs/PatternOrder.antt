@@ -9,10 +9,10 @@ use mathlib.Core.Bool.{Bool, true, false, not, cond, true≢false}
 use lib.Dec.{T, leb, eqb, le→leb, not-T}
 use lib.Pow.{pow-pos, pow-mono}
 use lib.Ieee.{Float, nan, inf, fin, binary32, fits, odd, toBits, ofFields, ofBits, isNan, le, lt}
-use lib.Ieee.Bits.{toBits-ofBits, ofBits-fits, is-true}
+use lib.Ieee.Bits.{ofBits-toBits, toBits-lt, toBits-ofBits, ofBits-fits, is-true}
 use lib.Ieee.Exact.{HasValue, odd-sign}
 use Rattle.float.specs.Units.{count, plain}
-use Rattle.float.proofs.Order.{lt-is, le-refl, lt→le}
+use Rattle.float.proofs.Order.{lt-is, le-refl, lt→le, le→not-lt}
 use Rattle.float.proofs.Fields.{ofBits-is, value-at, value-below}
 use Rattle.float.proofs.Units.{plain-of, count-of, count-known}
 use Rattle.float.proofs.UnitsOrder.{le→counts, plain-number}
@@ -23,7 +23,7 @@ at b = ofBits binary32 b
 
 -- ---- a larger pattern is a larger number
 
-count-at : (b : ℕ) → 8388608 ≤ b → b < 2139095040 → count (ofBits binary32 b) ≡ (8388608 + b % 8388608) * 2 ^ (b / 8388608 - 1)
+pub count-at : (b : ℕ) → 8388608 ≤ b → b < 2139095040 → count (ofBits binary32 b) ≡ (8388608 + b % 8388608) * 2 ^ (b / 8388608 - 1)
 count-at b l h = count-of (ofBits binary32 b) false ((8388608 + b % 8388608) * 2 ^ (b / 8388608 - 1)) (value-at b l h)
 
 count-below : (b : ℕ) → b < 8388608 → count (ofBits binary32 b) ≡ b
@@ -173,3 +173,21 @@ pattern-le b c h l =
       | inl e ↦ subst (λ (x : ℕ). T (le (at b) (at x))) e (le-refl (at b) (number-at b (le-trans h l)))
       | inr k ↦ lt→le (at b) (at c) (pattern-lt b c k l)
     ]
+
+-- ---- and back: the pattern of a plain f32
+module _ (x : Float) (f : T (fits binary32 x)) (p : T (plain x)) where
+  pub pattern-back : at (toBits binary32 x) ≡ x
+  pattern-back = ofBits-toBits binary32 x f
+
+  pub pattern-under : toBits binary32 x < 2139095040
+  pattern-under = plain-pattern (toBits binary32 x) (toBits-lt binary32 x f) (subst (λ (y : Float). T (plain y)) (sym pattern-back) p)
+
+pub pattern-mono : (x y : Float) → T (fits binary32 x) → T (plain x) → T (fits binary32 y) → T (plain y) → T (le x y) → toBits binary32 x ≤ toBits binary32 y
+pattern-mono x y fx px fy py h = go (decLe (toBits binary32 x) (toBits binary32 y))
+  where
+    go : Dec (toBits binary32 x ≤ toBits binary32 y) → toBits binary32 x ≤ toBits binary32 y
+    go (yes l) = l
+    go (no f) =
+        let u = pattern-under x fx px in
+        let k : T (lt y x) = rw (pattern-back y fy py, pattern-back x fx px) at (pattern-lt (toBits binary32 y) (toBits binary32 x) (lt-of-not-le f) (omega arith)) in
+        absurd (true≢false (sym (is-true _ k) ∙ le→not-lt y x h))

@@ -50,6 +50,10 @@ products p d q f r h s j a b c e x y za zb zc ze =
 plain : (p c d r g h : ℕ) → p * h + g * d ≤ r * d + c * h → c ≡ 0 → g ≡ 0 → p * h ≤ r * d
 plain p c d r g h l zc zg = let k = rw (zc, zg) at l in omega arith
 
+-- 0 ≤ x ≤ y as fractions
+pub fractions : (x y : Float) → T (finite x) → T (finite y) → T (le f0 x) → T (le x y) → pro x * den y ≤ pro y * den x
+fractions x y fx fy nx h = plain (pro x) (con x) (den x) (pro y) (con y) (den y) (le→linear x y fx fy h) (no-con x fx nx) (no-con y fy (le-trans f0 x y nx h))
+
 module _ (x y z w : Float) (fx : T (finite x)) (fy : T (finite y)) (fz : T (finite z)) (fw : T (finite w)) where
   pub add-mono : T (le x z) → T (le y w) → T (le (x ⊕ y) (z ⊕ w))
   add-mono h k =
@@ -61,17 +65,10 @@ module _ (x y z w : Float) (fx : T (finite x)) (fy : T (finite y)) (fz : T (fini
   -- of what is not negative
   pub mul-mono : T (le f0 x) → T (le f0 y) → T (le x z) → T (le y w) → T (le (x ⊗ y) (z ⊗ w))
   mul-mono nx ny h k =
-      let nz = le-trans f0 x z nx h in
-      let nw = le-trans f0 y w ny k in
-      let cx = no-con x fx nx in
-      let cy = no-con y fy ny in
-      let cz = no-con z fz nz in
-      let cw = no-con w fw nw in
       rounds-le (mul-rounds x y fx fy) (mul-rounds z w fz fw) (dens-pos x y) (dens-pos z w)
       (products (pro x) (den x) (pro y) (den y) (pro z) (den z) (pro w) (den w) (con x) (con y) (con z) (con w)
-      (plain (pro x) (con x) (den x) (pro z) (con z) (den z) (le→linear x z fx fz h) cx cz)
-      (plain (pro y) (con y) (den y) (pro w) (con w) (den w) (le→linear y w fy fw k) cy cw)
-      cx cy cz cw)
+      (fractions x z fx fz nx h) (fractions y w fy fw ny k)
+      (no-con x fx nx) (no-con y fy ny) (no-con z fz (le-trans f0 x z nx h)) (no-con w fw (le-trans f0 y w ny k)))
 
 -- ---- differences
 pub neg-finite : (x : Float) → T (finite x) → T (finite (neg x))

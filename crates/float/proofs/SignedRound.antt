@@ -124,10 +124,10 @@ minus-times true a k = refl
 
 -- ---- x is (p - n) / c rounded
 pub record Rounds (x : Float) (p n c : ℕ) : Type 0 where
-  sign : Bool
-  size : ℕ
-  is : x ≡ round binary32 sign size c
-  value : plus sign size + n ≡ p + minus sign size
+  pub sign : Bool
+  pub size : ℕ
+  pub is : x ≡ round binary32 sign size c
+  pub value : plus sign size + n ≡ p + minus sign size
 
 pub rounds-le : {x y : Float} {p n c q m d : ℕ} → Rounds x p n c → Rounds y q m d → 0 < c → 0 < d → p * d + m * c ≤ q * c + n * d → T (le x y)
 rounds-le {x} {y} {p} {n} {c} {q} {m} {d} r s C D h =

@@ -17,7 +17,7 @@ use borrow.Author.Tests.{ne-eqb}
 use Rattle.float.specs.F32.{_⊖_, _⊗_, _⊘_, f0, f1}
 use Rattle.float.proofs.Order as order
 use Rattle.float.proofs.Units.{parts, sized, shape, few-units}
-use Rattle.float.proofs.Rounding.{no-con, dens-pos, neg-finite, neg-view}
+use Rattle.float.proofs.Rounding.{no-con, fractions, dens-pos, neg-finite, neg-view}
 use Rattle.float.proofs.Midpoint.{same-value}
 use Rattle.float.proofs.SignedRound.{Rounds, rounds-le, round-rounds, zero-rounds, pro, con, le→linear, linear→le, add-rounds, mul-rounds}
 
@@ -45,7 +45,7 @@ module _ (x y u v : Float) (fx : T (finite x)) (fy : T (finite y)) (fu : T (fini
 
   -- y ≤ v as fractions
   part : pro y * den v ≤ pro v * den y
-  part = let l = le→linear y v fy fv k in omega (arith, l, ap (λ (n : ℕ). n * den v) (no-con y fy ny), ap (λ (n : ℕ). n * den y) (no-con v fv nv))
+  part = fractions y v fy fv ny k
 
   -- x ≤ u, which is not negative, and 0 ≤ y ≤ v
   pub mul-under : T (le f0 u) → T (le x u) → T (le (x ⊗ y) (u ⊗ v))
@@ -114,7 +114,7 @@ unfolding sub
 sub-rounds x y fx fy = let v = neg-view y in rw (v .0, v .1, v .2) at (add-rounds x (neg y) fx (neg-finite y fy))
 
 -- ---- quotients
-quotient-is : (s : Bool) (m n : ℕ) (e d : ℤ) → fin s m e ⊘ fin false (suc n) d ≡ round binary32 s (m * up e * down d) (suc n * up d * down e)
+pub quotient-is : (s : Bool) (m n : ℕ) (e d : ℤ) → fin s m e ⊘ fin false (suc n) d ≡ round binary32 s (m * up e * down d) (suc n * up d * down e)
 unfolding div
 quotient-is true m n e d = rw (ne-eqb (suc n) 0 (λ z. absurd (omega arith)))
 quotient-is false m n e d = rw (ne-eqb (suc n) 0 (λ z. absurd (omega arith)))

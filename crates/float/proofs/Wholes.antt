@@ -119,7 +119,7 @@ whole-mono x y a b fx fy nx h ex ey l =
         absurd (omega arith)
 
 module _ (x : Float) (n : ℕ) (f : T (finite x)) (nx : T (le f0 x)) (e : wholeOf x ≡ pos n) (l : n < 2 ^ 24) where
-  at-least : T (le (countOf n) x)
+  pub at-least : T (le (countOf n) x)
   at-least =
       let h = count-held n (omega arith) in
       linear→le (countOf n) x (h .bounded) f

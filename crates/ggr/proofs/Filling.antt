@@ -16,6 +16,7 @@ use Rattle.stops.specs.Lent.{Change, change}
 use Rattle.gradient.specs.declared.gimp.Segment.{Segment}
 use Rattle.text.specs.Text.{lines, restOf}
 use Rattle.text.proofs.Lines.{no-lines, some-lines}
+use Rattle.segment.specs.declared.Rules.{Rules}
 use Rattle.segment.specs.declared.SegmentRead.{SegmentRead}
 use Rattle.segment.specs.declared.SegmentRead.the-variants.{Valid, Fault}
 use Rattle.segment.specs.Line.{SegmentAt}
@@ -98,13 +99,13 @@ filled-no o a b store e = record { answer = sym (ap answerOf e); left = λ gs f.
   differ gs e = absurd (let z : _≡_ {A = ℕ} 0 1 = cc in omega arith)
 
 -- o is the outcome; s the text; kept what the outputs held
-module _ (o : FileRead) (s : List ℕ) (fg bg : Rgba) (n : ℕ) (kept : Store) where
+module _ (o : FileRead) (s : List ℕ) (rules : Rules) (fg bg : Rgba) (n : ℕ) (kept : Store) where
   -- i segments are written, the last of them ends at `end`, and the next line starts at `at`
   pub record Going (so-far : Store) (at : ℕ) (end : Float) (i : ℕ) : Type 0 where
     pub le : i ≤ n
     pub gs : List Segment
     pub count : length gs ≡ i
-    pub rest : o ≡ prependAll gs (segmentLines fg bg (n - i) (4 + i) end (lines (drop at s)))
+    pub rest : o ≡ prependAll gs (segmentLines rules fg bg (n - i) (4 + i) end (lines (drop at s)))
     pub long-p : length (so-far .positions) ≡ length (kept .positions)
     pub long-c : length (so-far .channels) ≡ length (kept .channels)
     pub long-k : length (so-far .codes) ≡ length (kept .codes)
@@ -112,13 +113,13 @@ module _ (o : FileRead) (s : List ℕ) (fg bg : Rgba) (n : ℕ) (kept : Store) w
     pub in-c : so-far .channels ≡ flat segmentChannels gs ++ drop (8 * i) (kept .channels)
     pub in-k : so-far .codes ≡ flat segmentCodes gs ++ drop (2 * i) (kept .codes)
 
-  pub going-start : (at : ℕ) → o ≡ segmentLines fg bg n 4 f0 (lines (drop at s)) → Going kept at f0 0
+  pub going-start : (at : ℕ) → o ≡ segmentLines rules fg bg n 4 f0 (lines (drop at s)) → Going kept at f0 0
   unfolding prependAll flat
   going-start at e = record {
     le = omega arith;
     gs = [];
     count = refl;
-    rest = e ∙ ap (λ (m : ℕ). segmentLines fg bg m 4 f0 (lines (drop at s))) (sym (sub-zero n));
+    rest = e ∙ ap (λ (m : ℕ). segmentLines rules fg bg m 4 f0 (lines (drop at s))) (sym (sub-zero n));
     long-p = refl;
     long-c = refl;
     long-k = refl;
@@ -134,16 +135,16 @@ module _ (o : FileRead) (s : List ℕ) (fg bg : Rgba) (n : ℕ) (kept : Store) w
         let q : n - i ≡ suc (n - (i + 1)) = omega arith in
         filled-no o fewLines 3 _ (G .rest ∙ rw (q, no-lines s at e) (prepend-refused (G .gs) fewLines 3))
 
-    module _ (h : i < n) (z : at < length s) (l r : SegmentRead) (after : ℕ) (w : SegmentAt fg bg s at l after) (v : r ≡ joinedTo end l) where
+    module _ (h : i < n) (z : at < length s) (l r : SegmentRead) (after : ℕ) (w : SegmentAt rules fg bg s at l after) (v : r ≡ joinedTo end l) where
       -- what follows a segment
       abbrev Rest : Segment → FileRead
-      Rest g = segmentLines fg bg (n - (i + 1)) (suc (4 + i)) (g .right) (restOf (lines (drop at s)))
+      Rest g = segmentLines rules fg bg (n - (i + 1)) (suc (4 + i)) (g .right) (restOf (lines (drop at s)))
 
       next : o ≡ prependAll (G .gs) (addSegment (4 + i) r Rest)
       unfolding segmentLines
       next =
           let q : n - i ≡ suc (n - (i + 1)) = omega arith in
-          G .rest ∙ ap (prependAll (G .gs)) (ap₂ (λ (m : ℕ) (ls : List (List ℕ)). segmentLines fg bg m (4 + i) end ls) q (some-lines s at z)
+          G .rest ∙ ap (prependAll (G .gs)) (ap₂ (λ (m : ℕ) (ls : List (List ℕ)). segmentLines rules fg bg m (4 + i) end ls) q (some-lines s at z)
           ∙ ap (λ (x : SegmentRead). addSegment (4 + i) x Rest) (ap (joinedTo end) (sym (w .is)) ∙ sym v))
 
       pub bad : (number : ℕ) → r ≡ Fault number → Filled o (change kept so-far) (Refused number (4 + i))
@@ -164,7 +165,7 @@ module _ (o : FileRead) (s : List ℕ) (fg bg : Rgba) (n : ℕ) (kept : Store) w
               rest =
                   next ∙ ap (λ (x : SegmentRead). prependAll (G .gs) (addSegment (4 + i) x Rest)) e
                   ∙ prepend-snoc (G .gs) g (Rest g)
-                  ∙ ap (prependAll (G .gs ++ g ∷ [])) (ap₂ (λ (m : ℕ) (ls : List (List ℕ)). segmentLines fg bg (n - (i + 1)) m (g .right) ls) line-no (sym (w .rest g (weighs end l g (sym v ∙ e) .0))));
+                  ∙ ap (prependAll (G .gs ++ g ∷ [])) (ap₂ (λ (m : ℕ) (ls : List (List ℕ)). segmentLines rules fg bg (n - (i + 1)) m (g .right) ls) line-no (sym (w .rest g (weighs end l g (sym v ∙ e) .0))));
               long-p = ap length ep ∙ length-sets (so-far .positions) (3 * i) (segmentPositions g) ∙ G .long-p;
               long-c = ap length ec ∙ length-sets (so-far .channels) (8 * i) (segmentChannels g) ∙ G .long-c;
               long-k = ap length ek ∙ length-sets (so-far .codes) (2 * i) (segmentCodes g) ∙ G .long-k;

@@ -3,7 +3,7 @@ use Prim.Native.Nat.{ℕ, _-_, _*_, _≤_}
 use native.Mathlib.Nat.{sub-zero}
 use native.Mathlib.Omega.{arith}
 use mathlib.Core.Path.{_≡_, refl, sym, ap, _∙_}
-use mathlib.Core.Bool.{true, false}
+use mathlib.Core.Bool.{Bool, true, false}
 use mathlib.Core.List.{List, []}
 use lib.ListN.{length, drop, replicate, length-replicate}
 use lib.Seq.{sets}
@@ -16,6 +16,7 @@ use Rattle.stops.specs.Lent.{Change, change}
 use Rattle.stops.specs.Stops.{finiteRgba}
 use Rattle.gradient.specs.declared.gimp.Segment.{Segment}
 use Rattle.text.specs.Text.{lines}
+use Rattle.segment.specs.declared.Rules.{Rules}
 use Rattle.segment.specs.Store.{Store, storeOf}
 use Rattle.header.specs.declared.Lead.{Lead}
 use Rattle.header.specs.declared.Lead.the-variants.{Counted, Refuse}
@@ -23,20 +24,20 @@ use Rattle.header.specs.Head.{headOf, nameIn}
 use Rattle.header.specs.Leads.{headBy, leadFits, Leads}
 use Rattle.ggr.specs.declared.Answer.{Answer}
 use Rattle.ggr.specs.declared.Answer.the-variants.{Read, Refused}
-use Rattle.ggr.specs.File.{FileRead, found, refused, segmentLines, fromHead, fitText, fileOf, answerOf, numberOfAnswer, lineOfAnswer, segmentsOfAnswer, numberIn, lineIn, segmentsIn, storeLeft, segmentRoom, Done, transparent, whenRead, nameOf}
+use Rattle.ggr.specs.File.{FileRead, found, refused, segmentLines, fitLines, fromHead, fitText, fileOf, answerOf, numberOfAnswer, lineOfAnswer, segmentsOfAnswer, numberIn, lineIn, segmentsIn, storeLeft, segmentRoom, Done, transparent, whenRead, nameOf}
 use Rattle.ggr.specs.inner.Steps.{Filled}
 
 -- ---- the order of the refusals
-module _ (room : ℕ) (fg bg : Rgba) (s : List ℕ) where
-  pub file-fg : finiteRgba fg ≡ false → fileOf room fg bg s ≡ refused 2 0
+module _ (rules : Rules) (room : ℕ) (fg bg : Rgba) (s : List ℕ) where
+  pub file-fg : finiteRgba fg ≡ false → fileOf rules room fg bg s ≡ refused 2 0
   unfolding fileOf
   file-fg e = rw e
 
-  pub file-bg : finiteRgba fg ≡ true → finiteRgba bg ≡ false → fileOf room fg bg s ≡ refused 2 0
+  pub file-bg : finiteRgba fg ≡ true → finiteRgba bg ≡ false → fileOf rules room fg bg s ≡ refused 2 0
   unfolding fileOf
   file-bg e f = rw (e, f)
 
-  pub file-text : finiteRgba fg ≡ true → finiteRgba bg ≡ true → fitText s ≡ false → fileOf room fg bg s ≡ refused 10 0
+  pub file-text : finiteRgba fg ≡ true → finiteRgba bg ≡ true → fitText rules s ≡ false → fileOf rules room fg bg s ≡ refused 10 0
   unfolding fileOf
   file-text e f g = rw (e, f, g)
 
@@ -44,18 +45,23 @@ pub filled-as : (o o' : FileRead) (store : Change Store) (r : Answer) → o ≡ 
 filled-as o o' store r e w = rw e w
 
 -- ---- where the header leads, read with the room that there is
-module _ (fg bg : Rgba) (s : List ℕ) {room asked : ℕ} (q : asked ≡ room) (e : finiteRgba fg ≡ true) (f : finiteRgba bg ≡ true) (g : fitText s ≡ true) {r : Lead} (w : Leads asked s r) where
-  file-head : fileOf room fg bg s ≡ fromHead fg bg (headBy r s)
+module _ (rules : Rules) (fg bg : Rgba) (s : List ℕ) {room asked : ℕ} (q : asked ≡ room) (e : finiteRgba fg ≡ true) (f : finiteRgba bg ≡ true) (g : fitText rules s ≡ true) {r : Lead} (w : Leads asked s r) where
+  file-head : fileOf rules room fg bg s ≡ fromHead rules fg bg (headBy r s)
   unfolding fileOf
-  file-head = rw (e, f, g) (ap (λ (n : ℕ). fromHead fg bg (headOf n s)) (sym q) ∙ ap (fromHead fg bg) (w .same))
+  file-head = rw (e, f, g) (ap (λ (n : ℕ). fromHead rules fg bg (headOf n s)) (sym q) ∙ ap (fromHead rules fg bg) (w .same))
 
-  pub file-refuse : (a b : ℕ) → r ≡ Refuse a b → fileOf room fg bg s ≡ refused a b
+  pub file-refuse : (a b : ℕ) → r ≡ Refuse a b → fileOf rules room fg bg s ≡ refused a b
   unfolding headBy fromHead
   file-refuse a b h = file-head ∙ rw h
 
-  pub file-counted : (n at : ℕ) → r ≡ Counted n at → fileOf room fg bg s ≡ segmentLines fg bg n 4 f0 (lines (drop at s))
-  unfolding headBy fromHead
-  file-counted n at h = file-head ∙ rw h
+  module _ (n at : ℕ) (h : r ≡ Counted n at) {t : Bool} (fit : t ≡ fitLines rules n (lines (drop at s))) where
+    pub file-unfit : t ≡ false → fileOf rules room fg bg s ≡ refused 10 0
+    unfolding headBy fromHead
+    file-unfit i = file-head ∙ rw (h, ← fit, i)
+
+    pub file-counted : t ≡ true → fileOf rules room fg bg s ≡ segmentLines rules fg bg n 4 f0 (lines (drop at s))
+    unfolding headBy fromHead
+    file-counted i = file-head ∙ rw (h, ← fit, i)
 
 pub lead-fits : {room : ℕ} {s : List ℕ} {r : Lead} → Leads room s r → (n at : ℕ) → r ≡ Counted n at → (n ≤ mostSegments) × (n ≤ room)
 unfolding leadFits
@@ -110,7 +116,7 @@ module _ (o : FileRead) (r : Answer) (store : Change Store) (w : Filled o store 
         done (storeOf p c k) (rw (zp, zc, zk) (ap (λ (x : FileRead). storeLeft x (store .entry)) (sym g)))
 
 -- ---- the name
-module _ (s : List ℕ) (r : Answer) (e : r ≡ answerOf (fileOf mostSegments transparent transparent s)) where
+module _ (rules : Rules) (s : List ℕ) (r : Answer) (e : r ≡ answerOf (fileOf rules mostSegments transparent transparent s)) where
   is-found : (o : FileRead) (n : ℕ) → r ≡ Read n → r ≡ answerOf o → (x : List ℕ) → whenRead o x ≡ x
   unfolding whenRead
   is-found (found gs) n f g x = refl
@@ -121,10 +127,10 @@ module _ (s : List ℕ) (r : Answer) (e : r ≡ answerOf (fileOf mostSegments tr
   is-refused (found gs) a b f g x = absurd (let z : _≡_ {A = ℕ} 0 1 = cc in omega arith)
   is-refused (refused c d) a b f g x = refl
 
-  pub name-none : (a b : ℕ) → r ≡ Refused a b → [] ≡ nameOf s
+  pub name-none : (a b : ℕ) → r ≡ Refused a b → [] ≡ nameOf rules s
   unfolding nameOf
-  name-none a b f = sym (is-refused (fileOf mostSegments transparent transparent s) a b f e _)
+  name-none a b f = sym (is-refused (fileOf rules mostSegments transparent transparent s) a b f e _)
 
-  pub name-read : (n : ℕ) → r ≡ Read n → nameIn s ≡ nameOf s
+  pub name-read : (n : ℕ) → r ≡ Read n → nameIn s ≡ nameOf rules s
   unfolding nameOf
-  name-read n f = sym (is-found (fileOf mostSegments transparent transparent s) n f e _)
+  name-read n f = sym (is-found (fileOf rules mostSegments transparent transparent s) n f e _)

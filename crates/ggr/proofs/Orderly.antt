@@ -18,6 +18,7 @@ use Rattle.gradient.specs.declared.gimp.Segment.{Segment}
 use Rattle.gradient.specs.Gimp.{leftAt, middleAt, rightAt, segmentFound}
 use Rattle.gradient.specs.Joined.{Joined, Inside}
 use Rattle.gradient.proofs.NoGap.{no-gap}
+use Rattle.segment.specs.declared.Rules.{Rules}
 use Rattle.segment.specs.Store.{Store, segmentPositions}
 use Rattle.ggr.specs.declared.Answer.the-variants.{Read}
 use Rattle.ggr.specs.File.{FileRead, found, joins, fileOf, flat, storeLeft, roomIn, Reading, positionsLeft}
@@ -107,8 +108,8 @@ joined (g ∷ gs) l h =
       joint = λ i q. joints f0 (g ∷ gs) i h (omega (arith, e));
     }
 
-module _ (fg bg : Rgba) (s : List ℕ) (store : Change Store) (n : ℕ) (w : Reading fg bg s store (Read n)) where
-  left-of : (gs : List Segment) → fileOf (roomIn (store .entry)) fg bg s ≡ found gs → length gs ≡ n → positionsLeft n store ≡ positionsOf gs
+module _ (rules : Rules) (fg bg : Rgba) (s : List ℕ) (store : Change Store) (n : ℕ) (w : Reading rules fg bg s store (Read n)) where
+  left-of : (gs : List Segment) → fileOf rules (roomIn (store .entry)) fg bg s ≡ found gs → length gs ≡ n → positionsLeft n store ≡ positionsOf gs
   unfolding storeLeft
   left-of gs e q =
       let d = drop (length (positionsOf gs)) (store .entry .positions) in
@@ -118,8 +119,8 @@ module _ (fg bg : Rgba) (s : List ℕ) (store : Change Store) (n : ℕ) (w : Rea
   -- the segments of a file that is read run from 0 to 1, each in order and joined to the next
   pub read-joined : Joined (positionsLeft n store)
   read-joined =
-      let f = found-by (fileOf (roomIn (store .entry)) fg bg s) n (w .answer) in
-      let v = given fg bg (roomIn (store .entry)) s (f .0) (f .1) in
+      let f = found-by (fileOf rules (roomIn (store .entry)) fg bg s) n (w .answer) in
+      let v = given rules fg bg (roomIn (store .entry)) s (f .0) (f .1) in
       subst Joined (sym (left-of (f .0) (f .1) (f .2))) (joined (f .0) (v .some) (v .order))
 
   -- so that no colour in a gap can be asked of it

@@ -1,7 +1,8 @@
 -- A GIMP file as a whole: what reading it answers and writes, and its name. Document 01, 'What a GIMP file may hold' and 'When the desk says no'; document 02 (iii).
+-- It is read by document 01's rules, or by those for what GIMP itself saves: longer texts, names in any script, long numbers.
 use Prim.Native.Nat.{ℕ, zero, suc, _-_, _*_, _/_, min}
 use mathlib.Core.Path.{_≡_}
-use mathlib.Core.Bool.{Bool, cond, _&&_}
+use mathlib.Core.Bool.{Bool, true, cond, _&&_}
 use mathlib.Core.List.{List, [], _∷_, _++_}
 use lib.ListN.{length, take, drop, replicate}
 use lib.Dec.{leb}
@@ -14,11 +15,13 @@ use Rattle.stops.specs.Stops.{finiteRgba}
 use Rattle.stops.specs.Lent.{Change}
 use Rattle.gradient.specs.declared.gimp.Segment.{Segment}
 use Rattle.text.specs.Text.{every, ascii, unmark}
+use Rattle.segment.specs.declared.Rules.{Rules}
+use Rattle.segment.specs.declared.Rules.the-variants.{Published, Saved}
 use Rattle.segment.specs.declared.SegmentRead.{SegmentRead}
 use Rattle.segment.specs.declared.SegmentRead.the-variants.{Valid, Fault}
 use Rattle.segment.specs.Line.{segmentOnLine}
 use Rattle.segment.specs.Store.{Store, storeOf, segmentPositions, segmentChannels, segmentCodes}
-use Rattle.header.specs.Head.{Head, counts, fails, headOf, nameIn}
+use Rattle.header.specs.Head.{Head, counts, fails, headOf, savedHead, nameIn}
 use Rattle.ggr.specs.declared.Answer.{Answer}
 use Rattle.ggr.specs.declared.Answer.the-variants.{Read, Refused}
 
@@ -49,27 +52,47 @@ addSegment line (Valid g) rest = before g (rest g)
 addSegment line (Fault number) rest = refused number line
 
 -- the next n segments, the first of them at this line, where the one before ends at `end`; what follows is not read
-unfoldable pub segmentLines : Rgba → Rgba → ℕ → ℕ → Float → List (List ℕ) → FileRead
-segmentLines fg bg zero line end ls = cond (eq end f1) (found []) (refused torn (line - 1))
-segmentLines fg bg (suc n) line end [] = refused fewLines 3
-segmentLines fg bg (suc n) line end (l ∷ ls) =
-    addSegment line (joinedTo end (segmentOnLine fg bg l)) (λ g. segmentLines fg bg n (suc line) (g .right) ls)
+unfoldable pub segmentLines : Rules → Rgba → Rgba → ℕ → ℕ → Float → List (List ℕ) → FileRead
+segmentLines rules fg bg zero line end ls = cond (eq end f1) (found []) (refused torn (line - 1))
+segmentLines rules fg bg (suc n) line end [] = refused fewLines 3
+segmentLines rules fg bg (suc n) line end (l ∷ ls) =
+    addSegment line (joinedTo end (segmentOnLine rules fg bg l)) (λ g. segmentLines rules fg bg n (suc line) (g .right) ls)
+
+-- ---- the bytes of a text, else 10
+
+-- bytes at most, marks counted; 256 segments as long as GIMP writes them are 72,508
+abbrev pub mostBytes : Rules → ℕ
+mostBytes Published = mostText
+mostBytes Saved = 131072
+
+-- document 01 wants every byte ASCII; in what GIMP saves the first three lines are looked at, before the others
+abbrev pub goodBytes : Rules → List ℕ → Bool
+goodBytes Published s = every ascii (unmark s)
+goodBytes Saved s = savedHead s
+
+abbrev pub fitText : Rules → List ℕ → Bool
+fitText rules s = leb (length s) (mostBytes rules) && goodBytes rules s
+
+-- then the segment lines that the header counts; what follows those is not looked at
+unfoldable pub asciiLines : ℕ → List (List ℕ) → Bool
+asciiLines zero ls = true
+asciiLines (suc n) [] = true
+asciiLines (suc n) (l ∷ ls) = every ascii l && asciiLines n ls
+
+abbrev pub fitLines : Rules → ℕ → List (List ℕ) → Bool
+fitLines Published n ls = true
+fitLines Saved n ls = asciiLines n ls
 
 -- the segments that the header counts, from line 4 and from 0 on
-unfoldable pub fromHead : Rgba → Rgba → Head → FileRead
-fromHead fg bg (counts n ls) = segmentLines fg bg n 4 f0 ls
-fromHead fg bg (fails number line) = refused number line
+unfoldable pub fromHead : Rules → Rgba → Rgba → Head → FileRead
+fromHead rules fg bg (counts n ls) = cond (fitLines rules n ls) (segmentLines rules fg bg n 4 f0 ls) (refused notAText 0)
+fromHead rules fg bg (fails number line) = refused number line
 
 -- ---- the file: foreground or background not finite is 2, first of all; then 10; then the lines
-
--- ASCII text of at most 65,536 bytes, marks counted
-unfoldable pub fitText : List ℕ → Bool
-fitText s = leb (length s) mostText && every ascii (unmark s)
-
-unfoldable pub fileOf : ℕ → Rgba → Rgba → List ℕ → FileRead
-fileOf room fg bg s =
+unfoldable pub fileOf : Rules → ℕ → Rgba → Rgba → List ℕ → FileRead
+fileOf rules room fg bg s =
     cond (finiteRgba fg && finiteRgba bg)
-    (cond (fitText s) (fromHead fg bg (headOf room s)) (refused notAText 0))
+    (cond (fitText rules s) (fromHead rules fg bg (headOf room s)) (refused notAText 0))
     (refused notFinite 0)
 
 -- ---- what is answered and written
@@ -134,9 +157,9 @@ pub record Done (o : FileRead) (store : Change Store) (r : Answer) : Type 0 wher
   pub segments-read : segmentsOfAnswer r ≡ segmentsIn o
   pub left : store .exit ≡ storeLeft o (store .entry)
 
--- the promise of reading the text s
-abbrev pub Reading : Rgba → Rgba → List ℕ → Change Store → Answer → Type 0
-Reading fg bg s store r = Done (fileOf (roomIn (store .entry)) fg bg s) store r
+-- the promise of reading the text s by these rules
+abbrev pub Reading : Rules → Rgba → Rgba → List ℕ → Change Store → Answer → Type 0
+Reading rules fg bg s store r = Done (fileOf rules (roomIn (store .entry)) fg bg s) store r
 
 -- the positions of n segments that it has left
 abbrev pub positionsLeft : ℕ → Change Store → List Float
@@ -151,5 +174,5 @@ unfoldable pub whenRead : FileRead → List ℕ → List ℕ
 whenRead (found gs) n = n
 whenRead (refused number line) n = []
 
-unfoldable pub nameOf : List ℕ → List ℕ
-nameOf s = whenRead (fileOf mostSegments transparent transparent s) (nameIn s)
+unfoldable pub nameOf : Rules → List ℕ → List ℕ
+nameOf rules s = whenRead (fileOf rules mostSegments transparent transparent s) (nameIn s)

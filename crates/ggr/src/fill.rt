@@ -1,36 +1,26 @@
 // A file read into the lent outputs.
 use super::Answer;
+use crate::fit::are_fit_lines;
+use crate::fit::is_fit_text;
 use blend::Rgba;
 use gradient::gimp::Segment;
 use header::Lead;
 use header::read_header;
 use refusals::FEW_LINES;
-use refusals::MOST_TEXT;
 use refusals::NOT_A_TEXT;
 use refusals::NOT_FINITE;
 use refusals::TORN;
+use segment::Rules;
 use segment::SegmentRead;
 use segment::segment_at;
 use segment::store::put_segment;
-use text::is_ascii;
-use text::marks;
 ghost use mathlib.Core.Path.{_≡_};
 ghost use Prim.Native.Nat.{_*_, _≤_};
 ghost use lib.ListN.{length};
 ghost use Rattle.refusals.specs.Limits.{mostSegments};
 ghost use Rattle.segment.specs.Store.{lentStore};
-ghost use Rattle.ggr.specs.File.{fitText, joins, segmentRoom, joinedTo};
+ghost use Rattle.ggr.specs.File.{joins, segmentRoom, joinedTo};
 ghost use Rattle.ggr.specs.inner.Steps.{Fills, ReadsInto, closedBy};
-
-fn is_fit_text(s: &[u8]) -> bool
-    ensures { λ r. ⌜ r ≡ fitText (now (s .entry)) ⌝ }
-{
-    if MOST_TEXT < s.len() {
-        return false;
-    }
-    let at = marks(s);
-    is_ascii(&s[at..])
-}
 
 fn room_of(p: usize, c: usize, k: usize) -> usize
     ensures { λ r. ⌜ r ≡ segmentRoom p c k ⌝ }
@@ -86,6 +76,7 @@ fn closing(end: f32, n: usize) -> Answer
 
 // The n segment lines from `from` on, written into the outputs.
 fn fill(
+    rules: Rules,
     s: &[u8],
     from: usize,
     n: usize,
@@ -96,7 +87,7 @@ fn fill(
     k: &mut [u8],
 ) -> Answer
     requires { ⌜ (n ≤ mostSegments) × (3 * n ≤ length (now p)) × (8 * n ≤ length (now c)) × (2 * n ≤ length (now k)) ⌝ }
-    ensures { λ r. ⌜ Fills fg bg (now (s .entry)) from n (lentStore p c k) r ⌝ }
+    ensures { λ r. ⌜ Fills rules fg bg (now (s .entry)) from n (lentStore p c k) r ⌝ }
 {
     let mut at = from;
     let mut end = 0.0;
@@ -105,7 +96,7 @@ fn fill(
         if s.len() <= at {
             return Answer::Refused(FEW_LINES, 3);
         }
-        let l = segment_at(s, at, fg, bg);
+        let l = segment_at(s, at, rules, fg, bg);
         let read = l.read;
         let o = weigh(end, read);
         match o {
@@ -125,6 +116,7 @@ fn fill(
 
 // Reads a file: the answer is right, and so are the outputs where it is no refusal.
 pub(crate) fn read_into(
+    rules: Rules,
     s: &[u8],
     fg: Rgba,
     bg: Rgba,
@@ -132,7 +124,7 @@ pub(crate) fn read_into(
     c: &mut [f32],
     k: &mut [u8],
 ) -> Answer
-    ensures { λ r. ⌜ ReadsInto fg bg (now (s .entry)) (lentStore p c k) r ⌝ }
+    ensures { λ r. ⌜ ReadsInto rules fg bg (now (s .entry)) (lentStore p c k) r ⌝ }
 {
     if !stops::is_finite_colour(fg) {
         return Answer::Refused(NOT_FINITE, 0);
@@ -140,13 +132,18 @@ pub(crate) fn read_into(
     if !stops::is_finite_colour(bg) {
         return Answer::Refused(NOT_FINITE, 0);
     }
-    if !is_fit_text(s) {
+    if !is_fit_text(rules, s) {
         return Answer::Refused(NOT_A_TEXT, 0);
     }
     let room = room_of(p.len(), c.len(), k.len());
     let lead = read_header(s, room);
     match lead {
         Lead::Refuse(number, line) => Answer::Refused(number, line),
-        Lead::Counted(n, at) => fill(s, at, n, fg, bg, p, c, k),
+        Lead::Counted(n, at) => {
+            if !are_fit_lines(rules, s, at, n) {
+                return Answer::Refused(NOT_A_TEXT, 0);
+            }
+            fill(rules, s, at, n, fg, bg, p, c, k)
+        }
     }
 }

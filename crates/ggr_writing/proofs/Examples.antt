@@ -7,7 +7,7 @@ use Prim.Native.String.{String, [] as empty, _∷_ as _then_}
 use lib.Ieee.{lt, eq, ofBits, add, div, round}
 use Rattle.float.specs.F32.{f0, f1}
 use Rattle.numerals.specs.Written.{digits, plainDecimal, places, nine, inRange, writable, signed, textOf}
-use Rattle.writing.specs.Printed.{decimalOf}
+use Rattle.text.specs.Output.{decimalOf}
 use Rattle.ggr_writing.specs.File.{spacedNumber, spacedColour, segmentText, segmentsText, fileText, segmentsFrom, shapedList, rises, writableColour, writableSegment, writableFrom, canWrite, text, withRoom, fileWrittenOf}
 
 bytes : String → List ℕ

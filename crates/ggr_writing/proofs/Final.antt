@@ -15,9 +15,9 @@ use Rattle.refusals.specs.Refusals.{misshapen, falling, noRoom, unwritable}
 use Rattle.refusals.specs.Limits.{mostWritten}
 use Rattle.stops.specs.Lent.{change}
 use Rattle.gradient.specs.declared.gimp.Segment.{Segment}
-use Rattle.writing.specs.Printed.{decimalOf, countText, mostPlace, PutsFrom, Puts}
-use Rattle.writing.proofs.Lengths.{few-digits}
-use Rattle.writing.proofs.Texts.{puts-then, from-as, whole, puts-size}
+use Rattle.text.specs.Output.{decimalOf, mostPlace, PutsFrom, countText, Puts}
+use Rattle.text.proofs.Putting.{few-digits, whole, puts-size}
+use Rattle.text.proofs.Putting.{puts-then, from-as}
 use Rattle.ggr_writing.specs.declared.WriteAnswer.{WriteAnswer}
 use Rattle.ggr_writing.specs.declared.WriteAnswer.the-variants.{Written, Refused}
 use Rattle.ggr_writing.specs.File.{segmentsFrom, segmentsOf, segmentText, segmentsText, fileText, heading, shapedList, rises, canWrite, FileWritten, text, refused, cleared, withRoom, fileWrittenOf, writeAnswerOf, numberOfWriteAnswer, bytesOfWriteAnswer, leftIn, WritesAs, longestLine}

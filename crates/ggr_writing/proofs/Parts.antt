@@ -15,7 +15,7 @@ use Rattle.rows.specs.declared.digits.Digits.the-variants.{Is}
 use Rattle.rows.specs.Digits.{digitsOf, digitsWith}
 use Rattle.text.specs.Text.{every, ascii, lines, atLf, onFirst, white, inWord, words}
 use Rattle.text.proofs.Bytes.{every-both}
-use Rattle.writing.specs.Printed.{decimalOf}
+use Rattle.text.specs.Output.{decimalOf}
 use Rattle.numerals.proofs.Marks.{Marks}
 
 -- ---- bytes that show: from 32 to 126

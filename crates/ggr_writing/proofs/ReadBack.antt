@@ -22,13 +22,14 @@ use Rattle.gradient.specs.declared.gimp.Segment.{Segment}
 use Rattle.text.specs.Text.{every, ascii, unmark, lines, same, starts}
 use Rattle.text.proofs.Bytes.{every-both}
 use Rattle.rows.specs.declared.digits.Digits.{Digits}
+use Rattle.segment.specs.declared.Rules.the-variants.{Published}
 use Rattle.segment.specs.declared.SegmentRead.{SegmentRead}
 use Rattle.segment.specs.declared.SegmentRead.the-variants.{Valid, Fault}
 use Rattle.segment.specs.Line.{segmentOnLine}
 use Rattle.header.specs.Head.{counts, fails, orEmpty, textLines, fromCount, counted, fromThird, fromSecond, fromLines, headOf, title, nameTag}
 use Rattle.ggr.specs.File.{found, refused, joins, joinedTo, before, addSegment, segmentLines, fromHead, fitText, fileOf}
 use Rattle.numerals.specs.Written.{writable}
-use Rattle.writing.specs.Printed.{countText}
+use Rattle.text.specs.Output.{countText}
 use Rattle.ggr_writing.specs.File.{segmentBetween, segmentsFrom, segmentsOf, segmentsText, fileText, heading, listName, rises, writableColour, writableSegment, writableFrom, canWrite, Singles}
 use Rattle.ggr_writing.proofs.Parts.{Shown, shown-ascii, lines-line, count-read, count-shown}
 use Rattle.ggr_writing.proofs.Row.{Single, lineOf, line-is, line-shown, line-read, sound-colours}
@@ -36,12 +37,12 @@ use Rattle.ggr_writing.proofs.Orders.{writable-number, writable-within,
 use Rattle.ggr_writing.proofs.Final.{length-segments, length-file}
 
 -- ---- one segment line, and those after it
-step : (fg bg : Rgba) (n line : ℕ) (end : Float) (l : List ℕ) (ls : List (List ℕ)) (g : Segment) (gs : List Segment) → segmentOnLine fg bg l ≡ Valid g → joins end g ≡ true
-    → segmentLines fg bg n (suc line) (g .right) ls ≡ found gs → segmentLines fg bg (suc n) line end (l ∷ ls) ≡ found (g ∷ gs)
+step : (fg bg : Rgba) (n line : ℕ) (end : Float) (l : List ℕ) (ls : List (List ℕ)) (g : Segment) (gs : List Segment) → segmentOnLine Published fg bg l ≡ Valid g → joins end g ≡ true
+    → segmentLines Published fg bg n (suc line) (g .right) ls ≡ found gs → segmentLines Published fg bg (suc n) line end (l ∷ ls) ≡ found (g ∷ gs)
 unfolding segmentLines addSegment joinedTo before
 step fg bg n line end l ls g gs e j r =
-    ap (λ (o : SegmentRead). addSegment line (joinedTo end o) (λ h. segmentLines fg bg n (suc line) (h .right) ls)) e
-    ∙ ap (λ (b : Bool). addSegment line (cond b (Valid g) (Fault torn)) (λ h. segmentLines fg bg n (suc line) (h .right) ls)) j
+    ap (λ (o : SegmentRead). addSegment line (joinedTo end o) (λ h. segmentLines Published fg bg n (suc line) (h .right) ls)) e
+    ∙ ap (λ (b : Bool). addSegment line (cond b (Valid g) (Fault torn)) (λ h. segmentLines Published fg bg n (suc line) (h .right) ls)) j
     ∙ ap (before g) r
 
 module _ (fg bg : Rgba) (ps cs : List Float) (one : Singles ps cs) (up : rises (inf true) ps ≡ true) where
@@ -51,7 +52,7 @@ module _ (fg bg : Rgba) (ps cs : List Float) (one : Singles ps cs) (up : rises (
   single : (i : ℕ) → Single (colourAt cs i)
   single i = record { red = one .channels (4 * i); green = one .channels (4 * i + 1); blue = one .channels (4 * i + 2); alpha = one .channels (4 * i + 3) }
 
-  here-read : (i : ℕ) → writableSegment (between i) ≡ true → segmentOnLine fg bg (lineOf (between i)) ≡ Valid (between i)
+  here-read : (i : ℕ) → writableSegment (between i) ≡ true → segmentOnLine Published fg bg (lineOf (between i)) ≡ Valid (between i)
   here-read i w =
       let l = posAt ps i in
       let r = posAt ps (i + 1) in
@@ -98,7 +99,7 @@ module _ (fg bg : Rgba) (ps cs : List Float) (one : Singles ps cs) (up : rises (
 
   -- n lines from segment i on, where the one before ends at `end`, which is position i by value
   rows-read : (n i line : ℕ) (end : Float) → i + n < length ps → writableFrom n i ps cs ≡ true → (n ≡ 0 → eq end f1 ≡ true) → eq (posAt ps i) end ≡ true → eq (posAt ps (i + n)) f1 ≡ true
-      → segmentLines fg bg n line end (lines (segmentsText (segmentsFrom n i ps cs))) ≡ found (segmentsFrom n i ps cs)
+      → segmentLines Published fg bg n line end (lines (segmentsText (segmentsFrom n i ps cs))) ≡ found (segmentsFrom n i ps cs)
   unfolding segmentLines writableFrom segmentsFrom segmentsText lines
   rows-read zero i line end h w z e last = rw (z refl)
   rows-read (suc n) i line end h w z e last =
@@ -107,7 +108,7 @@ module _ (fg bg : Rgba) (ps cs : List Float) (one : Singles ps cs) (up : rises (
       let w0 = both-l (writableSegment g) (writableFrom n (i + 1) ps cs) w in
       let w1 = both-r (writableSegment g) (writableFrom n (i + 1) ps cs) w in
       let k : i + 1 + n ≡ i + suc n = omega arith in
-      ap (segmentLines fg bg (suc n) line end) (ap lines (line-is g s) ∙ lines-line (lineOf g) s (line-shown g))
+      ap (segmentLines Published fg bg (suc n) line end) (ap lines (line-is g s) ∙ lines-line (lineOf g) s (line-shown g))
       ∙ step fg bg n line end (lineOf g) (lines s) g (segmentsFrom n (i + 1) ps cs) (here-read i w0) (here-joins i end (omega arith) w0 e)
       (rows-read n (i + 1) (suc line) (posAt ps (i + 1)) (omega arith) w1 (λ (o : n ≡ 0). ap (λ (j : ℕ). eq (posAt ps j) f1) (only o) ∙ last) (same-value (i + 1) (three i w0 .right)) (ap (λ (j : ℕ). eq (posAt ps j) f1) k ∙ last))
     where
@@ -130,8 +131,7 @@ file-unmarked : (gs : List Segment) → unmark (fileText gs) ≡ fileText gs
 unfolding fileText unmark
 file-unmarked gs = refl
 
-file-fits : (gs : List Segment) → length gs ≤ 256 → fitText (fileText gs) ≡ true
-unfolding fitText
+file-fits : (gs : List Segment) → length gs ≤ 256 → fitText Published (fileText gs) ≡ true
 file-fits gs h =
     ap (λ (b : Bool). b && every ascii (unmark (fileText gs))) (le-leb (length (fileText gs)) mostText (omega (arith, length-file gs (omega arith))))
     ∙ ap (every ascii) (file-unmarked gs) ∙ file-ascii gs
@@ -172,7 +172,7 @@ both : (a b : Bool) → a ≡ true → b ≡ true → (a && b) ≡ true
 both a b e f = rw (e, f)
 
 pub file-read : (fg bg : Rgba) (room : ℕ) (ps cs : List Float) → Singles ps cs → finiteRgba fg ≡ true → finiteRgba bg ≡ true → 2 ≤ length ps → length ps ≤ 257 → length ps - 1 ≤ room
-    → rises (inf true) ps ≡ true → canWrite ps cs ≡ true → fileOf room fg bg (fileText (segmentsOf ps cs)) ≡ found (segmentsOf ps cs)
+    → rises (inf true) ps ≡ true → canWrite ps cs ≡ true → fileOf Published room fg bg (fileText (segmentsOf ps cs)) ≡ found (segmentsOf ps cs)
 unfolding fileOf fromHead canWrite
 file-read fg bg room ps cs one f g lo hi enough up can =
     let gs = segmentsOf ps cs in
@@ -183,10 +183,10 @@ file-read fg bg room ps cs one f g lo hi enough up can =
     let all = writableFrom n 0 ps cs in
     let ends = both-l (first && last) all can in
     let some : length gs ≡ suc (n - 1) = omega arith in
-    ap (λ (b : Bool). cond b (cond (fitText (fileText gs)) (fromHead fg bg (headOf room (fileText gs))) (refused notAText 0)) (refused notFinite 0)) (both (finiteRgba fg) (finiteRgba bg) f g)
-    ∙ ap (λ (b : Bool). cond b (fromHead fg bg (headOf room (fileText gs))) (refused notAText 0)) (file-fits gs (omega arith))
-    ∙ ap (fromHead fg bg) (head-read room (n - 1) gs some (omega arith) (omega arith))
-    ∙ ap (λ (k : ℕ). segmentLines fg bg k 4 f0 (lines (segmentsText gs))) long
+    ap (λ (b : Bool). cond b (cond (fitText Published (fileText gs)) (fromHead Published fg bg (headOf room (fileText gs))) (refused notAText 0)) (refused notFinite 0)) (both (finiteRgba fg) (finiteRgba bg) f g)
+    ∙ ap (λ (b : Bool). cond b (fromHead Published fg bg (headOf room (fileText gs))) (refused notAText 0)) (file-fits gs (omega arith))
+    ∙ ap (fromHead Published fg bg) (head-read room (n - 1) gs some (omega arith) (omega arith))
+    ∙ ap (λ (k : ℕ). segmentLines Published fg bg k 4 f0 (lines (segmentsText gs))) long
     ∙ rows-read fg bg ps cs one up n 0 4 f0 (omega arith) (both-r (first && last) all can) (λ (z : n ≡ 0). absurd (none z)) (both-l first last ends)
     (ap (λ (k : ℕ). eq (posAt ps k) f1) (zero-add n) ∙ both-r first last ends)
   where

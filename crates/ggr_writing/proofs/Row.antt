@@ -13,10 +13,12 @@ use Rattle.blend.specs.declared.Rgba.{Rgba}
 use Rattle.decimal.specs.declared.Token.{Token}
 use Rattle.decimal.specs.declared.Token.the-variants.{Number}
 use Rattle.decimal.specs.Decimal.{readOf}
-use Rattle.rows.specs.Rows.{all, addNumber, numbers}
+use Rattle.rows.specs.declared.Notation.the-variants.{Short}
+use Rattle.rows.specs.Rows.{all, tokenOf, addNumber, numbers}
 use Rattle.text.specs.Text.{words, white, inWord, onFirst}
 use Rattle.gradient.specs.declared.gimp.Segment.{Segment}
 use Rattle.gradient.specs.Gimp.{carried}
+use Rattle.segment.specs.declared.Rules.the-variants.{Published}
 use Rattle.segment.specs.declared.SegmentRead.the-variants.{Valid}
 use Rattle.segment.specs.Line.{cut, codeOf, validCodes, endColour, judge, build, fromNumbers, segmentOnLine}
 use Rattle.numerals.specs.Written.{writable, signed, textOf}
@@ -54,11 +56,11 @@ words-fields (x ∷ xs) s h =
     ∙ words-word (textOf x) (fieldsText xs ++ s) (text-marks x) (text-some x (h .1))
     ∙ ap (λ (ws : List (List ℕ)). textOf x ∷ ws) (words-fields xs s (h .2))
 
-numbers-of : (xs : List Float) (ws : List (List ℕ)) (ys : List Float) → Sound xs → numbers ws ≡ all ys → numbers (textsOf xs ++ ws) ≡ all (xs ++ ys)
-unfolding textsOf Sound numbers addNumber
+numbers-of : (xs : List Float) (ws : List (List ℕ)) (ys : List Float) → Sound xs → numbers Short ws ≡ all ys → numbers Short (textsOf xs ++ ws) ≡ all (xs ++ ys)
+unfolding textsOf Sound numbers tokenOf addNumber
 numbers-of [] ws ys h e = e
 numbers-of (x ∷ xs) ws ys h e =
-    ap (λ (t : Token). addNumber t (numbers (textsOf xs ++ ws))) (trip x (h .0) (h .1)) ∙ ap (addNumber (Number x)) (numbers-of xs ws ys (h .2) e)
+    ap (λ (t : Token). addNumber t (numbers Short (textsOf xs ++ ws))) (trip x (h .0) (h .1)) ∙ ap (addNumber (Number x)) (numbers-of xs ws ys (h .2) e)
 
 shown-fields : (xs : List Float) → Shown (fieldsText xs)
 unfolding fieldsText Shown spacedNumber
@@ -84,8 +86,8 @@ zero-writable = refl
 zero-read : readOf (48 ∷ []) ≡ Number f0
 zero-read = ap readOf (sym zero-text) ∙ trip f0 (ofBits-fits binary32 0) zero-writable
 
-zero-numbers : numbers ((48 ∷ []) ∷ (48 ∷ []) ∷ []) ≡ all (f0 ∷ f0 ∷ [])
-unfolding numbers addNumber
+zero-numbers : numbers Short ((48 ∷ []) ∷ (48 ∷ []) ∷ []) ≡ all (f0 ∷ f0 ∷ [])
+unfolding numbers tokenOf addNumber
 zero-numbers = simp zero-read
 
 -- ---- a line
@@ -106,10 +108,10 @@ pub line-shown : (g : Segment) → Shown (lineOf g)
 unfolding lineOf Shown
 line-shown g = shown-both (fieldsText (numbersOf g)) codesText (shown-fields (numbersOf g)) (omega arith, omega arith, (omega arith, omega arith, (omega arith, omega arith, tt)))
 
-line-numbers : (g : Segment) → Sound (numbersOf g) → numbers (words (lineOf g)) ≡ all (numbersOf g ++ (f0 ∷ f0 ∷ []))
+line-numbers : (g : Segment) → Sound (numbersOf g) → numbers Short (words (lineOf g)) ≡ all (numbersOf g ++ (f0 ∷ f0 ∷ []))
 unfolding lineOf
 line-numbers g h =
-    ap numbers (words-fields (numbersOf g) codesText h ∙ ap (λ (ws : List (List ℕ)). textsOf (numbersOf g) ++ ws) zero-words)
+    ap (numbers Short) (words-fields (numbersOf g) codesText h ∙ ap (λ (ws : List (List ℕ)). textsOf (numbersOf g) ++ ws) zero-words)
     ∙ numbers-of (numbersOf g) ((48 ∷ []) ∷ (48 ∷ []) ∷ []) (f0 ∷ f0 ∷ []) h zero-numbers
 
 -- codes 0 are linear and RGB, with own colours
@@ -120,13 +122,13 @@ code-zero = refl
 abbrev pub linear : Float → Float → Float → Rgba → Rgba → Segment
 linear l m r p q = record { left = l; middle = m; right = r; lcolor = p; rcolor = q; blending = 0; colouring = 0 }
 
-build-of : (fg bg : Rgba) (l m r : Float) (p q : Rgba) → fromNumbers fg bg (all (numbersOf (linear l m r p q) ++ (f0 ∷ f0 ∷ []))) ≡ Valid (linear l m r p q)
+build-of : (fg bg : Rgba) (l m r : Float) (p q : Rgba) → fromNumbers Published fg bg (all (numbersOf (linear l m r p q) ++ (f0 ∷ f0 ∷ []))) ≡ Valid (linear l m r p q)
 unfolding fromNumbers build validCodes endColour judge carried
 build-of fg bg l m r p q = simp code-zero
 
-pub line-read : (fg bg : Rgba) (l m r : Float) (p q : Rgba) → Sound (numbersOf (linear l m r p q)) → segmentOnLine fg bg (lineOf (linear l m r p q)) ≡ Valid (linear l m r p q)
+pub line-read : (fg bg : Rgba) (l m r : Float) (p q : Rgba) → Sound (numbersOf (linear l m r p q)) → segmentOnLine Published fg bg (lineOf (linear l m r p q)) ≡ Valid (linear l m r p q)
 unfolding segmentOnLine
-line-read fg bg l m r p q h = ap (fromNumbers fg bg) (line-numbers (linear l m r p q) h) ∙ build-of fg bg l m r p q
+line-read fg bg l m r p q h = ap (fromNumbers Published fg bg) (line-numbers (linear l m r p q) h) ∙ build-of fg bg l m r p q
 
 -- every number of a segment that can be written is sound, where each is an f32
 pub sound-colours : (l m r : Float) (p q : Rgba) → writableSegment (linear l m r p q) ≡ true

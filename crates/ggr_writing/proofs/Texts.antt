@@ -12,8 +12,8 @@ use Rattle.gradient.specs.declared.gimp.Segment.{Segment}
 use Rattle.numerals.specs.Written.{textOf, TextIs}
 use Rattle.numerals.proofs.Marks.{text-short}
 use Rattle.numerals.proofs.Theorems.{bytes-are}
-use Rattle.writing.specs.Printed.{mostPlace, PutsFrom}
-use Rattle.writing.proofs.Texts.{from-nil, puts-then, from-as}
+use Rattle.text.specs.Output.{mostPlace, PutsFrom}
+use Rattle.text.proofs.Putting.{from-nil, puts-then, from-as}
 use Rattle.ggr_writing.specs.File.{spacedNumber, spacedColour, segmentText, segmentsText, segmentBetween, segmentsFrom, longestLine}
 
 -- ---- how long they are

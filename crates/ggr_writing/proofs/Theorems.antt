@@ -14,6 +14,7 @@ use Rattle.refusals.specs.Refusals.{misshapen, falling, noRoom, unwritable}
 use Rattle.blend.specs.declared.Rgba.{Rgba}
 use Rattle.stops.specs.Stops.{finiteRgba}
 use Rattle.stops.specs.Lent.{Change}
+use Rattle.segment.specs.declared.Rules.the-variants.{Published}
 use Rattle.segment.specs.Store.{Store}
 use Rattle.ggr.specs.File as ggr
 use Rattle.ggr.specs.declared.Answer as ggr-answer
@@ -77,10 +78,10 @@ module _ (ps cs : List Float) (out : Change (List ℕ)) (w : WriteAnswer) (h : W
 
   -- Reading what was written, by any call with finite colours and room for the segments, is not refused, and gives the segments written: each position and channel bit for bit.
   pub read-back : Singles ps cs → (fg bg : Rgba) → finiteRgba fg ≡ true → finiteRgba bg ≡ true → (store : Change Store) → length ps - 1 ≤ ggr.roomIn (store .entry) → (r : ggr-answer.Answer)
-      → ggr.Reading fg bg (take n (out .exit)) store r → (r ≡ Read (length ps - 1)) × (store .exit ≡ ggr.storeLeft (ggr.found (segmentsOf ps cs)) (store .entry))
+      → ggr.Reading Published fg bg (take n (out .exit)) store r → (r ≡ Read (length ps - 1)) × (store .exit ≡ ggr.storeLeft (ggr.found (segmentsOf ps cs)) (store .entry))
   read-back one fg bg f g store enough r d =
-      let is : ggr.fileOf (ggr.roomIn (store .entry)) fg bg (take n (out .exit)) ≡ ggr.found (segmentsOf ps cs) =
-      ap (ggr.fileOf (ggr.roomIn (store .entry)) fg bg) written-is ∙ file-read fg bg (ggr.roomIn (store .entry)) ps cs one f g at-least few enough (passed .up) (passed .can) in (
+      let is : ggr.fileOf Published (ggr.roomIn (store .entry)) fg bg (take n (out .exit)) ≡ ggr.found (segmentsOf ps cs) =
+      ap (ggr.fileOf Published (ggr.roomIn (store .entry)) fg bg) written-is ∙ file-read fg bg (ggr.roomIn (store .entry)) ps cs one f g at-least few enough (passed .up) (passed .can) in (
         d .answer ∙ ap ggr.answerOf is ∙ ap Read (length-segments (length ps - 1) 0 ps cs),
         d .left ∙ ap (λ (o : ggr.FileRead). ggr.storeLeft o (store .entry)) is,
       )

@@ -15,7 +15,7 @@ use Rattle.stops.specs.Stops.{posAt, stopAt}
 use Rattle.stops.specs.Lent.{Change}
 use Rattle.gradient.specs.declared.gimp.Segment.{Segment}
 use Rattle.numerals.specs.Written.{writable, textOf}
-use Rattle.writing.specs.Printed.{countText}
+use Rattle.text.specs.Output.{countText}
 use Rattle.header.specs.Head.{title, nameTag}
 use Rattle.ggr_writing.specs.declared.WriteAnswer.{WriteAnswer}
 use Rattle.ggr_writing.specs.declared.WriteAnswer.the-variants.{Written, Refused}

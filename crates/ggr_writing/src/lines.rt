@@ -1,15 +1,15 @@
 // The bytes of a file. One past the end of the output is dropped, so that a file too long for it is measured all the same.
 use blend::Rgba;
 use blend::Stop;
-use writing::DECIMALS;
-use writing::put;
-use writing::put_all;
-use writing::put_decimal;
+use text::output::DECIMALS;
+use text::output::put;
+use text::output::put_all;
+use text::output::put_decimal;
 ghost use Prim.Native.Nat.{_≤_};
 ghost use lib.ListN.{length};
 ghost use Rattle.stops.specs.Lent.{old, new};
 ghost use Rattle.refusals.specs.Limits.{mostWritten};
-ghost use Rattle.writing.specs.Printed.{PutsFrom, Puts};
+ghost use Rattle.text.specs.Output.{PutsFrom, Puts};
 ghost use Rattle.ggr_writing.specs.File.{spacedNumber, spacedColour, segmentText, segmentBetween, segmentsFrom, segmentsText, segmentsOf};
 ghost use Rattle.ggr_writing.specs.File.{fileText};
 

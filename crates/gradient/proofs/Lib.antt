@@ -3,3 +3,4 @@ pub mod Same
 pub mod GimpSearch
 pub mod GimpLaws
 pub mod NoGap
+pub mod Saved

@@ -1,8 +1,8 @@
--- GIMP segments: their check, and their colour at t. The evaluation of item 6 of document 01's 'Ramps carried', and the last point of 'What a GIMP file may hold'; document 02 (i), (ix).
+-- GIMP segments: their check, and their colour at t. The evaluation of item 6 of document 01's 'Ramps carried', and the last point of 'What a GIMP file may hold'; document 02 (i), (ix); curved segments, an addition of our own (docs/RULES.md).
 -- Segment i has positions 3i, 3i + 1, 3i + 2 (left, middle, right), channels 8i to 8i + 7 (left r g b a, right r g b a) and codes 2i, 2i + 1 (blending, colouring).
 -- Past the end of a list a number is not-a-number and a code is 0, so that any lists at all have a colour.
 use Prim.Native.Nat.{ℕ, zero, suc, _+_, _*_, _/_}
-use mathlib.Core.Bool.{Bool, true, cond, _&&_, _||_}
+use mathlib.Core.Bool.{Bool, true, false, cond, _&&_, _||_}
 use mathlib.Core.List.{List}
 use lib.Dec.{leb, ltb, eqb}
 use lib.ListN.{length, getD}
@@ -12,11 +12,14 @@ use Rattle.refusals.specs.Limits.{mostSegments}
 use Rattle.float.specs.F32.{_⊕_, _⊖_, _⊗_, _⊘_, f0, f1, half, epsilon}
 use Rattle.sqrt.specs.Root.{rootOf}
 use Rattle.sine.specs.Wave.{waveOf}
+use Rattle.curve.specs.Factor.{factorOf}
 use Rattle.hsv.specs.Mix.{thereAndBack, counterClockwise, clockwise}
 use Rattle.blend.specs.Blend.{linear, black}
 use Rattle.blend.specs.Finite.{allFinite}
 use Rattle.blend.specs.declared.Rgba.{Rgba}
 use Rattle.stops.specs.Stops.{posAt, colourAt}
+use Rattle.stops.specs.declared.Kind.{Kind}
+use Rattle.stops.specs.declared.Kind.the-variants.{Linear, Smoothstep, Sharp, Basis, CatmullRom, Gimp, GimpSaved}
 use Rattle.stops.specs.declared.Checked.{Checked}
 use Rattle.stops.specs.declared.Checked.the-variants.{Fine, Refused}
 use Rattle.gradient.specs.declared.gimp.Segment.{Segment}
@@ -52,9 +55,12 @@ gimpSegment ps cs ks i = record {
   colouring = colouringAt ks i;
 }
 
--- ---- the kinds carried: blending linear, sinusoidal, spherical increasing, spherical decreasing, step; colouring RGB, which is 0, and HSV with hues that rise or fall
+-- ---- what is carried: blending linear, sinusoidal, spherical increasing, spherical decreasing, step, and curved by one kind of ramp; colouring RGB, which is 0, and HSV with hues that rise or fall
 abbrev pub linearCode : ℕ
 linearCode = 0
+
+abbrev pub curvedCode : ℕ
+curvedCode = 1
 
 abbrev pub sinusoidalCode : ℕ
 sinusoidalCode = 2
@@ -78,34 +84,48 @@ fallingCode = 2
 abbrev pub inOrder : Float → Float → Float → Bool
 inOrder left middle right = le left middle && le middle right
 
--- A sinusoidal segment is carried where its middle is not outside its ends: document 02 (i). Of the others nothing is asked but the codes.
-unfoldable pub carried : ℕ → ℕ → Float → Float → Float → Bool
-carried blending colouring left middle right =
+-- the kind of ramp whose segments may be curved
+abbrev pub takesCurved : Kind → Bool
+takesCurved Linear = false
+takesCurved Smoothstep = false
+takesCurved Sharp = false
+takesCurved Basis = false
+takesCurved CatmullRom = false
+takesCurved Gimp = false
+takesCurved GimpSaved = true
+
+-- the blendings of which the middle is asked too: sinusoidal, and curved where the kind takes it
+abbrev pub asksMiddle : Kind → ℕ → Bool
+asksMiddle kind blending = cond (eqb blending curvedCode) (takesCurved kind) (eqb blending sinusoidalCode)
+
+-- A sinusoidal or curved segment is carried where its middle is not outside its ends: document 02 (i), and by our own rule. Of the others nothing is asked but the codes.
+unfoldable pub carried : Kind → ℕ → ℕ → Float → Float → Float → Bool
+carried kind blending colouring left middle right =
     leb colouring fallingCode
-    && cond (eqb blending sinusoidalCode) (inOrder left middle right)
+    && cond (asksMiddle kind blending) (inOrder left middle right)
     (eqb blending linearCode || eqb blending increasingCode || eqb blending decreasingCode || eqb blending stepCode)
 
-abbrev pub carriedOf : Segment → Bool
-carriedOf g = carried (g .blending) (g .colouring) (g .left) (g .middle) (g .right)
+abbrev pub carriedOf : Kind → Segment → Bool
+carriedOf kind g = carried kind (g .blending) (g .colouring) (g .left) (g .middle) (g .right)
 
 -- ---- the check
 -- segment i
-abbrev pub carriedAt : List Float → List ℕ → ℕ → Bool
-carriedAt ps ks i = carried (blendingAt ks i) (colouringAt ks i) (leftAt ps i) (middleAt ps i) (rightAt ps i)
+abbrev pub carriedAt : Kind → List Float → List ℕ → ℕ → Bool
+carriedAt kind ps ks i = carried kind (blendingAt ks i) (colouringAt ks i) (leftAt ps i) (middleAt ps i) (rightAt ps i)
 
 -- the next `left` segments, from segment i on
-unfoldable pub allCarried : ℕ → ℕ → List Float → List ℕ → Bool
-allCarried zero i ps ks = true
-allCarried (suc left) i ps ks = carriedAt ps ks i && allCarried left (suc i) ps ks
+unfoldable pub allCarried : Kind → ℕ → ℕ → List Float → List ℕ → Bool
+allCarried kind zero i ps ks = true
+allCarried kind (suc left) i ps ks = carriedAt kind ps ks i && allCarried kind left (suc i) ps ks
 
 -- n segments, one to the most, and lengths that agree with it: positions, channels, codes
 unfoldable pub gimpShaped : ℕ → ℕ → ℕ → ℕ → Bool
 gimpShaped n p c k = leb 1 n && leb n mostSegments && eqb p (3 * n) && eqb c (8 * n) && eqb k (2 * n)
 
 -- all of 1, then 2. Falling positions are not asked after
-unfoldable pub gimpCheck : List Float → List Float → List ℕ → Checked
-gimpCheck ps cs ks =
-    cond (gimpShaped (segments ps) (length ps) (length cs) (length ks) && allCarried (segments ps) 0 ps ks)
+unfoldable pub gimpCheck : Kind → List Float → List Float → List ℕ → Checked
+gimpCheck kind ps cs ks =
+    cond (gimpShaped (segments ps) (length ps) (length cs) (length ks) && allCarried kind (segments ps) 0 ps ks)
     (cond (allFinite ps && allFinite cs) Fine (Refused notFinite))
     (Refused misshapen)
 
@@ -142,13 +162,13 @@ increasing f = rootOf (f1 ⊖ (f ⊖ f1) ⊗ (f ⊖ f1))
 unfoldable pub decreasing : Float → Float
 decreasing f = f1 ⊖ rootOf (f1 ⊖ f ⊗ f)
 
--- of every blending but the sinusoidal one; one that is not carried is taken as linear
+-- of every blending but the sinusoidal and the curved one; one that is not carried is taken as linear
 unfoldable pub bent : ℕ → Float → Float
 bent blending f =
     cond (eqb blending increasingCode) (increasing f) (cond (eqb blending decreasingCode) (decreasing f) f)
 
 -- ---- the colour, channel by channel
--- a segment's colour at a place, where `pivot` is the place of its middle and the sine is not asked for. A step gives one of the two colours itself
+-- a segment's colour at a place, where `pivot` is the place of its middle and neither sine nor curve is asked for. A step gives one of the two colours itself
 unfoldable pub unwaved : Segment → Float → Float → Rgba
 unwaved g pivot place =
     cond (eqb (g .blending) stepCode)
@@ -159,13 +179,23 @@ unwaved g pivot place =
 unfoldable pub waved : Segment → Float → Float → Rgba
 waved g pivot place = linear (g .lcolor) (g .rcolor) (waveOf (linearFactor pivot place))
 
+-- A curved one goes along the curve that is half done at the middle. A middle within 2^-23 of an end leaves no curve, and one of the two colours is shown.
+-- `shown` says how such a colour is shown, `between` what lies between the two at a factor
+unfoldable pub curvedBy : (Rgba → Rgba) → (Float → Rgba) → Segment → Float → Float → Rgba
+curvedBy shown between g pivot place =
+    cond (lt pivot epsilon) (shown (g .rcolor))
+    (cond (lt (f1 ⊖ pivot) epsilon) (shown (g .lcolor)) (between (factorOf place pivot)))
+
+unfoldable pub curved : Segment → Float → Float → Rgba
+curved g pivot place = curvedBy (λ c. c) (linear (g .lcolor) (g .rcolor)) g pivot place
+
 -- ---- the colour, by hue
 abbrev pub isHued : ℕ → Bool
 isHued colouring = eqb colouring risingCode || eqb colouring fallingCode
 
--- the factor of any blending
-unfoldable pub factorOf : ℕ → Float → Float → Float
-factorOf blending pivot place =
+-- the factor of any blending but the curved one
+unfoldable pub uncurved : ℕ → Float → Float → Float
+uncurved blending pivot place =
     cond (eqb blending sinusoidalCode) (waveOf (linearFactor pivot place)) (bent blending (linearFactor pivot place))
 
 unfoldable pub turned : ℕ → Rgba → Rgba → Float → Rgba
@@ -176,13 +206,23 @@ unfoldable pub hued : Segment → Float → Float → Rgba
 hued g pivot place =
     cond (eqb (g .blending) stepCode)
     (thereAndBack (cond (le pivot place) (g .rcolor) (g .lcolor)))
-    (turned (g .colouring) (g .lcolor) (g .rcolor) (factorOf (g .blending) pivot place))
+    (cond (eqb (g .blending) curvedCode)
+    (curvedBy thereAndBack (turned (g .colouring) (g .lcolor) (g .rcolor)) g pivot place)
+    (turned (g .colouring) (g .lcolor) (g .rcolor) (uncurved (g .blending) pivot place)))
 
 -- ---- the one rule of blending. A colouring that is not carried is taken as RGB
 unfoldable pub blended : Segment → Float → Float → Rgba
 blended g pivot place =
     cond (isHued (g .colouring)) (hued g pivot place)
-    (cond (eqb (g .blending) sinusoidalCode) (waved g pivot place) (unwaved g pivot place))
+    (cond (eqb (g .blending) curvedCode) (curved g pivot place)
+    (cond (eqb (g .blending) sinusoidalCode) (waved g pivot place) (unwaved g pivot place)))
+
+-- what is costly to work out at each point: by hue, or along a curve
+abbrev pub isCostly : ℕ → ℕ → Bool
+isCostly blending colouring = isHued colouring || eqb blending curvedCode
+
+unfoldable pub costly : Segment → Float → Float → Rgba
+costly g pivot place = cond (isHued (g .colouring)) (hued g pivot place) (curved g pivot place)
 
 -- a segment at t, which need not lie in it
 unfoldable pub segmentColour : Segment → Float → Rgba

@@ -11,7 +11,7 @@ use Rattle.stops.specs.Stops.{posAt, stopsCheck}
 use Rattle.stops.specs.Place.{placeOf, placeIn}
 use Rattle.stops.specs.Pair.{colourIn}
 use Rattle.stops.specs.declared.Kind.{Kind}
-use Rattle.stops.specs.declared.Kind.the-variants.{Linear, Smoothstep, Sharp, Basis, CatmullRom, Gimp}
+use Rattle.stops.specs.declared.Kind.the-variants.{Linear, Smoothstep, Sharp, Basis, CatmullRom, Gimp, GimpSaved}
 use Rattle.stops.specs.declared.Checked.{Checked}
 use Rattle.stops.specs.declared.Place.{Place}
 use Rattle.gradient.specs.Gimp.{gimpCheck, gimpColour}
@@ -24,10 +24,11 @@ isGimp Sharp = false
 isGimp Basis = false
 isGimp CatmullRom = false
 isGimp Gimp = true
+isGimp GimpSaved = true
 
 -- refusals 1, then stop by stop 2 and 3
 unfoldable pub checkOf : Ramp → Checked
-checkOf ramp = cond (isGimp (ramp .kind)) (gimpCheck (ramp .positions) (ramp .channels) (ramp .codes)) (stopsCheck ramp)
+checkOf ramp = cond (isGimp (ramp .kind)) (gimpCheck (ramp .kind) (ramp .positions) (ramp .channels) (ramp .codes)) (stopsCheck ramp)
 
 -- the ends of the domain: 0 and 1 of segments, the first and the last position of stops
 unfoldable pub minIn : Kind → List Float → Float

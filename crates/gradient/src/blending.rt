@@ -8,10 +8,10 @@ use crate::hued;
 use blend::Rgba;
 use blend::utils;
 ghost use mathlib.Core.Path.{_≡_};
-ghost use Rattle.gradient.specs.Gimp.{along, linearFactor, increasing, decreasing, bent, unwaved, waved, segmentColour};
+ghost use Rattle.gradient.specs.Gimp.{along, linearFactor, increasing, decreasing, bent, unwaved, waved, curved, segmentColour};
 
 // 2^-23.
-const EPSILON: f32 = 0.00000011920928955078125;
+pub(crate) const EPSILON: f32 = 0.00000011920928955078125;
 
 // Where x lies from left, 0, to right, 1.
 pub fn place_along(left: f32, right: f32, x: f32) -> f32
@@ -51,7 +51,7 @@ fn spherical_decreasing(f: f32) -> f32
     1.0 - sqrt::root(1.0 - f * f)
 }
 
-// The factor of every blending but the sinusoidal one.
+// The factor of every blending but the sinusoidal and the curved one.
 pub(crate) fn bend(blending: u8, f: f32) -> f32
     ensures { λ r. ⌜ r ≡ bent blending f ⌝ }
 {
@@ -64,7 +64,7 @@ pub(crate) fn bend(blending: u8, f: f32) -> f32
     f
 }
 
-// The rule of blending where the sine is not asked for: the colour at a place of the segment. Both the place and the pivot,
+// The rule of blending where neither sine nor curve is asked for: the colour at a place of the segment. Both the place and the pivot,
 // which is the place of the middle, are counted from the left end, 0, to the right end, 1: painting works out the pivot once
 // for many points.
 pub fn blend(g: Segment, pivot: f32, place: f32) -> Rgba
@@ -89,14 +89,28 @@ pub fn blend_wave(g: Segment, pivot: f32, place: f32) -> Rgba
     utils::interpolate_linear(g.lcolor, g.rcolor, f)
 }
 
+// The same of a curved segment, for the same reason. A middle too near an end leaves no curve.
+pub(crate) fn blend_curve(g: Segment, pivot: f32, place: f32) -> Rgba
+    ensures { λ r. ⌜ r ≡ curved g pivot place ⌝ }
+{
+    if pivot < EPSILON {
+        return g.rcolor;
+    }
+    if 1.0 - pivot < EPSILON {
+        return g.lcolor;
+    }
+    let f = curve::factor(place, pivot);
+    utils::interpolate_linear(g.lcolor, g.rcolor, f)
+}
+
 // The colour of a segment at t, which need not lie in it.
 pub(crate) fn segment_colour(g: Segment, t: f32) -> Rgba
     ensures { λ r. ⌜ r ≡ segmentColour g t ⌝ }
 {
     let pivot = place_along(g.left, g.right, g.middle);
     let place = place_along(g.left, g.right, t);
-    if hued::is_hued(g.colouring) {
-        return hued::blend_hued(g, pivot, place);
+    if hued::is_costly(g.blending, g.colouring) {
+        return hued::blend_costly(g, pivot, place);
     }
     if g.blending == SINUSOIDAL {
         return blend_wave(g, pivot, place);

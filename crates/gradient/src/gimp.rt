@@ -7,20 +7,24 @@ use refusals::MISSHAPEN;
 use refusals::MOST_SEGMENTS;
 use refusals::NOT_FINITE;
 use stops::Checked;
+use stops::Kind;
 ghost use mathlib.Core.Path.{_≡_};
 ghost use Prim.Native.Nat.{_*_, _≤_, _<_};
 ghost use lib.ListN.{length, getD};
 ghost use Rattle.refusals.specs.Limits.{mostSegments};
 ghost use Rattle.stops.specs.Answers.{Checks};
-ghost use Rattle.gradient.specs.Gimp.{segments, inOrder, carried, carriedAt, allCarried, gimpShaped, gimpCheck, segmentFound, gimpSegment, offDomain, gimpColour};
+ghost use Rattle.gradient.specs.Gimp.{segments, carriedAt, allCarried, gimpShaped, gimpCheck, segmentFound, gimpSegment, offDomain, gimpColour};
 pub use crate::blending::blend;
 pub use crate::blending::blend_wave;
 pub use crate::blending::place_along;
-pub use crate::hued::blend_hued;
-pub use crate::hued::is_hued;
+pub use crate::carried::is_carried;
+pub use crate::hued::blend_costly;
+pub use crate::hued::is_costly;
 
 // The codes carried: of blending, and of colouring.
 pub const LINEAR: u8 = 0;
+
+pub const CURVED: u8 = 1;
 
 pub const SINUSOIDAL: u8 = 2;
 
@@ -48,46 +52,15 @@ pub struct Segment {
     pub colouring: u8,
 }
 
-// Whether the middle is not outside the ends.
-fn is_in_order(left: f32, middle: f32, right: f32) -> bool
-    ensures { λ r. ⌜ r ≡ inOrder left middle right ⌝ }
-{
-    if left <= middle {
-        return middle <= right;
-    }
-    false
-}
-
-// Whether a segment with these codes and positions is of a kind carried. Of a sinusoidal one the positions are asked too.
-pub fn is_carried(blending: u8, colouring: u8, left: f32, middle: f32, right: f32) -> bool
-    ensures { λ r. ⌜ r ≡ carried blending colouring left middle right ⌝ }
-{
-    if colouring > HSV_CLOCKWISE {
-        return false;
-    }
-    if blending == SINUSOIDAL {
-        return is_in_order(left, middle, right);
-    }
-    if blending == LINEAR {
-        return true;
-    }
-    if blending == SPHERICAL_INCREASING {
-        return true;
-    }
-    if blending == SPHERICAL_DECREASING {
-        return true;
-    }
-    blending == STEP
-}
-
 // The same of segment i of the lists.
-fn is_carried_at(positions: &[f32], codes: &[u8], i: usize, n: usize) -> bool
+fn is_carried_at(kind: Kind, positions: &[f32], codes: &[u8], i: usize, n: usize) -> bool
     requires { ⌜ (i < n) × (n ≤ mostSegments) × (length (now positions) ≡ 3 * n) × (length (now codes) ≡ 2 * n) ⌝ }
-    ensures { λ r. ⌜ r ≡ carriedAt (now (positions .entry)) (now (codes .entry)) i ⌝ }
+    ensures { λ r. ⌜ r ≡ carriedAt kind (now (positions .entry)) (now (codes .entry)) i ⌝ }
 {
     let p = 3 * i;
     let k = 2 * i;
     is_carried(
+        kind,
         codes[k],
         codes[k + 1],
         positions[p],
@@ -96,13 +69,13 @@ fn is_carried_at(positions: &[f32], codes: &[u8], i: usize, n: usize) -> bool
     )
 }
 
-fn are_carried(positions: &[f32], codes: &[u8], n: usize) -> bool
+fn are_carried(kind: Kind, positions: &[f32], codes: &[u8], n: usize) -> bool
     requires { ⌜ (n ≤ mostSegments) × (length (now positions) ≡ 3 * n) × (length (now codes) ≡ 2 * n) ⌝ }
-    ensures { λ r. ⌜ r ≡ allCarried n 0 (now (positions .entry)) (now (codes .entry)) ⌝ }
+    ensures { λ r. ⌜ r ≡ allCarried kind n 0 (now (positions .entry)) (now (codes .entry)) ⌝ }
 {
     let mut i = 0;
     while i < n {
-        if !is_carried_at(positions, codes, i, n) {
+        if !is_carried_at(kind, positions, codes, i, n) {
             return false;
         }
         i += 1;
@@ -130,14 +103,14 @@ fn is_shaped(n: usize, positions: usize, channels: usize, codes: usize) -> bool
 }
 
 // All of refusal 1, then 2.
-pub fn check(positions: &[f32], channels: &[f32], codes: &[u8]) -> Checked
-    ensures { λ r. ⌜ Checks (gimpCheck (now (positions .entry)) (now (channels .entry)) (now (codes .entry))) r ⌝ }
+pub fn check(kind: Kind, positions: &[f32], channels: &[f32], codes: &[u8]) -> Checked
+    ensures { λ r. ⌜ Checks (gimpCheck kind (now (positions .entry)) (now (channels .entry)) (now (codes .entry))) r ⌝ }
 {
     let n = positions.len() / 3;
     if !is_shaped(n, positions.len(), channels.len(), codes.len()) {
         return Checked::Refused(MISSHAPEN);
     }
-    if !are_carried(positions, codes, n) {
+    if !are_carried(kind, positions, codes, n) {
         return Checked::Refused(MISSHAPEN);
     }
     if !utils::all_finite(positions) {

@@ -1,7 +1,10 @@
-// How the left colour of a segment coloured by hue turns into its right one. It stands apart from `blending` so that the
+// How the left colour of a segment coloured by hue turns into its right one; the curve stands with it. It stands apart from `blending` so that the
 // other segments, whose colours are mixed at every point of a painting, pay a test for it and no more.
+use crate::blending::EPSILON;
 use crate::blending::bend;
+use crate::blending::blend_curve;
 use crate::blending::calc_linear_factor;
+use crate::gimp::CURVED;
 use crate::gimp::HSV_CLOCKWISE;
 use crate::gimp::HSV_COUNTER_CLOCKWISE;
 use crate::gimp::SINUSOIDAL;
@@ -9,9 +12,10 @@ use crate::gimp::STEP;
 use crate::gimp::Segment;
 use blend::Rgba;
 ghost use mathlib.Core.Path.{_≡_};
-ghost use Rattle.gradient.specs.Gimp.{isHued, factorOf, turned, hued};
+ghost use Rattle.hsv.specs.Mix.{thereAndBack};
+ghost use Rattle.gradient.specs.Gimp.{isHued, uncurved, turned, curvedBy, hued, isCostly, costly};
 
-pub fn is_hued(colouring: u8) -> bool
+fn is_hued(colouring: u8) -> bool
     ensures { λ r. ⌜ r ≡ isHued colouring ⌝ }
 {
     if colouring == HSV_COUNTER_CLOCKWISE {
@@ -21,7 +25,7 @@ pub fn is_hued(colouring: u8) -> bool
 }
 
 fn factor(blending: u8, pivot: f32, place: f32) -> f32
-    ensures { λ r. ⌜ r ≡ factorOf blending pivot place ⌝ }
+    ensures { λ r. ⌜ r ≡ uncurved blending pivot place ⌝ }
 {
     let f = calc_linear_factor(pivot, place);
     if blending == SINUSOIDAL {
@@ -39,7 +43,21 @@ fn turn(colouring: u8, p: Rgba, q: Rgba, f: f32) -> Rgba
     hsv::counter_clockwise(p, q, f)
 }
 
-pub fn blend_hued(g: Segment, pivot: f32, place: f32) -> Rgba
+// Of a curved segment. A middle too near an end leaves no curve.
+fn curve_hued(g: Segment, pivot: f32, place: f32) -> Rgba
+    ensures { λ r. ⌜ r ≡ curvedBy thereAndBack (turned (g .colouring) (g .lcolor) (g .rcolor)) g pivot place ⌝ }
+{
+    if pivot < EPSILON {
+        return hsv::there_and_back(g.rcolor);
+    }
+    if 1.0 - pivot < EPSILON {
+        return hsv::there_and_back(g.lcolor);
+    }
+    let f = curve::factor(place, pivot);
+    turn(g.colouring, g.lcolor, g.rcolor, f)
+}
+
+fn blend_hued(g: Segment, pivot: f32, place: f32) -> Rgba
     ensures { λ r. ⌜ r ≡ hued g pivot place ⌝ }
 {
     if g.blending == STEP {
@@ -48,6 +66,28 @@ pub fn blend_hued(g: Segment, pivot: f32, place: f32) -> Rgba
         }
         return hsv::there_and_back(g.lcolor);
     }
+    if g.blending == CURVED {
+        return curve_hued(g, pivot, place);
+    }
     let f = factor(g.blending, pivot, place);
     turn(g.colouring, g.lcolor, g.rcolor, f)
+}
+
+// Whether a segment is by hue or curved: what is costly at each point.
+pub fn is_costly(blending: u8, colouring: u8) -> bool
+    ensures { λ r. ⌜ r ≡ isCostly blending colouring ⌝ }
+{
+    if is_hued(colouring) {
+        return true;
+    }
+    blending == CURVED
+}
+
+pub fn blend_costly(g: Segment, pivot: f32, place: f32) -> Rgba
+    ensures { λ r. ⌜ r ≡ costly g pivot place ⌝ }
+{
+    if is_hued(g.colouring) {
+        return blend_hued(g, pivot, place);
+    }
+    blend_curve(g, pivot, place)
 }

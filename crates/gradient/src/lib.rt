@@ -8,6 +8,7 @@ ghost use Rattle.stops.specs.Answers.{Checks};
 ghost use Rattle.gradient.specs.Ramp.{isGimp, checkOf, anyColour, minIn, maxIn};
 
 pub mod blending;
+pub mod carried;
 pub mod gimp;
 pub mod hued;
 
@@ -21,6 +22,7 @@ pub fn is_gimp(kind: Kind) -> bool
         Kind::Basis => false,
         Kind::CatmullRom => false,
         Kind::Gimp => true,
+        Kind::GimpSaved => true,
     }
 }
 
@@ -29,7 +31,7 @@ pub fn check(kind: Kind, positions: &[f32], channels: &[f32], codes: &[u8]) -> C
     ensures { λ r. ⌜ Checks (checkOf (lentRamp kind positions channels codes)) r ⌝ }
 {
     if is_gimp(kind) {
-        return gimp::check(positions, channels, codes);
+        return gimp::check(kind, positions, channels, codes);
     }
     stops::check(kind, positions, channels, codes)
 }

@@ -1,4 +1,4 @@
--- A header that is read counts 1 to 256 segments, for which there is room. Assumes nothing.
+-- A header that is read counts 1 to 256 segments, for which there is room, and leads to line 4. Assumes nothing.
 use Prim.Native.Nat.{ℕ, zero, suc, _≤_, _<_}
 use native.Mathlib.Omega.{arith}
 use mathlib.Core.Path.{_≡_, refl}
@@ -10,7 +10,7 @@ use Rattle.refusals.specs.Limits.{mostSegments}
 use Rattle.float.proofs.Flags.{both-l, both-r}
 use Rattle.rows.specs.declared.digits.Digits.{Digits}
 use Rattle.rows.specs.declared.digits.Digits.the-variants.{Bad, Is}
-use Rattle.text.specs.Text.{same, starts}
+use Rattle.text.specs.Text.{restOf, same, starts}
 use Rattle.header.specs.Head.{textLines, segmentCount, Head, counts, fails, fromCount, counted, fromThird, fromSecond, fromLines, headOf, title, nameTag}
 
 -- how many, of a head that counts
@@ -56,3 +56,33 @@ module _ {room n : ℕ} {rest : List (List ℕ)} where
 
   pub head-fits : (s : List ℕ) → headOf room s ≡ counts n rest → (0 < n) × (n ≤ mostSegments) × (n ≤ room)
   head-fits s e = first-fits (textLines s) e
+
+-- ---- what it leads to are the lines after the third
+module _ (room : ℕ) {n : ℕ} {rest : List (List ℕ)} where
+  count-rest : (m : ℕ) (ls : List (List ℕ)) → fromCount m ls ≡ counts n rest → rest ≡ ls
+  unfolding fromCount
+  count-rest zero ls e = no-head e refl
+  count-rest (suc m) ls e = cc
+
+  counted-rest : (d : Digits) (ls : List (List ℕ)) → counted room d ls ≡ counts n rest → rest ≡ ls
+  unfolding counted
+  counted-rest Bad ls e = no-head e refl
+  counted-rest (Is m) ls e = count-rest m ls (passed-test (leb m mostSegments && leb m room) (fromCount m ls) _ _ e .1)
+
+  third-rest : (ls : List (List ℕ)) → fromThird room ls ≡ counts n rest → rest ≡ restOf ls
+  unfolding fromThird restOf
+  third-rest [] e = no-head e refl
+  third-rest (l ∷ ls) e = counted-rest (segmentCount l) ls e
+
+  second-rest : (ls : List (List ℕ)) → fromSecond room ls ≡ counts n rest → rest ≡ restOf (restOf ls)
+  unfolding fromSecond restOf
+  second-rest [] e = no-head e refl
+  second-rest (l ∷ ls) e = third-rest ls (passed-test (starts nameTag l) (fromThird room ls) _ _ e .1)
+
+  first-rest : (ls : List (List ℕ)) → fromLines room ls ≡ counts n rest → rest ≡ restOf (restOf (restOf ls))
+  unfolding fromLines restOf
+  first-rest [] e = no-head e refl
+  first-rest (l ∷ ls) e = second-rest ls (passed-test (same title l) (fromSecond room ls) _ _ e .1)
+
+  pub head-rest : (s : List ℕ) → headOf room s ≡ counts n rest → rest ≡ restOf (restOf (restOf (textLines s)))
+  head-rest s e = first-rest (textLines s) e

@@ -1,6 +1,6 @@
 -- The header of a GIMP file, its first three lines, and the name in it. Document 01, 'What a GIMP file may hold' and 'When the desk says no': line by line 11, 15; then 14.
 use Prim.Native.Nat.{ℕ, zero, suc}
-use mathlib.Core.Bool.{true, cond, _&&_}
+use mathlib.Core.Bool.{Bool, true, cond, _&&_}
 use mathlib.Core.List.{List, [], _∷_}
 use lib.ListN.{drop}
 use lib.Dec.{leb}
@@ -9,7 +9,8 @@ use Rattle.refusals.specs.Limits.{mostSegments}
 use Rattle.rows.specs.declared.digits.Digits.{Digits}
 use Rattle.rows.specs.declared.digits.Digits.the-variants.{Bad, Is}
 use Rattle.rows.specs.Digits.{digitsWith}
-use Rattle.text.specs.Text.{unmark, lines, firstOf, restOf, same, starts, trim}
+use Rattle.text.specs.Text.{every, ascii, unmark, lines, firstOf, restOf, same, starts, trim}
+use Rattle.text.specs.Utf8.{utf8}
 
 -- ---- the lines of a file: those after its marks; marks alone leave an empty line 1
 
@@ -66,6 +67,13 @@ fromLines room (l ∷ ls) = cond (same title l) (fromSecond room ls) (fails badH
 
 abbrev pub headOf : ℕ → List ℕ → Head
 headOf room s = fromLines room (textLines s)
+
+-- ---- the bytes of lines 1 to 3 in a file as GIMP saves it: the name may be in any script, in UTF-8; all else is ASCII. A line that is not there has none
+unfoldable pub savedLines : List (List ℕ) → Bool
+savedLines ls = every ascii (firstOf ls) && (utf8 (firstOf (restOf ls)) && every ascii (firstOf (restOf (restOf ls))))
+
+abbrev pub savedHead : List ℕ → Bool
+savedHead s = savedLines (textLines s)
 
 -- ---- the name: what follows `Name:` on line 2, trimmed
 unfoldable pub nameIn : List ℕ → List ℕ

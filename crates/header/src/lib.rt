@@ -5,13 +5,15 @@ use refusals::NO_SEGMENT;
 use refusals::TOO_MANY_SEGMENTS;
 use rows::digits::Digits;
 use rows::digits::number_of;
+use text::is_ascii;
 use text::is_same;
 use text::line_at;
 use text::marks;
 use text::starts_with;
 use text::trimmed;
+use text::utf8::is_utf8;
 ghost use mathlib.Core.Path.{_≡_};
-ghost use Rattle.header.specs.Head.{nameIn};
+ghost use Rattle.header.specs.Head.{savedHead, nameIn};
 ghost use Rattle.header.specs.Leads.{Leads};
 ghost use Rattle.header.specs.inner.Steps.{SecondLeads, ThirdLeads};
 
@@ -77,6 +79,28 @@ pub fn read_header(s: &[u8], room: usize) -> Lead
         return Lead::Refuse(BAD_HEADER, 1);
     }
     name_line(s, next, room)
+}
+
+// Whether lines 1 and 3 are ASCII and line 2 is UTF-8. What follows them is not looked at.
+pub fn is_saved_head(s: &[u8]) -> bool
+    ensures { λ r. ⌜ r ≡ savedHead (now (s .entry)) ⌝ }
+{
+    let one = marks(s);
+    let title = line_at(s, one);
+    let two = title.next;
+    let name = line_at(s, two);
+    let three = name.next;
+    let count = line_at(s, three);
+    let title_end = title.end;
+    let name_end = name.end;
+    let count_end = count.end;
+    if !is_ascii(&s[one..title_end]) {
+        return false;
+    }
+    if !is_utf8(&s[two..name_end]) {
+        return false;
+    }
+    is_ascii(&s[three..count_end])
 }
 
 // What follows `Name:` on line 2, without the white space around it: a part of the text. It is not asked what the line

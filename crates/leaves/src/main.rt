@@ -1,5 +1,5 @@
 // Runs the leaves on each line of standard input, and writes the line with the answer behind it.
-// A line is a letter, a blank and a pattern of 8 hex digits, or for `t` a token.
+// A line is a letter, a blank and a pattern of 8 hex digits, or for `t` a token, for `l` a long one.
 use decimal::Token;
 use libc::STDIN_FILENO;
 use libc::STDOUT_FILENO;
@@ -51,8 +51,8 @@ fn put_whole(z: i64) {
     }
 }
 
-fn put_token(s: &[u8]) {
-    match decimal::read(s) {
+fn put_token(token: Token) {
+    match token {
         Token::Number(x) => put_bits(x),
         Token::NoNumber => put(b"no number"),
     }
@@ -95,7 +95,9 @@ fn run(line: &[u8]) {
         let job = line[0];
         let rest = &line[2..];
         if job == b't' {
-            put_token(rest);
+            put_token(decimal::read(rest));
+        } else if job == b'l' {
+            put_token(decimal::read_long(rest));
         } else {
             answer(job, pattern(rest));
         }

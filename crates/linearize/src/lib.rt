@@ -38,10 +38,10 @@ pub fn thin(
     rows: &[f32],
     counts: &[u8],
     marks: &[u32],
-    out_positions: &mut [f32],
-    out_channels: &mut [f32],
+    places: &mut [f32],
+    colours: &mut [f32],
 ) -> Listed
-    ensures { λ r. ⌜ Thins (lentRamp kind positions channels codes) threshold (lentHeld rows counts marks .entry) (lentOutput «out_positions» «out_channels») r ⌝ }
+    ensures { λ r. ⌜ Thins (lentRamp kind positions channels codes) threshold (lentHeld rows counts marks .entry) (lentOutput places colours) r ⌝ }
 {
     match check_thin(
         kind,
@@ -66,8 +66,8 @@ pub fn thin(
                 max,
                 rows,
                 counts,
-                out_positions,
-                out_channels,
+                places,
+                colours,
             )
         }
     }
@@ -101,10 +101,10 @@ pub fn relist(
     rows: &mut [f32],
     counts: &mut [u8],
     marks: &mut [u32],
-    out_positions: &mut [f32],
-    out_channels: &mut [f32],
+    places: &mut [f32],
+    colours: &mut [f32],
 ) -> Listed
-    ensures { λ r. ⌜ Relists (lentRamp kind positions channels codes) threshold keep (lentHeld rows counts marks) (lentOutput «out_positions» «out_channels») r ⌝ }
+    ensures { λ r. ⌜ Relists (lentRamp kind positions channels codes) threshold keep (lentHeld rows counts marks) (lentOutput places colours) r ⌝ }
 {
     if !kept_good(keep, counts) {
         return refused_by(check_sample(
@@ -141,8 +141,8 @@ pub fn relist(
                 max,
                 rows,
                 counts,
-                out_positions,
-                out_channels,
+                places,
+                colours,
             );
             after(n, made)
         }
@@ -160,10 +160,10 @@ pub fn flatten(
     rows: &mut [f32],
     counts: &mut [u8],
     marks: &mut [u32],
-    out_positions: &mut [f32],
-    out_channels: &mut [f32],
+    places: &mut [f32],
+    colours: &mut [f32],
 ) -> Listed
-    ensures { λ r. ⌜ Flattens (lentRamp kind positions channels codes) threshold (lentHeld rows counts marks) (lentOutput «out_positions» «out_channels») r ⌝ }
+    ensures { λ r. ⌜ Flattens (lentRamp kind positions channels codes) threshold (lentHeld rows counts marks) (lentOutput places colours) r ⌝ }
 {
     relist(
         kind,
@@ -175,7 +175,7 @@ pub fn flatten(
         rows,
         counts,
         marks,
-        out_positions,
-        out_channels,
+        places,
+        colours,
     )
 }

@@ -38,12 +38,12 @@ fn thin_points(
     start: Progress,
     rows: &[f32],
     counts: &[u8],
-    out_positions: &mut [f32],
-    out_channels: &mut [f32],
+    places: &mut [f32],
+    colours: &mut [f32],
 ) -> Progress
     requires { ⌜ Ready (now rows) (now counts) × Started (colourOf (rampIn kind positions channels codes)) room start ⌝ }
     requires { ⌜ checkOf (rampIn kind positions channels codes) ≡ Fine ⌝ }
-    ensures { λ r. ⌜ ThinsRest (lentRamp kind positions channels codes) cutoff room (points rows counts max) start (lentOutput «out_positions» «out_channels») r ⌝ }
+    ensures { λ r. ⌜ ThinsRest (lentRamp kind positions channels codes) cutoff room (points rows counts max) start (lentOutput places colours) r ⌝ }
 {
     let mut drawn = [[0.0f32; 4]; 7];
     let mut s = start;
@@ -68,7 +68,7 @@ fn thin_points(
             x.pair,
             &mut drawn,
         );
-        s = step(cutoff, room, s, x, next, out_positions, out_channels);
+        s = step(cutoff, room, s, x, next, places, colours);
         let refusal = s.refusal;
         if refusal != 0 {
             return s;
@@ -76,7 +76,7 @@ fn thin_points(
         x = next;
         place = after;
     }
-    emit(room, s, x, out_positions, out_channels)
+    emit(room, s, x, places, colours)
 }
 
 // Thins a record's points: a stop for the first, and the others weighed.
@@ -90,11 +90,11 @@ fn thin_all(
     room: usize,
     rows: &[f32],
     counts: &[u8],
-    out_positions: &mut [f32],
-    out_channels: &mut [f32],
+    places: &mut [f32],
+    colours: &mut [f32],
 ) -> Progress
     requires { ⌜ Ready (now rows) (now counts) × (checkOf (rampIn kind positions channels codes) ≡ Fine) ⌝ }
-    ensures { λ r. ⌜ ThinsAll (lentRamp kind positions channels codes) cutoff room (points rows counts max) (lentOutput «out_positions» «out_channels») r ⌝ }
+    ensures { λ r. ⌜ ThinsAll (lentRamp kind positions channels codes) cutoff room (points rows counts max) (lentOutput places colours) r ⌝ }
 {
     let first = evaluate(kind, positions, channels, codes, rows[0], 1);
     let start = Progress {
@@ -103,7 +103,7 @@ fn thin_all(
         tried: 0,
         refusal: 0,
     };
-    let s = emit(room, start, first, out_positions, out_channels);
+    let s = emit(room, start, first, places, colours);
     let refusal = s.refusal;
     if refusal != 0 {
         return s;
@@ -119,22 +119,22 @@ fn thin_all(
         s,
         rows,
         counts,
-        out_positions,
-        out_channels,
+        places,
+        colours,
     )
 }
 
 // The answer; a refusal sets both outputs to zero.
-fn finish(s: Progress, out_positions: &mut [f32], out_channels: &mut [f32]) -> Listed
-    requires { ⌜ (s .tried ≤ recordLength) × (s .stops ≤ length (now «out_positions»)) ⌝ }
+fn finish(s: Progress, places: &mut [f32], colours: &mut [f32]) -> Listed
+    requires { ⌜ (s .tried ≤ recordLength) × (s .stops ≤ length (now places)) ⌝ }
     ensures { λ r. ⌜ r ≡ listedOf (s .refusal) (s .stops) (3 * s .tried + s .stops) ⌝ }
-    ensures { λ _. ⌜ new «out_positions» ≡ writtenOf (s .refusal) (old «out_positions») ⌝ }
-    ensures { λ _. ⌜ new «out_channels» ≡ writtenOf (s .refusal) (old «out_channels») ⌝ }
+    ensures { λ _. ⌜ new places ≡ writtenOf (s .refusal) (old places) ⌝ }
+    ensures { λ _. ⌜ new colours ≡ writtenOf (s .refusal) (old colours) ⌝ }
 {
     let refusal = s.refusal;
     if refusal != 0 {
-        zero_from(out_positions, 0);
-        zero_from(out_channels, 0);
+        zero_from(places, 0);
+        zero_from(colours, 0);
         return Listed::Refused(refusal);
     }
     Listed::Done {
@@ -153,13 +153,13 @@ pub(crate) fn thin_record(
     max: f32,
     rows: &[f32],
     counts: &[u8],
-    out_positions: &mut [f32],
-    out_channels: &mut [f32],
+    places: &mut [f32],
+    colours: &mut [f32],
 ) -> Listed
     requires { ⌜ Ready (now rows) (now counts) × (checkOf (rampIn kind positions channels codes) ≡ Fine) ⌝ }
-    ensures { λ r. ⌜ MakesList (lentRamp kind positions channels codes) cutoff (points rows counts max) (lentOutput «out_positions» «out_channels») r ⌝ }
+    ensures { λ r. ⌜ MakesList (lentRamp kind positions channels codes) cutoff (points rows counts max) (lentOutput places colours) r ⌝ }
 {
-    let room = room_of(out_positions.len(), out_channels.len());
+    let room = room_of(places.len(), colours.len());
     let s = thin_all(
         kind,
         positions,
@@ -170,8 +170,8 @@ pub(crate) fn thin_record(
         room,
         rows,
         counts,
-        out_positions,
-        out_channels,
+        places,
+        colours,
     );
-    finish(s, out_positions, out_channels)
+    finish(s, places, colours)
 }

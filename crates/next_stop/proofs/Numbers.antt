@@ -63,7 +63,7 @@ ramp-early ramp =
     let cs = ramp .channels in
     let ks = ramp .codes in
     by-test (isGimp (ramp .kind))
-    (by-test (gimpShaped (segments ps) (length ps) (length cs) (length ks) && allCarried (segments ps) 0 ps ks)
+    (by-test (gimpShaped (segments ps) (length ps) (length cs) (length ks) && allCarried (ramp .kind) (segments ps) 0 ps ks)
     (by-test (allFinite ps && allFinite cs) fine (early 2 (omega arith) (omega arith))) (early 1 (omega arith) (omega arith)))
     (by-test (shaped (ramp .kind) (length ps) (length cs) (length ks)) (stops-early (length ps) 0 (inf true) ps cs) (early 1 (omega arith) (omega arith)))
 

@@ -94,7 +94,7 @@ module _ (ramp : Ramp) (ok : FiniteOnDomain ramp) where
   abbrev hi : Float
   hi = maxOf ramp
 
-  fine : (was : Held) → Shaped was → heldCheck ramp was ≡ checked.Fine
+  pub fine : (was : Held) → Shaped was → heldCheck ramp was ≡ checked.Fine
   fine was s =
       let e = domains.ends lo hi (ok .near) in
       sym (first-passes ramp (length (was .rows)) (length (was .counts)) (length (was .marks)) checked.Fine lo hi (ok .passes) refl refl

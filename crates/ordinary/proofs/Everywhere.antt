@@ -18,7 +18,7 @@ use Rattle.stops.specs.Lent.{Ramp}
 use Rattle.stops.specs.Stops.{posAt, colourAt, stopAt, finiteRgba}
 use Rattle.stops.specs.Pair.{pairOf, between}
 use Rattle.stops.specs.declared.Kind.{Kind}
-use Rattle.stops.specs.declared.Kind.the-variants.{Linear, Smoothstep, Sharp, Basis, CatmullRom, Gimp}
+use Rattle.stops.specs.declared.Kind.the-variants.{Linear, Smoothstep, Sharp, Basis, CatmullRom, Gimp, GimpSaved}
 use Rattle.stops.proofs.Valid.{Valid}
 use Rattle.gradient.specs.Ramp.{isGimp, colourOf}
 use Rattle.ordinary.specs.Ordinary.{AllFrom, Singles, ofPairs, largest, InUnit, UnitColour}
@@ -75,6 +75,7 @@ pair-finite Sharp ps cs n k t o at h j f = flat-or-not (eqb ((k - 1) % 2) 0) (co
 pair-finite Basis ps cs n k t o at h j f = absurd (true≢false (sym o))
 pair-finite CatmullRom ps cs n k t o at h j f = absurd (true≢false (sym o))
 pair-finite Gimp ps cs n k t o at h j f = absurd (true≢false (sym o))
+pair-finite GimpSaved ps cs n k t o at h j f = absurd (true≢false (sym o))
 
 pub no-segments : (kind : Kind) → ofPairs kind ≡ true → isGimp kind ≡ false
 no-segments Linear h = refl
@@ -83,6 +84,7 @@ no-segments Sharp h = refl
 no-segments Basis h = refl
 no-segments CatmullRom h = refl
 no-segments Gimp h = absurd (true≢false (sym h))
+no-segments GimpSaved h = absurd (true≢false (sym h))
 
 black-finite : finiteRgba black ≡ true
 unfolding ofBits
@@ -96,6 +98,7 @@ bounds Sharp = (tt, tt)
 bounds Basis = (tt, tt)
 bounds CatmullRom = (tt, tt)
 bounds Gimp = (tt, tt)
+bounds GimpSaved = (tt, tt)
 
 sized-in : (kind : Kind) (x : Float) → T (le (neg (largest kind)) x) × T (le x (largest kind)) → Sized (largest kind) x
 sized-in kind x h = record { whole = order.finite-between (neg (largest kind)) x (largest kind) (bounds kind .0) (bounds kind .1) (h .0) (h .1); low = h .0; high = h .1 }

@@ -13,7 +13,7 @@ use Rattle.blend.specs.declared.Rgba.{Rgba}
 use Rattle.stops.specs.Lent.{Ramp}
 use Rattle.stops.specs.Stops.{posAt, colourAt, finiteRgba}
 use Rattle.stops.specs.declared.Kind.{Kind}
-use Rattle.stops.specs.declared.Kind.the-variants.{Linear, Smoothstep, Sharp, Basis, CatmullRom, Gimp}
+use Rattle.stops.specs.declared.Kind.the-variants.{Linear, Smoothstep, Sharp, Basis, CatmullRom, Gimp, GimpSaved}
 use Rattle.stops.specs.declared.Checked.the-variants.{Fine}
 use Rattle.gradient.specs.Ramp.{checkOf, minOf, maxOf, colourOf}
 use Rattle.sampling.specs.Constants.{depth}
@@ -54,6 +54,7 @@ ofPairs Sharp = true
 ofPairs Basis = false
 ofPairs CatmullRom = false
 ofPairs Gimp = false
+ofPairs GimpSaved = false
 
 -- how large their channels may be: the last f32 below 2 ^ 127, so that the difference of two is finite; of smoothstep and sharp ramps a sixth of the largest f32, so that three times a difference is.
 -- Of the next f32 after each there is a ramp that is refused (docs/EVIDENCE.md)
@@ -64,6 +65,7 @@ largest Sharp = ofBits binary32 0x7e2a_aaaa
 largest Basis = f0
 largest CatmullRom = f0
 largest Gimp = f0
+largest GimpSaved = f0
 
 -- a ramp of such a kind, which refusals 1 to 4 let pass, whose channels are no larger than that
 pub record Moderate (ramp : Ramp) : Type 0 where

@@ -96,7 +96,7 @@ module _ (ramp : Ramp) (ts out : List Float) where
     pub fits : checkOf ramp ≡ checked.Fine → 4 * length ts ≤ length out → Fits (ramp .positions) (ramp .channels) (ramp .codes) ts out
     unfolding checkOf
     fits fine l =
-        let s = fine-shape (ramp .positions) (ramp .channels) (ramp .codes) (sym (simp gimp) ∙ fine) in
+        let s = fine-shape (ramp .kind) (ramp .positions) (ramp .channels) (ramp .codes) (sym (simp gimp) ∙ fine) in
         record { cut = record { least = s .least; channels = s .channels; codes = s .codes }; room = l }
 
     pub as-gimp : {out′ : List Float} → out′ ≡ paintedOver (gimpColour (ramp .positions) (ramp .channels) (ramp .codes)) ts out → out′ ≡ paintedOver (colourOf ramp) ts out

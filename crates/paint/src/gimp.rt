@@ -12,11 +12,11 @@ ghost use Prim.Native.Nat.{_+_, _*_, _≤_, _<_};
 ghost use lib.ListN.{length};
 ghost use Rattle.blend.specs.Channels.{channelsOf};
 ghost use Rattle.stops.specs.Lent.{old, new};
-ghost use Rattle.gradient.specs.Gimp.{segments, colouringAt, isHued, gimpSegment, blended, gimpColour};
+ghost use Rattle.gradient.specs.Gimp.{segments, blendingAt, colouringAt, isCostly, gimpSegment, blended, gimpColour};
 ghost use Rattle.paint.specs.Canvas.{paintedOver};
 ghost use Rattle.paint.specs.inner.Segments.{Cut, Fits, Orderly, strictlyInside, Peeked, Starts, Written};
 
-mod hued;
+mod costly;
 mod search;
 
 // Segment i. `gradient` reads the same segment from any slices at all; this reading makes fewer tests, because it is done
@@ -60,10 +60,10 @@ fn is_strictly_inside(left: f32, right: f32, t: f32) -> bool
     false
 }
 
-// The colour at a place of a segment that is not coloured by hue. A step takes one of the two ends by its number: no branch
+// The colour at a place of a segment that is neither by hue nor curved. A step takes one of the two ends by its number: no branch
 // has to be guessed.
 fn shade(g: Segment, ends: &[f32], pivot: f32, place: f32) -> Rgba
-    requires { ⌜ (isHued (g .colouring) ≡ false) × (now ends ≡ channelsOf (g .lcolor) ++ channelsOf (g .rcolor)) ⌝ }
+    requires { ⌜ (isCostly (g .blending) (g .colouring) ≡ false) × (now ends ≡ channelsOf (g .lcolor) ++ channelsOf (g .rcolor)) ⌝ }
     ensures { λ r. ⌜ r ≡ blended g pivot place ⌝ }
 {
     if g.blending == gimp::STEP {
@@ -88,7 +88,7 @@ fn paint_held(
     end: usize,
 ) -> usize
     requires { ⌜ Fits (now positions) (now channels) (now codes) (now ts) (now out) ⌝ }
-    requires { ⌜ Starts (now positions) (now ts) s start end × (isHued (colouringAt (now codes) s) ≡ false) ⌝ }
+    requires { ⌜ Starts (now positions) (now ts) s start end × (isCostly (blendingAt (now codes) s) (colouringAt (now codes) s) ≡ false) ⌝ }
     ensures { λ r. ⌜ Written (gimpColour (old positions) (old channels) (old codes)) (old ts) start r (old out) (new out) ⌝ }
 {
     let g = hold(positions, channels, codes, s);
@@ -141,8 +141,8 @@ fn paint_on(
     if orderly {
         end = ts.len();
     }
-    if gimp::is_hued(codes[2 * s + 1]) {
-        return hued::paint_hued(positions, channels, codes, ts, out, s, i, end);
+    if gimp::is_costly(codes[2 * s], codes[2 * s + 1]) {
+        return costly::paint_costly(positions, channels, codes, ts, out, s, i, end);
     }
     paint_held(positions, channels, codes, ts, out, s, i, end)
 }

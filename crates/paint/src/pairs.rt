@@ -111,6 +111,7 @@ fn pair_at(kind: Kind, positions: &[f32], channels: &[f32], k: usize, t: f32) ->
         Kind::Basis => stops::colour_in(kind, positions, channels, t, Place::Between(k)),
         Kind::CatmullRom => stops::colour_in(kind, positions, channels, t, Place::Between(k)),
         Kind::Gimp => stops::colour_in(kind, positions, channels, t, Place::Between(k)),
+        Kind::GimpSaved => stops::colour_in(kind, positions, channels, t, Place::Between(k)),
     }
 }
 

@@ -128,8 +128,8 @@ fn pair() {
     let mut rows = [0.0f32; Sampler::CELLS * Sampler::ROW];
     let mut counts = [0u8; Sampler::CELLS];
     let mut marks = [0u32; Sampler::MARKS];
-    let mut out_positions = [9.0f32; 2];
-    let mut out_channels = [9.0f32; 8];
+    let mut places = [9.0f32; 2];
+    let mut colours = [9.0f32; 8];
     out(b"two stops at 0.5\t");
     match colorgrad::flatten(
         Kind::Linear,
@@ -140,17 +140,17 @@ fn pair() {
         &mut rows,
         &mut counts,
         &mut marks,
-        &mut out_positions,
-        &mut out_channels,
+        &mut places,
+        &mut colours,
     ) {
         Listed::Done { stops, evaluations } => {
             number(stops);
             out(b" stops, ");
             number(evaluations);
             out(b" evaluations, positions");
-            row(&out_positions);
+            row(&places);
             out(b", channels");
-            row(&out_channels);
+            row(&colours);
         }
         Listed::Refused(n) => refused(n),
     }

@@ -12,7 +12,6 @@ use Rattle.blend.proofs.catmull_rom.draw_segment.Reads as of-draw-segment
 use Rattle.blend.proofs.catmull_rom.segment.Reads as of-segment
 use Rattle.blend.proofs.catmull_rom.segment_at.Reads as of-segment-at
 use Rattle.blend.proofs.utils.interpolate_linear.Reads as of-interpolate-linear
-use Rattle.blend.proofs.utils.interpolate_smoothstep.Reads as of-interpolate-smoothstep
 use Rattle.blend.proofs.utils.linspace.Reads as of-linspace
 use Rattle.blend.proofs.utils.all_finite.Reads as of-all-finite
 
@@ -48,9 +47,6 @@ segment-at κs a = coincide (λ r e w. w)
 
 pub interpolate-linear : (κs : Lfts 0) (a : _) → Coincide (of-interpolate-linear.Learnt κs a) answer
 interpolate-linear κs a = coincide (λ r e w. w)
-
-pub interpolate-smoothstep : (κs : Lfts 0) (a : _) → Coincide (of-interpolate-smoothstep.Learnt κs a) answer
-interpolate-smoothstep κs a = coincide (λ r e w. w)
 
 pub linspace : (κs : Lfts 0) (a : _) → Coincide (of-linspace.Learnt κs a) answer
 linspace κs a = coincide (λ r e w. w)

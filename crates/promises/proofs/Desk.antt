@@ -2,23 +2,10 @@
 use contract.Lifetimes.{Lfts}
 use denote.Ref.{now}
 use Rattle.promises.specs.Law.{Coincide, coincide, _with_, both}
-use Rattle.writing.proofs.put.Reads as of-put
-use Rattle.writing.proofs.put_all.Reads as of-put-all
-use Rattle.writing.proofs.put_decimal.Reads as of-put-decimal
 use Rattle.writing.proofs.write.Reads as of-write
 use Rattle.entries.proofs.reading.read.Reads as of-read
 use Rattle.desk.proofs.desk.Reads as of-desk
 use Rattle.desk.proofs.print.Reads as of-print
-
--- the place after what is put, and what the output holds
-pub put : (κs : Lfts 1) (a : _) → Coincide (of-put.Learnt κs a) (λ r e. r with now (e .0))
-put κs a = coincide (λ r e w. both (w .next) (w .written))
-
-pub put-all : (κs : Lfts 2) (a : _) → Coincide (of-put-all.Learnt κs a) (λ r e. r with now (e .0))
-put-all κs a = coincide (λ r e w. both (w .next) (w .written))
-
-pub put-decimal : (κs : Lfts 1) (a : _) → Coincide (of-put-decimal.Learnt κs a) (λ r e. r with now (e .0))
-put-decimal κs a = coincide (λ r e w. both (w .next) (w .written))
 
 -- how long the text is, and what the output holds
 pub write : (κs : Lfts 3) (a : _) → Coincide (of-write.Learnt κs a) (λ r e. r with now (e .0))

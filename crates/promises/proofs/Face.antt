@@ -5,10 +5,11 @@ use Prim.Native.Nat.{ℕ}
 use mathlib.Core.Path.{sym, _∙_, ap}
 use Rattle.sqrt.proofs.Theorems.{cutoff-unique}
 use Rattle.stops.specs.declared.Kind.{Kind}
+use Rattle.stops.specs.declared.Kind.the-variants.{Linear}
 use Rattle.colorgrad_c.specs.plain.Kinds.{kindOf, onKind, Shows, ShowsOf}
 use Rattle.colorgrad_c.specs.declared.plain.kinds.Coded.{Coded}
 use Rattle.colorgrad_c.specs.declared.plain.kinds.Coded.the-variants.{Of, Unknown}
-use Rattle.promises.proofs.Parts.{rows-of, counts-of, marks-of, positions-of, channels-of}
+use Rattle.promises.proofs.Parts.{rows-of, counts-of, marks-of, positions-of, channels-of, ramp-positions, ramp-channels}
 use Rattle.promises.proofs.Segment as stored
 use Rattle.promises.specs.Law.{Coincide, coincide, answer, _with_, both}
 use Rattle.colorgrad_c.proofs.leaves.colorgrad_root.Reads as of-root
@@ -16,6 +17,7 @@ use Rattle.colorgrad_c.proofs.leaves.colorgrad_cutoff.Reads as of-cutoff
 use Rattle.colorgrad_c.proofs.leaves.colorgrad_threshold.Reads as of-threshold
 use Rattle.colorgrad_c.proofs.leaves.colorgrad_hold.Reads as of-hold
 use Rattle.colorgrad_c.proofs.leaves.colorgrad_token_told.Reads as of-token
+use Rattle.colorgrad_c.proofs.leaves.colorgrad_long_token_told.Reads as of-long-token
 use Rattle.colorgrad_c.proofs.about.colorgrad_version.Reads as of-version
 use Rattle.colorgrad_c.proofs.about.colorgrad_message_told.Reads as of-message
 use Rattle.colorgrad_c.proofs.about.colorgrad_verdict_message_told.Reads as of-verdict-message
@@ -25,7 +27,9 @@ use Rattle.colorgrad_c.proofs.ramps.colorgrad_at_told.Reads as of-at
 use Rattle.colorgrad_c.proofs.ramps.colorgrad_paint.Reads as of-paint
 use Rattle.colorgrad_c.proofs.ramps.colorgrad_sharp_told.Reads as of-sharp
 use Rattle.colorgrad_c.proofs.gimp.colorgrad_read_told.Reads as of-read
+use Rattle.colorgrad_c.proofs.gimp.colorgrad_read_saved_told.Reads as of-read-saved
 use Rattle.colorgrad_c.proofs.gimp.colorgrad_name.Reads as of-name
+use Rattle.colorgrad_c.proofs.gimp.colorgrad_name_saved.Reads as of-name-saved
 use Rattle.colorgrad_c.proofs.tool.colorgrad_desk.Reads as of-desk
 use Rattle.colorgrad_c.proofs.lists.colorgrad_sample_told.Reads as of-sample
 use Rattle.colorgrad_c.proofs.lists.colorgrad_thin_told.Reads as of-thin
@@ -37,6 +41,8 @@ use Rattle.colorgrad_c.proofs.judging.colorgrad_judge_told.Reads as of-judge
 use Rattle.colorgrad_c.proofs.judging.colorgrad_apart_told.Reads as of-apart
 use Rattle.colorgrad_c.proofs.edits.colorgrad_edit_told.Reads as of-edit
 use Rattle.colorgrad_c.proofs.edits.colorgrad_edit_list_told.Reads as of-edit-list
+use Rattle.colorgrad_c.proofs.sheets.colorgrad_sheet_open_told.Reads as of-sheet-open
+use Rattle.colorgrad_c.proofs.sheets.colorgrad_sheet_edit_told.Reads as of-sheet-edit
 
 pub root : (κs : Lfts 0) (a : _) → Coincide (of-root.Learnt κs a) answer
 root κs a = coincide (λ r e w. w)
@@ -56,6 +62,9 @@ version κs a = coincide (λ r e w. w)
 pub token : (κs : Lfts 2) (a : _) → Coincide (of-token.Learnt κs a) (λ r e. r with now (e .1 .0))
 token κs a = coincide (λ r e w. both (w .0) (w .1))
 
+pub long-token : (κs : Lfts 2) (a : _) → Coincide (of-long-token.Learnt κs a) (λ r e. r with now (e .1 .0))
+long-token κs a = coincide (λ r e w. both (w .0) (w .1))
+
 pub message : (κs : Lfts 1) (a : _) → Coincide (of-message.Learnt κs a) (λ r e. r with now (e .1 .0))
 message κs a = coincide (λ r e w. both (w .0) (w .1))
 
@@ -65,8 +74,14 @@ verdict-message κs a = coincide (λ r e w. both (w .0) (w .1))
 pub read : (κs : Lfts 5) (a : _) → Coincide (of-read.Learnt κs a) (λ r e. r with now (e .1 .1 .1 .1 .1 .1 .1 .1 .1 .1 .1 .1 .0) with now (e .1 .1 .1 .1 .1 .1 .1 .1 .1 .0) with now (e .1 .1 .1 .1 .1 .1 .1 .1 .1 .1 .0) with now (e .1 .1 .1 .1 .1 .1 .1 .1 .1 .1 .1 .0))
 read κs a = coincide (λ r e w. both (w .number) (both (w .told) (both (stored.positions-of (w .left)) (both (stored.channels-of (w .left)) (stored.codes-of (w .left))))))
 
+pub read-saved : (κs : Lfts 5) (a : _) → Coincide (of-read-saved.Learnt κs a) (λ r e. r with now (e .1 .1 .1 .1 .1 .1 .1 .1 .1 .1 .1 .1 .0) with now (e .1 .1 .1 .1 .1 .1 .1 .1 .1 .0) with now (e .1 .1 .1 .1 .1 .1 .1 .1 .1 .1 .0) with now (e .1 .1 .1 .1 .1 .1 .1 .1 .1 .1 .1 .0))
+read-saved κs a = coincide (λ r e w. both (w .number) (both (w .told) (both (stored.positions-of (w .left)) (both (stored.channels-of (w .left)) (stored.codes-of (w .left))))))
+
 pub name : (κs : Lfts 2) (a : _) → Coincide (of-name.Learnt κs a) (λ r e. r with now (e .1 .0))
 name κs a = coincide (λ r e w. both (w .0) (w .1))
+
+pub name-saved : (κs : Lfts 2) (a : _) → Coincide (of-name-saved.Learnt κs a) (λ r e. r with now (e .1 .0))
+name-saved κs a = coincide (λ r e w. both (w .0) (w .1))
 
 pub desk : (κs : Lfts 2) (a : _) → Coincide (of-desk.Learnt κs a) (λ r e. r with now (e .1 .0))
 desk κs a = coincide (λ r e w. both (w .0) (w .1))
@@ -146,6 +161,19 @@ edit-list κs a =
     by-code _ (a .0)
     (λ kind. coincide (λ r e w. both (w .told .answer) (both (rows-of (w .left)) (both (counts-of (w .left)) (both (marks-of (w .left)) (both (positions-of (w .output)) (channels-of (w .output))))))))
     (coincide (λ r e w. both (w .0) (both (rows-of (w .1 .0)) (both (counts-of (w .1 .0)) (both (marks-of (w .1 .0)) (both (positions-of (w .1 .1)) (channels-of (w .1 .1))))))))
+
+pub sheet-open : (κs : Lfts 9) (a : _) → Coincide (of-sheet-open.Learnt κs a) (λ r e. (r with now (e .1 .1 .1 .1 .1 .1 .1 .1 .1 .1 .1 .1 .1 .0)) with now (e .1 .1 .1 .1 .1 .1 .1 .1 .0) with now (e .1 .1 .1 .1 .1 .1 .1 .1 .1 .0) with now (e .1 .1 .1 .1 .1 .1 .1 .1 .1 .1 .0) with now (e .1 .1 .1 .1 .1 .1 .1 .1 .1 .1 .1 .0) with now (e .1 .1 .1 .1 .1 .1 .1 .1 .1 .1 .1 .1 .0))
+sheet-open κs a =
+    by-code _ (a .0)
+    (λ kind. coincide (λ r e w. both (w .answer) (both (rows-of (w .left)) (both (counts-of (w .left)) (both (marks-of (w .left)) (both (positions-of (w .output)) (channels-of (w .output))))))))
+    (coincide (λ r e w. both (w .0) (both (rows-of (w .1 .0)) (both (counts-of (w .1 .0)) (both (marks-of (w .1 .0)) (both (positions-of (w .1 .1)) (channels-of (w .1 .1))))))))
+
+-- and with the ramp
+pub sheet-edit : (κs : Lfts 9) (a : _) → Coincide (of-sheet-edit.Learnt κs a) (λ r e. (r with now (e .1 .1 .1 .1 .1 .1 .1 .1 .1 .1 .1 .1 .1 .1 .1 .1 .1 .1 .1 .1 .0)) with now (e .1 .0) with now (e .1 .1 .0) with now (e .1 .1 .1 .1 .1 .1 .1 .1 .1 .1 .1 .1 .1 .1 .1 .0) with now (e .1 .1 .1 .1 .1 .1 .1 .1 .1 .1 .1 .1 .1 .1 .1 .1 .0) with now (e .1 .1 .1 .1 .1 .1 .1 .1 .1 .1 .1 .1 .1 .1 .1 .1 .1 .0) with now (e .1 .1 .1 .1 .1 .1 .1 .1 .1 .1 .1 .1 .1 .1 .1 .1 .1 .1 .0) with now (e .1 .1 .1 .1 .1 .1 .1 .1 .1 .1 .1 .1 .1 .1 .1 .1 .1 .1 .1 .0))
+sheet-edit κs a =
+    by-code _ (a .0)
+    (λ kind. coincide (λ r e w. both (w .answer) (both (ramp-positions (w .ramp)) (both (ramp-channels (w .ramp)) (both (rows-of (w .left)) (both (counts-of (w .left)) (both (marks-of (w .left)) (both (positions-of (w .output)) (channels-of (w .output))))))))))
+    (coincide (λ r e w. both (w .0) (both (ramp-positions (w .1 .0 Linear)) (both (ramp-channels (w .1 .0 Linear)) (both (rows-of (w .1 .1 .0)) (both (counts-of (w .1 .1 .0)) (both (marks-of (w .1 .1 .0)) (both (positions-of (w .1 .1 .1)) (channels-of (w .1 .1 .1))))))))))
 
 -- with the lent output
 pub paint : (κs : Lfts 5) (a : _) → Coincide (of-paint.Learnt κs a) (λ r e. r with now (e .1 .1 .1 .1 .1 .0))

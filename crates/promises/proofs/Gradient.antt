@@ -10,10 +10,10 @@ use Rattle.gradient.proofs.gimp.find_segment.Reads as of-find-segment
 use Rattle.gradient.proofs.blending.place_along.Reads as of-place-along
 use Rattle.gradient.proofs.blending.blend.Reads as of-blend
 use Rattle.gradient.proofs.blending.blend_wave.Reads as of-blend-wave
-use Rattle.gradient.proofs.hued.is_hued.Reads as of-is-hued
-use Rattle.gradient.proofs.hued.blend_hued.Reads as of-blend-hued
+use Rattle.gradient.proofs.hued.is_costly.Reads as of-is-costly
+use Rattle.gradient.proofs.hued.blend_costly.Reads as of-blend-costly
 use Rattle.gradient.proofs.gimp.is_off_domain.Reads as of-is-off-domain
-use Rattle.gradient.proofs.gimp.is_carried.Reads as of-is-carried
+use Rattle.gradient.proofs.carried.is_carried.Reads as of-is-carried
 use Rattle.gradient.proofs.gimp.check.Reads as of-check-segments
 use Rattle.gradient.proofs.gimp.colour_at.Reads as of-colour-at-segments
 
@@ -56,8 +56,8 @@ is-off-domain κs a = coincide (λ r e w. w)
 pub colour-at-segments : (κs : Lfts 3) (a : _) → Coincide (of-colour-at-segments.Learnt κs a) answer
 colour-at-segments κs a = coincide (λ r e w. w)
 
-pub is-hued : (κs : Lfts 0) (a : _) → Coincide (of-is-hued.Learnt κs a) answer
-is-hued κs a = coincide (λ r e w. w)
+pub is-costly : (κs : Lfts 0) (a : _) → Coincide (of-is-costly.Learnt κs a) answer
+is-costly κs a = coincide (λ r e w. w)
 
-pub blend-hued : (κs : Lfts 0) (a : _) → Coincide (of-blend-hued.Learnt κs a) answer
-blend-hued κs a = coincide (λ r e w. w)
+pub blend-costly : (κs : Lfts 0) (a : _) → Coincide (of-blend-costly.Learnt κs a) answer
+blend-costly κs a = coincide (λ r e w. w)

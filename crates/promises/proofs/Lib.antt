@@ -6,6 +6,7 @@ pub mod Slices
 pub mod WholeRoot
 pub mod Sqrt
 pub mod Sine
+pub mod Curve
 pub mod Hsv
 pub mod Decimal
 pub mod Numerals
@@ -26,6 +27,7 @@ pub mod Weighed
 pub mod Within
 pub mod NextStop
 pub mod Refresh
+pub mod Sheet
 pub mod Judge
 pub mod Apart
 pub mod Paint

@@ -1,5 +1,6 @@
--- The slices of a record and of outputs, from what a promise says of them whole. Assumes nothing.
+-- The slices of a ramp, of a record and of outputs, from what a promise says of them whole. Assumes nothing.
 use mathlib.Core.Path.{_≡_, ap}
+use Rattle.stops.specs.Lent.{Ramp}
 use Rattle.sampling.specs.Lent.{Held}
 use Rattle.linearize.specs.Lent.{Output}
 
@@ -17,3 +18,9 @@ positions-of e = ap (λ (x : Output). x .positions) e
 
 pub channels-of : {o u : Output} → o ≡ u → o .channels ≡ u .channels
 channels-of e = ap (λ (x : Output). x .channels) e
+
+pub ramp-positions : {x y : Ramp} → x ≡ y → x .positions ≡ y .positions
+ramp-positions e = ap (λ (x : Ramp). x .positions) e
+
+pub ramp-channels : {x y : Ramp} → x ≡ y → x .channels ≡ y .channels
+ramp-channels e = ap (λ (x : Ramp). x .channels) e

@@ -7,6 +7,7 @@ use Rattle.stops.proofs.channels.item.Reads as of-item
 use Rattle.stops.proofs.channels.colour.Reads as of-colour
 use Rattle.stops.proofs.channels.stop.Reads as of-stop
 use Rattle.stops.proofs.rules.is_finite_colour.Reads as of-is-finite-colour
+use Rattle.stops.proofs.rules.is_steady.Reads as of-is-steady
 use Rattle.stops.proofs.rules.check.Reads as of-check
 use Rattle.stops.proofs.search.below.Reads as of-below
 use Rattle.stops.proofs.search.find_place.Reads as of-find-place
@@ -38,6 +39,9 @@ stop κs a = coincide (λ r e w. w)
 
 pub is-finite-colour : (κs : Lfts 0) (a : _) → Coincide (of-is-finite-colour.Learnt κs a) answer
 is-finite-colour κs a = coincide (λ r e w. w)
+
+pub is-steady : (κs : Lfts 1) (a : _) → Coincide (of-is-steady.Learnt κs a) answer
+is-steady κs a = coincide (λ r e w. w)
 
 pub check : (κs : Lfts 3) (a : _) → Coincide (of-check.Learnt κs a) answer
 check κs a = coincide (λ r e w. w .answer)

@@ -17,7 +17,7 @@ use Rattle.sampling.specs.Constants.{cells, thresholdOf}
 use Rattle.sampling.specs.Cells.{cellRow, cellCount}
 use Rattle.sampling.specs.Lent.{Held}
 use Rattle.linearize.specs.Lent.{Output}
-use Rattle.sampling.specs.Sampling.{farOf, marksOf, heldCheck, fresh, sampleAnswer, sampleHeld}
+use Rattle.sampling.specs.Sampling.{numberOfSampled, farOf, marksOf, heldCheck, fresh, sampleAnswer, sampleHeld}
 use Rattle.records.specs.Fitness.{marksCheck}
 use Rattle.linearize.specs.Desk.{numberOfListed, numberBy, flattenOutput}
 use Rattle.sampling.specs.Promises.{Samples}
@@ -36,10 +36,9 @@ use Rattle.refresh.specs.editing.Rules.{editCheck}
 use Rattle.refresh.specs.editing.Reached.{away, clearCell}
 use Rattle.refresh.specs.editing.Sound.{Sound}
 use Rattle.refresh.proofs.editing.EditSound.{edit-sound}
-use Rattle.refresh.specs.RefreshDesk.{numberOfRefreshed, refreshCheck, renewed, refreshAnswer, refreshHeld, refreshOutput, Refreshes, RefreshLists}
+use Rattle.refresh.specs.RefreshDesk.{refreshCheck, renewed, refreshAnswer, refreshHeld, refreshOutput, Refreshes, RefreshLists}
 use Rattle.refresh.specs.AfterEdit.{Shaped, OneList, ByThreshold, Fresh, RefreshedThenThinned, FreshList, SameCell}
 use Rattle.refresh.specs.declared.editing.Edit.{Edit}
-use Rattle.refresh.specs.declared.Refreshed.{Refreshed}
 use Rattle.refresh.proofs.EditChecks.{thin-fine, edited-sampling}
 use Rattle.refresh.proofs.Agree.{row-at, count-at}
 use Rattle.refresh.proofs.Keeping.{kept-row, kept-count}
@@ -94,7 +93,7 @@ module _ (ramp : Ramp) (e : Edit) (edit : editCheck ramp e ≡ checked.Fine) whe
         rw (shaped .long ∙ sym (l .long), shaped .many ∙ sym (l .many), shaped .three ∙ sym (l .three)) (edited-sampling ramp e allowed (held .entry) (taken .fine))
 
     -- a refresh is refused exactly where its threshold is another one in force
-    pub refresh-by-threshold : (after : Held) (r : Refreshed) → Refreshes ramp e mine (change (held .exit) after) r → ByThreshold ramp e asked mine (held .exit) after r
+    pub refresh-by-threshold : (after : Held) (r : Sampled) → Refreshes ramp e mine (change (held .exit) after) r → ByThreshold ramp e asked mine (held .exit) after r
     unfolding refreshAnswer refreshHeld
     refresh-by-threshold after r refreshing =
         record {
@@ -106,7 +105,7 @@ module _ (ramp : Ramp) (e : Edit) (edit : editCheck ramp e ≡ checked.Fine) whe
         }
 
     -- demand 3: sampled, edited and refreshed, unless that is refused with 20, is sampled afresh, record and list
-    pub refresh-is-fresh : (after : Held) (r : Refreshed) → Refreshes ramp e mine (change (held .exit) after) r → (numberOfRefreshed r ≡ otherThreshold → ⊥)
+    pub refresh-is-fresh : (after : Held) (r : Sampled) → Refreshes ramp e mine (change (held .exit) after) r → (numberOfSampled r ≡ otherThreshold → ⊥)
         → (other : Change Held) → Shaped (other .entry) → (q : Sampled) → Samples (edited ramp e) mine other q
         → Fresh ramp e mine after r (other .exit) q
     unfolding refreshAnswer sampleAnswer refreshHeld sampleHeld
@@ -134,7 +133,7 @@ module _ (ramp : Ramp) (e : Edit) (edit : editCheck ramp e ≡ checked.Fine) whe
         }
 
 -- ---- a refreshed list is a refresh, and then a thinning of the changed ramp
-module _ (ramp : Ramp) (e : Edit) (asked : Float) (held : Change Held) (all : Held) (thinned : Change Output) (out : Output) (q : Refreshed) (l r : Listed)
+module _ (ramp : Ramp) (e : Edit) (asked : Float) (held : Change Held) (all : Held) (thinned : Change Output) (out : Output) (q : Sampled) (l r : Listed)
     (first : Refreshes ramp e asked held q)
     (second : Thins (edited ramp e) asked (held .exit) thinned l)
     (both : RefreshLists ramp e asked (change (held .entry) all) (change (thinned .entry) out) r) where
@@ -144,7 +143,7 @@ module _ (ramp : Ramp) (e : Edit) (asked : Float) (held : Change Held) (all : He
 -- ---- cells that are clear of the edit
 module _ (ramp : Ramp) (e : Edit) (asked : Float) (i : ℕ) (clear : cellClear (away ramp e) (minOf ramp) (maxOf ramp) i ≡ true) where
   -- a refresh leaves their row and count as they were, whatever stood there, in every record and whatever it answers
-  module _ (cell : i < cells) (held : Change Held) (r : Refreshed) (w : Refreshes ramp e asked held r) where
+  module _ (cell : i < cells) (held : Change Held) (r : Sampled) (w : Refreshes ramp e asked held r) where
     kept : (c : Checked) → refreshCheck ramp e asked (held .entry) ≡ c → SameCell i (onFine c (renewed ramp e asked (held .entry)) (λ n. held .entry)) (held .entry)
     unfolding renewed
     kept checked.Fine h =

@@ -14,8 +14,9 @@ use Rattle.stops.specs.declared.Checked.the-variants as checked
 use Rattle.gradient.specs.Ramp.{minOf, maxOf, colourOf}
 use Rattle.sampling.specs.Constants.{cells, rowLength}
 use Rattle.sampling.specs.Lent.{Held}
-use Rattle.sampling.specs.Sampling.{farOf, heldCheck}
+use Rattle.sampling.specs.Sampling.{evaluationsOfSampled, farOf, heldCheck}
 use Rattle.sampling.specs.declared.Sampled.{Sampled}
+use Rattle.sampling.specs.declared.Sampled.the-variants as anew
 use Rattle.sampling.proofs.Bounds.{summed-most}
 use Rattle.places.specs.Places.{listOf, Ready}
 use Rattle.thinning.specs.Kept.{refusalOf, listEvaluations}
@@ -33,11 +34,8 @@ use Rattle.refresh.specs.editing.Reached.{cellsKept, clearCell}
 use Rattle.linearize.specs.Relist.{countFits, countsFit, relistCheck, relistHeld, relistOutput, Relists}
 use Rattle.sampling.specs.Anew.{keptBy, anewTries, anewEvaluations, resampled, resampledEvaluations, resampleAnswer, resampleHeld}
 use Rattle.sampling.specs.Promises.{Resamples}
-use Rattle.refresh.specs.inner.Steps.{refreshedBy}
-use Rattle.refresh.specs.RefreshDesk.{evaluationsOfRefreshed, renewed, newEvaluations, refreshCheck, refreshAnswer, refreshEvaluations, refreshHeld, refreshOutput, Refreshes, RefreshLists}
+use Rattle.refresh.specs.RefreshDesk.{renewed, newEvaluations, refreshCheck, refreshAnswer, refreshEvaluations, refreshHeld, refreshOutput, Refreshes, RefreshLists}
 use Rattle.refresh.specs.declared.editing.Edit.{Edit}
-use Rattle.refresh.specs.declared.Refreshed.{Refreshed}
-use Rattle.refresh.specs.declared.Refreshed.the-variants as refreshed
 use Rattle.refresh.proofs.EditChecks.{thin-fine, sampled, own-words, allowed, edited-sampling, same-marks, kept}
 use Rattle.sampling.proofs.Renewing.{anew-tries-most}
 use Rattle.refresh.proofs.Keeping.{renewed-ready, same-rows, same-counts, same-evaluations}
@@ -86,7 +84,7 @@ module _ (ramp : Ramp) (e : Edit) (asked : Float) (was : Held) (fine : refreshCh
 
 -- ---- the answers
 module _ (ramp : Ramp) (e : Edit) (asked : Float) where
-  pub refresh-refused : (was : Held) (n : ℕ) → refreshCheck ramp e asked was ≡ checked.Refused n → Refreshes ramp e asked (change was was) (refreshed.Refused n)
+  pub refresh-refused : (was : Held) (n : ℕ) → refreshCheck ramp e asked was ≡ checked.Refused n → Refreshes ramp e asked (change was was) (anew.Refused n)
   unfolding refreshAnswer refreshEvaluations refreshHeld
   refresh-refused was n h = record { answer = rw h; number = rw h; evaluations = rw h; left = rw h }
 
@@ -97,13 +95,13 @@ module _ (ramp : Ramp) (e : Edit) (asked : Float) where
 
   -- the changed ramp in a copy, and the kept cells
   module _ (held : Change Held) (h : refreshCheck ramp e asked (held .entry) ≡ checked.Fine) (copy : Ramp) (ks : List Bool) (is-edited : copy ≡ edited ramp e) (are-kept : ks ≡ cellsKept (ramp .kind) (ramp .positions) e) where
-    pub refresh-done : (s : Sampled) (r : Refreshed) → Resamples copy asked ks held s → r ≡ refreshedBy s → Refreshes ramp e asked held r
+    pub refresh-done : (r : Sampled) → Resamples copy asked ks held r → Refreshes ramp e asked held r
     unfolding resampleAnswer resampleHeld refreshAnswer refreshEvaluations refreshHeld
-    refresh-done s r v by =
+    refresh-done r v =
         let was = held .entry in
-        let w : Resamples (edited ramp e) asked (cellsKept (ramp .kind) (ramp .positions) e) held s = rw (← is-edited, ← are-kept) v in
+        let w : Resamples (edited ramp e) asked (cellsKept (ramp .kind) (ramp .positions) e) held r = rw (← is-edited, ← are-kept) v in
         let fine = edited-held ramp e asked was h in
-        let done : r ≡ refreshed.Done (newEvaluations ramp e asked) = by ∙ rw (w .answer, fine, spent-is ramp e asked was h) in
+        let done : r ≡ anew.Done (newEvaluations ramp e asked) = w .answer ∙ rw (fine, spent-is ramp e asked was h) in
         record { answer = done ∙ rw h; number = rw (done, h); evaluations = rw (done, h); left = w .left ∙ rw (fine, h, resampled-is ramp e asked was h) }
 
     pub refresh-list-done : (out : Change Output) (r : Listed) → Relists copy asked ks held out r → RefreshLists ramp e asked held out r
@@ -130,9 +128,9 @@ fine-most : (check : Checked) (n most : ℕ) → n ≤ most → onFine check n (
 fine-most checked.Fine n most h = h
 fine-most (checked.Refused k) n most h = omega arith
 
-module _ (ramp : Ramp) (e : Edit) (asked : Float) (held : Change Held) (r : Refreshed) (w : Refreshes ramp e asked held r) where
+module _ (ramp : Ramp) (e : Edit) (asked : Float) (held : Change Held) (r : Sampled) (w : Refreshes ramp e asked held r) where
   -- 13,716 evaluations at most
-  pub refresh-most : evaluationsOfRefreshed r ≤ 13716
+  pub refresh-most : evaluationsOfSampled r ≤ 13716
   unfolding refreshEvaluations
   refresh-most = omega (arith, w .evaluations, fine-most (refreshCheck ramp e asked (held .entry)) (newEvaluations ramp e asked) 13716 (new-most ramp e asked))
 

@@ -21,7 +21,7 @@ use Rattle.refresh.specs.editing.Edited.{edited}
 use Rattle.refresh.specs.RefreshDesk.{refreshCheck, renewed, newEvaluations, refreshAnswer, refreshHeld, refreshOutput, Refreshes, RefreshLists}
 use Rattle.refresh.specs.AfterEdit.{RefreshedThenThinned}
 use Rattle.refresh.specs.declared.editing.Edit.{Edit}
-use Rattle.refresh.specs.declared.Refreshed.{Refreshed}
+use Rattle.sampling.specs.declared.Sampled.{Sampled}
 use Rattle.refresh.proofs.EditChecks.{thin-fine, own-words, allowed, same-marks}
 use Rattle.refresh.proofs.RefreshAnswers.{edited-held, renewed-thins, words-stay}
 
@@ -36,7 +36,7 @@ thins ramp e asked was h =
     (ready-counts _ _ after)
     (words ∙ own-words ramp e asked was h ∙ sym (same-marks ramp e (allowed ramp e asked was h) asked))
 
-module _ (ramp : Ramp) (e : Edit) (asked : Float) (held : Change Held) (all : Held) (thinned : Change Output) (out : Output) (q : Refreshed) (l r : Listed)
+module _ (ramp : Ramp) (e : Edit) (asked : Float) (held : Change Held) (all : Held) (thinned : Change Output) (out : Output) (q : Sampled) (l r : Listed)
     (first : Refreshes ramp e asked held q)
     (second : Thins (edited ramp e) asked (held .exit) thinned l)
     (both : RefreshLists ramp e asked (change (held .entry) all) (change (thinned .entry) out) r) where

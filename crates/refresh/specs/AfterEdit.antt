@@ -20,8 +20,6 @@ use Rattle.linearize.specs.declared.Listed.the-variants as listed
 use Rattle.refresh.specs.editing.Edited.{edited}
 use Rattle.refresh.specs.RefreshDesk.{newEvaluations}
 use Rattle.refresh.specs.declared.editing.Edit.{Edit}
-use Rattle.refresh.specs.declared.Refreshed.{Refreshed}
-use Rattle.refresh.specs.declared.Refreshed.the-variants as refreshed
 
 -- two answers with what their calls left in the outputs
 pub record SameList (r q : Listed) (out out′ : Output) : Type 0 where
@@ -44,28 +42,28 @@ module _ (ramp : Ramp) (e : Edit) where
       → SameList r q out₁ out₂
 
   -- a refresh with the threshold `mine` of a record that was sampled with `asked`: done where both are one in force; else 20, and nothing is changed
-  pub record ByThreshold (asked mine : Float) (was after : Held) (r : Refreshed) : Type 0 where
-    pub same : thresholdOf asked ≡ thresholdOf mine → r ≡ refreshed.Done (newEvaluations ramp e mine)
-    pub other : (thresholdOf asked ≡ thresholdOf mine → ⊥) → (r ≡ refreshed.Refused otherThreshold) × (after ≡ was)
+  pub record ByThreshold (asked mine : Float) (was after : Held) (r : Sampled) : Type 0 where
+    pub same : thresholdOf asked ≡ thresholdOf mine → r ≡ sampled.Done (newEvaluations ramp e mine)
+    pub other : (thresholdOf asked ≡ thresholdOf mine → ⊥) → (r ≡ sampled.Refused otherThreshold) × (after ≡ was)
 
   -- a record that was refreshed, with the refresh's answer, and one that was sampled afresh, with the sampling's
-  pub record Fresh (asked : Float) (held : Held) (r : Refreshed) (other : Held) (s : Sampled) : Type 0 where
-    pub not-refused : r ≡ refreshed.Done (newEvaluations ramp e asked)
+  pub record Fresh (asked : Float) (held : Held) (r : Sampled) (other : Held) (s : Sampled) : Type 0 where
+    pub not-refused : r ≡ sampled.Done (newEvaluations ramp e asked)
     pub sampled-too : s ≡ sampled.Done (freshEvaluations (edited ramp e) asked)
     pub same-record : held ≡ other
     pub one-list : OneList held other
 
 -- what `refresh_list` answers and leaves in the outputs, by the answer of `refresh` and what `thin` then gives
-abbrev pub listAfter : Refreshed → Listed → Listed
-listAfter (refreshed.Done n) l = withSampling n l
-listAfter (refreshed.Refused n) l = listed.Refused n
+abbrev pub listAfter : Sampled → Listed → Listed
+listAfter (sampled.Done n) l = withSampling n l
+listAfter (sampled.Refused n) l = listed.Refused n
 
-abbrev pub outputAfter : Refreshed → Change Output → Output
-outputAfter (refreshed.Done n) out = out .exit
-outputAfter (refreshed.Refused n) out = out .entry
+abbrev pub outputAfter : Sampled → Change Output → Output
+outputAfter (sampled.Done n) out = out .exit
+outputAfter (sampled.Refused n) out = out .entry
 
 -- `refresh_list`, which left the record `all` and the outputs `out`, is `refresh`, which left `held`, and then `thin` of the changed ramp over that
-pub record RefreshedThenThinned (held all : Held) (thinned : Change Output) (out : Output) (q : Refreshed) (l r : Listed) : Type 0 where
+pub record RefreshedThenThinned (held all : Held) (thinned : Change Output) (out : Output) (q : Sampled) (l r : Listed) : Type 0 where
   pub answer : r ≡ listAfter q l
   pub same-record : all ≡ held
   pub output : out ≡ outputAfter q thinned

@@ -9,7 +9,9 @@ use Rattle.gradient.specs.Ramp.{minOf, maxOf, colourOf}
 use Rattle.thinning.specs.Kept.{listEvaluations}
 use Rattle.sampling.specs.Lent.{Held, heldOf}
 use Rattle.linearize.specs.Lent.{Output}
-use Rattle.sampling.specs.Sampling.{andThen, farOf}
+use Rattle.sampling.specs.Sampling.{andThen, farOf, numberOfSampled, evaluationsOfSampled}
+use Rattle.sampling.specs.declared.Sampled.{Sampled}
+use Rattle.sampling.specs.declared.Sampled.the-variants as sampled
 use Rattle.records.specs.Fitness.{thinCheck}
 use Rattle.linearize.specs.Desk.{pointsIn, written}
 use Rattle.linearize.specs.Promises.{TellsOf}
@@ -19,17 +21,6 @@ use Rattle.refresh.specs.editing.Edited.{edited}
 use Rattle.refresh.specs.editing.Rules.{editCheck}
 use Rattle.refresh.specs.editing.Reached.{clearCell}
 use Rattle.refresh.specs.declared.editing.Edit.{Edit}
-use Rattle.refresh.specs.declared.Refreshed.{Refreshed}
-use Rattle.refresh.specs.declared.Refreshed.the-variants as refreshed
-
--- the number of a refusal (0 for none), and the value beside it
-abbrev pub numberOfRefreshed : Refreshed → ℕ
-numberOfRefreshed (refreshed.Done e) = 0
-numberOfRefreshed (refreshed.Refused n) = n
-
-abbrev pub evaluationsOfRefreshed : Refreshed → ℕ
-evaluationsOfRefreshed (refreshed.Done e) = e
-evaluationsOfRefreshed (refreshed.Refused n) = 0
 
 module _ (ramp : Ramp) (e : Edit) where
   -- refusals 1, then stop by stop 2, 3; then 4, 5, 20; then those of the edit, 6, 1, 3
@@ -49,8 +40,8 @@ module _ (ramp : Ramp) (e : Edit) where
 
     -- ---- the calls
     module _ (was : Held) where
-      unfoldable pub refreshAnswer : Refreshed
-      refreshAnswer = onFine (refreshCheck asked was) (refreshed.Done newEvaluations) refreshed.Refused
+      unfoldable pub refreshAnswer : Sampled
+      refreshAnswer = onFine (refreshCheck asked was) (sampled.Done newEvaluations) sampled.Refused
 
       unfoldable pub refreshEvaluations : ℕ
       refreshEvaluations = onFine (refreshCheck asked was) newEvaluations (λ n. 0)
@@ -63,10 +54,10 @@ module _ (ramp : Ramp) (e : Edit) where
       refreshOutput out = onFine (refreshCheck asked was) (written (edited ramp e) asked (pointsIn (edited ramp e) (renewed was)) out) (λ n. out)
 
     -- `refresh`: the answer, its number and value, and the record
-    pub record Refreshes (held : Change Held) (r : Refreshed) : Type 0 where
+    pub record Refreshes (held : Change Held) (r : Sampled) : Type 0 where
       pub answer : r ≡ refreshAnswer (held .entry)
-      pub number : numberOfRefreshed r ≡ numberOfChecked (refreshCheck asked (held .entry))
-      pub evaluations : evaluationsOfRefreshed r ≡ refreshEvaluations (held .entry)
+      pub number : numberOfSampled r ≡ numberOfChecked (refreshCheck asked (held .entry))
+      pub evaluations : evaluationsOfSampled r ≡ refreshEvaluations (held .entry)
       pub left : held .exit ≡ refreshHeld (held .entry)
 
     -- `refresh_list`: the answer, the record and both outputs; thinning takes the changed ramp

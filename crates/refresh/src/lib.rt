@@ -11,31 +11,13 @@ use refusals::MOST_STOPS;
 use sampling::resample;
 use stops::Checked;
 use stops::Kind;
-ghost use mathlib.Core.Path.{_≡_};
 ghost use Rattle.stops.specs.Lent.{lentRamp};
 ghost use Rattle.sampling.specs.Lent.{lentHeld};
 ghost use Rattle.linearize.specs.Lent.{lentOutput};
 ghost use Rattle.refresh.specs.RefreshDesk.{Refreshes, RefreshLists};
-ghost use Rattle.refresh.specs.inner.Steps.{refreshedBy};
 
 pub mod editing;
 pub mod reach;
-
-// What a refresh answers: the evaluations, or the number of the refusal.
-pub enum Refreshed {
-    Done(usize),
-    Refused(u8),
-}
-
-// The answer of a refresh, by that of sampling the cells that are not kept.
-fn refreshed_by(made: Sampled) -> Refreshed
-    ensures { λ r. ⌜ r ≡ refreshedBy made ⌝ }
-{
-    match made {
-        Sampled::Done(n) => Refreshed::Done(n),
-        Sampled::Refused(n) => Refreshed::Refused(n),
-    }
-}
 
 // Refreshes the lent record after an edit of the lent ramp; the ramp itself is not written, and the record's words stay: they
 // are this call's own, or it is refused. A refusal leaves the record as it was. The copy with the edit made has room for
@@ -50,7 +32,7 @@ pub fn refresh(
     rows: &mut [f32],
     counts: &mut [u8],
     marks: &mut [u32],
-) -> Refreshed
+) -> Sampled
     ensures { λ r. ⌜ Refreshes (lentRamp kind positions channels codes) edit threshold (lentHeld rows counts marks) r ⌝ }
 {
     match check_thin(
@@ -63,7 +45,7 @@ pub fn refresh(
         counts,
         marks,
     ) {
-        Checked::Refused(n) => Refreshed::Refused(n),
+        Checked::Refused(n) => Sampled::Refused(n),
         Checked::Fine => {
             let mut copied_positions = [0.0f32; MOST_STOPS + 1];
             let mut copied_channels = [0.0f32; 4 * (MOST_STOPS + 1)];
@@ -75,11 +57,11 @@ pub fn refresh(
                 &mut copied_positions,
                 &mut copied_channels,
             ) {
-                Copied::Refused(n) => Refreshed::Refused(n),
+                Copied::Refused(n) => Sampled::Refused(n),
                 Copied::Stops(n) => {
                     let m = 4 * n;
                     let keep = kept(kind, positions, edit);
-                    let made = resample(
+                    resample(
                         kind,
                         &copied_positions[..n],
                         &copied_channels[..m],
@@ -89,8 +71,7 @@ pub fn refresh(
                         rows,
                         counts,
                         marks,
-                    );
-                    refreshed_by(made)
+                    )
                 }
             }
         }

@@ -44,7 +44,8 @@ fn kind_of(code: u32) -> Kind {
         2 => Kind::Sharp,
         3 => Kind::Basis,
         4 => Kind::CatmullRom,
-        _ => Kind::Gimp,
+        5 => Kind::Gimp,
+        _ => Kind::GimpSaved,
     }
 }
 

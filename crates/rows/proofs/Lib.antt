@@ -6,3 +6,4 @@ pub mod Numerals
 pub mod Numbers
 pub mod Read
 pub mod Signs
+pub mod Longer

@@ -13,9 +13,9 @@ use borrow.Author.Tests.{ne-eqb, le-leb, lt-leb}
 use Rattle.float.specs.F32.{f0}
 use Rattle.decimal.specs.declared.Token.{Token}
 use Rattle.decimal.specs.declared.Token.the-variants.{Number, NoNumber}
-use Rattle.decimal.specs.Decimal.{readOf}
+use Rattle.rows.specs.declared.Notation.{Notation}
 use Rattle.rows.specs.declared.Parting.{Parting}
-use Rattle.rows.specs.Rows.{Numbers, all, none, addNumber, numbers, partsAt, rowEnd, longest, rowNumbers, rowAt, RowAt}
+use Rattle.rows.specs.Rows.{Numbers, all, none, tokenOf, addNumber, numbers, partsAt, rowEnd, longest, rowNumbers, rowAt, RowAt}
 use Rattle.rows.specs.inner.Steps.{FieldAt}
 
 -- ---- numbers before others
@@ -45,22 +45,22 @@ too-many xs h (Number x) none = rw (prepend-none xs)
 too-many xs h (Number x) (all ys) = rw (prepend-all xs (x ∷ ys), lt-leb (length (xs ++ x ∷ ys)) longest (omega (arith, length-append xs (x ∷ ys))))
 
 -- ---- what the loop keeps
-pub record Sofar (by : Parting) (s : List ℕ) (at : ℕ) (d : List Float) (n i : ℕ) : Type 0 where
+pub record Sofar (notation : Notation) (by : Parting) (s : List ℕ) (at : ℕ) (d : List Float) (n i : ℕ) : Type 0 where
   pub few : n ≤ longest
   pub long : length d ≡ longest
   pub rest : drop n d ≡ replicate (longest - n) f0
-  pub read : numbers (partsAt by s at) ≡ prepend (take n d) (numbers (partsAt by s i))
+  pub read : numbers notation (partsAt by s at) ≡ prepend (take n d) (numbers notation (partsAt by s i))
   pub goes-on : rowEnd by s at ≡ rowEnd by s i
 
-pub begun : (by : Parting) (s : List ℕ) (at : ℕ) → Sofar by s at (replicate 15 f0) 0 at
+pub begun : (notation : Notation) (by : Parting) (s : List ℕ) (at : ℕ) → Sofar notation by s at (replicate 15 f0) 0 at
 unfolding prepend
-begun by s at = record { few = omega arith; long = refl; rest = refl; read = refl; goes-on = refl }
+begun notation by s at = record { few = omega arith; long = refl; rest = refl; read = refl; goes-on = refl }
 
 -- no row
-no-row : (by : Parting) (s : List ℕ) (at : ℕ) → rowAt by s at ≡ [] → {d : List Float} {n next : ℕ} → (d ≡ replicate longest f0) × (n ≡ 0) × (next ≡ at) → RowAt by s at d n next
-no-row by s at e w = record { count = w .1 ∙ ap length (sym e); values = w .0 ∙ sym (rw e); goes-on = w .2 ∙ sym (rw e) }
+no-row : (notation : Notation) (by : Parting) (s : List ℕ) (at : ℕ) → rowAt notation by s at ≡ [] → {d : List Float} {n next : ℕ} → (d ≡ replicate longest f0) × (n ≡ 0) × (next ≡ at) → RowAt notation by s at d n next
+no-row notation by s at e w = record { count = w .1 ∙ ap length (sym e); values = w .0 ∙ sym (rw e); goes-on = w .2 ∙ sym (rw e) }
 
-module _ {by : Parting} {s : List ℕ} {at : ℕ} {d : List Float} {n i : ℕ} (f : Sofar by s at d n i) {some : Bool} {start end next : ℕ} (w : FieldAt by s i some start end next) where
+module _ {notation : Notation} {by : Parting} {s : List ℕ} {at : ℕ} {d : List Float} {n i : ℕ} (f : Sofar notation by s at d n i) {some : Bool} {start end next : ℕ} (w : FieldAt by s i some start end next) where
   size : length (take n d) ≡ n
   size = length-take-le n d (omega (arith, f .few, f .long))
 
@@ -69,11 +69,11 @@ module _ {by : Parting} {s : List ℕ} {at : ℕ} {d : List Float} {n i : ℕ} (
     abbrev part : List ℕ
     part = take (end - start) (drop start s)
 
-    next-part : numbers (partsAt by s at) ≡ prepend (take n d) (addNumber (readOf part) (numbers (partsAt by s next)))
+    next-part : numbers notation (partsAt by s at) ≡ prepend (take n d) (addNumber (tokenOf notation part) (numbers notation (partsAt by s next)))
     unfolding numbers
-    next-part = f .read ∙ ap (λ (ws : List (List ℕ)). prepend (take n d) (numbers ws)) (w .a-part k)
+    next-part = f .read ∙ ap (λ (ws : List (List ℕ)). prepend (take n d) (numbers notation ws)) (w .a-part k)
 
-    pub kept : {x : Float} → readOf part ≡ Number x → n < longest → Sofar by s at (set d n x) (n + 1) next
+    pub kept : {x : Float} → tokenOf notation part ≡ Number x → n < longest → Sofar notation by s at (set d n x) (n + 1) next
     kept {x} e h =
         let z : n < length d = omega (arith, f .long) in
         let q : longest - n ≡ suc (longest - (n + 1)) = omega arith in
@@ -82,30 +82,30 @@ module _ {by : Parting} {s : List ℕ} {at : ℕ} {d : List Float} {n i : ℕ} (
           few = omega arith;
           long = length-set d n x ∙ f .long;
           rest = drop-set-lt (n + 1) d n x (omega arith) ∙ sym (drop-drop 1 n d) ∙ ap (drop 1) r;
-          read = next-part ∙ ap (λ (o : Token). prepend (take n d) (addNumber o (numbers (partsAt by s next)))) e ∙ sym (prepend-snoc (take n d) x _)
-              ∙ ap (λ (xs : List Float). prepend xs (numbers (partsAt by s next))) (sym (ap (λ (m : ℕ). take m (set d n x)) (add-one n) ∙ take-suc-set d n x z));
+          read = next-part ∙ ap (λ (o : Token). prepend (take n d) (addNumber o (numbers notation (partsAt by s next)))) e ∙ sym (prepend-snoc (take n d) x _)
+              ∙ ap (λ (xs : List Float). prepend xs (numbers notation (partsAt by s next))) (sym (ap (λ (m : ℕ). take m (set d n x)) (add-one n) ∙ take-suc-set d n x z));
           goes-on = f .goes-on ∙ w .same-end k;
         }
 
-    pub over : longest ≤ n → {d′ : List Float} {n′ next′ : ℕ} → (d′ ≡ replicate longest f0) × (n′ ≡ 0) × (next′ ≡ at) → RowAt by s at d′ n′ next′
-    over h = no-row by s at (ap rowNumbers next-part ∙ too-many (take n d) (omega (arith, size)) (readOf part) (numbers (partsAt by s next)))
+    pub over : longest ≤ n → {d′ : List Float} {n′ next′ : ℕ} → (d′ ≡ replicate longest f0) × (n′ ≡ 0) × (next′ ≡ at) → RowAt notation by s at d′ n′ next′
+    over h = no-row notation by s at (ap rowNumbers next-part ∙ too-many (take n d) (omega (arith, size)) (tokenOf notation part) (numbers notation (partsAt by s next)))
 
-    pub no-number : readOf part ≡ NoNumber → {d′ : List Float} {n′ next′ : ℕ} → (d′ ≡ replicate longest f0) × (n′ ≡ 0) × (next′ ≡ at) → RowAt by s at d′ n′ next′
+    pub no-number : tokenOf notation part ≡ NoNumber → {d′ : List Float} {n′ next′ : ℕ} → (d′ ≡ replicate longest f0) × (n′ ≡ 0) × (next′ ≡ at) → RowAt notation by s at d′ n′ next′
     unfolding rowNumbers addNumber
-    no-number e = no-row by s at (rw (next-part, e, prepend-none (take n d)))
+    no-number e = no-row notation by s at (rw (next-part, e, prepend-none (take n d)))
 
   -- no part is left
   module _ (k : some ≡ false) where
-    got : rowAt by s at ≡ take n d
+    got : rowAt notation by s at ≡ take n d
     unfolding numbers rowNumbers
     got =
-        ap rowNumbers (f .read ∙ ap (λ (ws : List (List ℕ)). prepend (take n d) (numbers ws)) (w .no-part k) ∙ prepend-all (take n d) [] ∙ ap all (append-nil (take n d)))
+        ap rowNumbers (f .read ∙ ap (λ (ws : List (List ℕ)). prepend (take n d) (numbers notation ws)) (w .no-part k) ∙ prepend-all (take n d) [] ∙ ap all (append-nil (take n d)))
         ∙ rw (le-leb (length (take n d)) longest (omega (arith, size, f .few)))
 
-    pub row-none : n ≡ 0 → {d′ : List Float} {n′ next′ : ℕ} → (d′ ≡ replicate longest f0) × (n′ ≡ 0) × (next′ ≡ at) → RowAt by s at d′ n′ next′
-    row-none e = no-row by s at (got ∙ ap (λ (m : ℕ). take m d) e)
+    pub row-none : n ≡ 0 → {d′ : List Float} {n′ next′ : ℕ} → (d′ ≡ replicate longest f0) × (n′ ≡ 0) × (next′ ≡ at) → RowAt notation by s at d′ n′ next′
+    row-none e = no-row notation by s at (got ∙ ap (λ (m : ℕ). take m d) e)
 
-    pub row-done : (n ≡ 0 → ⊥) → RowAt by s at d n next
+    pub row-done : (n ≡ 0 → ⊥) → RowAt notation by s at d n next
     row-done h = record {
       count = sym (ap length got ∙ size);
       values = sym (take-append-drop n d) ∙ ap (λ (l : List Float). take n d ++ l) (f .rest ∙ ap (λ (m : ℕ). replicate (longest - m) f0) (sym size))
@@ -126,20 +126,20 @@ row-all : (xs : List Float) → length xs ≤ longest → rowNumbers (all xs) �
 unfolding rowNumbers
 row-all xs h = rw (le-leb (length xs) longest h)
 
-module _ {by : Parting} {s : List ℕ} {at : ℕ} {d : List Float} {n next : ℕ} (w : RowAt by s at d n next) where
-  front : take n d ≡ rowAt by s at
-  front = ap (λ (l : List Float). take n l) (w .values) ∙ ap (λ (m : ℕ). take m (rowAt by s at ++ replicate (longest - length (rowAt by s at)) f0)) (w .count) ∙ take-append-seam (rowAt by s at) _
+module _ {notation : Notation} {by : Parting} {s : List ℕ} {at : ℕ} {d : List Float} {n next : ℕ} (w : RowAt notation by s at d n next) where
+  front : take n d ≡ rowAt notation by s at
+  front = ap (λ (l : List Float). take n l) (w .values) ∙ ap (λ (m : ℕ). take m (rowAt notation by s at ++ replicate (longest - length (rowAt notation by s at)) f0)) (w .count) ∙ take-append-seam (rowAt notation by s at) _
 
   -- n of them, and 0 after them
-  pub row-is : 0 < n → (numbers (partsAt by s at) ≡ all (take n d)) × (length (take n d) ≡ n) × (d ≡ take n d ++ replicate (longest - n) f0)
+  pub row-is : 0 < n → (numbers notation (partsAt by s at) ≡ all (take n d)) × (length (take n d) ≡ n) × (d ≡ take n d ++ replicate (longest - n) f0)
   row-is h = (
-    row-some (numbers (partsAt by s at)) (omega (arith, w .count)) ∙ ap all (sym front),
+    row-some (numbers notation (partsAt by s at)) (omega (arith, w .count)) ∙ ap all (sym front),
     ap length front ∙ sym (w .count),
-    w .values ∙ ap (λ (m : ℕ). rowAt by s at ++ replicate (longest - m) f0) (sym (w .count)) ∙ ap (λ (l : List Float). l ++ replicate (longest - n) f0) (sym front),
+    w .values ∙ ap (λ (m : ℕ). rowAt notation by s at ++ replicate (longest - m) f0) (sym (w .count)) ∙ ap (λ (l : List Float). l ++ replicate (longest - n) f0) (sym front),
   )
 
   -- another number of them, or none
-  pub row-not : (k : ℕ) → k ≤ longest → (n ≡ k → ⊥) → (xs : List Float) → numbers (partsAt by s at) ≡ all xs → length xs ≡ k → ⊥
+  pub row-not : (k : ℕ) → k ≤ longest → (n ≡ k → ⊥) → (xs : List Float) → numbers notation (partsAt by s at) ≡ all xs → length xs ≡ k → ⊥
   row-not k b h xs e l = h (w .count ∙ ap length (ap rowNumbers e ∙ row-all xs (omega arith)) ∙ l)
 
   -- what follows it

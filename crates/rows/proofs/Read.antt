@@ -2,23 +2,25 @@
 use Prim.Native.Nat.{ℕ, zero, suc, _<_}
 use native.Mathlib.Omega.{arith}
 use mathlib.Core.Path.{_≡_, refl, sym, ap, _∙_}
-use mathlib.Core.Bool.{Bool, true, false, true≢false}
+use mathlib.Core.Bool.{Bool, true, false, cond, true≢false}
 use mathlib.Core.List.{List, [], _∷_}
 use lib.ListN.{length, getD}
 use lib.Ieee.{Float, nan}
 use lib.Ieee.Scale.{finite}
-use Rattle.decimal.specs.Decimal.{readOf}
+use Rattle.decimal.specs.Long.{readLongOf}
 use Rattle.decimal.specs.declared.Token.{Token}
 use Rattle.decimal.specs.declared.Token.the-variants.{Number, NoNumber}
 use Rattle.decimal.proofs.Finite.{tokenFinite, token-finite}
 use Rattle.text.specs.Text.{firstOf}
-use Rattle.rows.specs.Rows.{Numbers, all, none, addNumber, numbers}
+use Rattle.rows.specs.declared.Notation.{Notation}
+use Rattle.rows.specs.declared.Notation.the-variants.{Short, Long}
+use Rattle.rows.specs.Rows.{Numbers, all, none, finiteOnly, tokenOf, addNumber, numbers}
 
 abbrev listIn : Numbers → List Float
 listIn (all xs) = xs
 listIn none = []
 
-abbrev isAll : Numbers → Bool
+abbrev pub isAll : Numbers → Bool
 isAll (all xs) = true
 isAll none = false
 
@@ -36,15 +38,15 @@ added-first (Number x) none xs h = absurd (true≢false (sym (ap isAll h)))
 added-first NoNumber (all ys) xs h = absurd (true≢false (sym (ap isAll h)))
 added-first NoNumber none xs h = absurd (true≢false (sym (ap isAll h)))
 
-pub numbers-long : (ws : List (List ℕ)) (xs : List Float) → numbers ws ≡ all xs → length xs ≡ length ws
+pub numbers-long : (notation : Notation) (ws : List (List ℕ)) (xs : List Float) → numbers notation ws ≡ all xs → length xs ≡ length ws
 unfolding numbers
-numbers-long [] xs h = ap length (sym (ap listIn h))
-numbers-long (w ∷ ws) xs h = added (readOf w) (numbers ws) xs (length ws) h (numbers-long ws)
+numbers-long notation [] xs h = ap length (sym (ap listIn h))
+numbers-long notation (w ∷ ws) xs h = added (tokenOf notation w) (numbers notation ws) xs (length ws) h (numbers-long notation ws)
 
-pub head-number : (ws : List (List ℕ)) (xs : List Float) → numbers ws ≡ all xs → 0 < length xs → readOf (firstOf ws) ≡ Number (getD xs 0 nan)
+pub head-number : (notation : Notation) (ws : List (List ℕ)) (xs : List Float) → numbers notation ws ≡ all xs → 0 < length xs → tokenOf notation (firstOf ws) ≡ Number (getD xs 0 nan)
 unfolding numbers firstOf
-head-number [] xs h l = absurd (omega (arith, ap (λ (ns : Numbers). length (listIn ns)) h))
-head-number (w ∷ ws) xs h l = added-first (readOf w) (numbers ws) xs h
+head-number notation [] xs h l = absurd (omega (arith, ap (λ (ns : Numbers). length (listIn ns)) h))
+head-number notation (w ∷ ws) xs h l = added-first (tokenOf notation w) (numbers notation ws) xs h
 
 -- ---- each number that is read is finite
 unfoldable pub Finite : Numbers → Type 0
@@ -61,7 +63,20 @@ added-finite (Number x) none h k = tt
 added-finite NoNumber (all xs) h k = tt
 added-finite NoNumber none h k = tt
 
-pub numbers-finite : (ws : List (List ℕ)) → Finite (numbers ws)
+only-finite : (t : Token) → tokenFinite (finiteOnly t) ≡ true
+unfolding finiteOnly
+only-finite NoNumber = refl
+only-finite (Number x) = go (finite x) refl where
+  go : (b : Bool) → finite x ≡ b → tokenFinite (cond b (Number x) NoNumber) ≡ true
+  go true e = e
+  go false e = refl
+
+noted-finite : (notation : Notation) (w : List ℕ) → tokenFinite (tokenOf notation w) ≡ true
+unfolding tokenOf
+noted-finite Short w = token-finite w
+noted-finite Long w = only-finite (readLongOf w)
+
+pub numbers-finite : (notation : Notation) (ws : List (List ℕ)) → Finite (numbers notation ws)
 unfolding Finite numbers
-numbers-finite [] = λ i l. absurd (omega arith)
-numbers-finite (w ∷ ws) = added-finite (readOf w) (numbers ws) (token-finite w) (numbers-finite ws)
+numbers-finite notation [] = λ i l. absurd (omega arith)
+numbers-finite notation (w ∷ ws) = added-finite (tokenOf notation w) (numbers notation ws) (noted-finite notation w) (numbers-finite notation ws)

@@ -6,7 +6,7 @@ ghost use mathlib.Core.Path.{_≡_};
 ghost use lib.ListN.{replicate};
 ghost use Rattle.float.specs.F32.{f0};
 ghost use Rattle.rows.specs.declared.Parting.the-variants.{Spaces, Tabs};
-ghost use Rattle.rows.specs.Rows.{longest, RowAt};
+ghost use Rattle.rows.specs.Rows.{finiteOnly, tokenOf, longest, RowAt};
 ghost use Rattle.rows.specs.inner.Steps.{FieldAt};
 
 pub mod digits;
@@ -16,6 +16,12 @@ pub mod digits;
 pub enum Parting {
     Spaces,
     Tabs,
+}
+
+// What a number may look like: short, as document 01 has it, or long, with an exponent and more digits.
+pub enum Notation {
+    Short,
+    Long,
 }
 
 // The field from `at` to `end`, and where to look for the one after it; or none, and where what follows the row starts.
@@ -86,6 +92,30 @@ fn field_at(s: &[u8], from: usize, by: Parting) -> Field
     }
 }
 
+// A number that is infinite is none.
+fn finite_only(t: Token) -> Token
+    ensures { λ r. ⌜ r ≡ finiteOnly t ⌝ }
+{
+    match t {
+        Token::NoNumber => t,
+        Token::Number(x) => {
+            if float::is_finite(x) {
+                return t;
+            }
+            Token::NoNumber
+        }
+    }
+}
+
+fn token_of(s: &[u8], notation: Notation) -> Token
+    ensures { λ r. ⌜ r ≡ tokenOf notation (now (s .entry)) ⌝ }
+{
+    match notation {
+        Notation::Short => decimal::read(s),
+        Notation::Long => finite_only(decimal::read_long(s)),
+    }
+}
+
 // The numbers of a row, n of them in d, which is 0 after them, and where what follows the row starts.
 pub struct Row {
     pub d: [f32; 15],
@@ -105,8 +135,8 @@ fn no_row(at: usize) -> Row
 }
 
 // The row at `at`, whose end is found field by field. A field that is no number, or one too many, leaves no numbers.
-pub fn row_at(s: &[u8], at: usize, by: Parting) -> Row
-    ensures { λ r. ⌜ RowAt by (now (s .entry)) at (r .d) (r .n) (r .next) ⌝ }
+pub fn row_at(s: &[u8], at: usize, by: Parting, notation: Notation) -> Row
+    ensures { λ r. ⌜ RowAt notation by (now (s .entry)) at (r .d) (r .n) (r .next) ⌝ }
 {
     let mut d = [0.0f32; 15];
     let mut n = 0;
@@ -124,7 +154,7 @@ pub fn row_at(s: &[u8], at: usize, by: Parting) -> Row
         if 15 <= n {
             return no_row(at);
         }
-        let Token::Number(x) = decimal::read(&s[start..end]) else {
+        let Token::Number(x) = token_of(&s[start..end], notation) else {
             return no_row(at);
         };
         d[n] = x;

@@ -22,7 +22,7 @@ ghost use lib.ListN.{length};
 ghost use Rattle.sampling.specs.Constants.{cells, recordLength};
 ghost use Rattle.sampling.specs.Cells.{endOf};
 ghost use Rattle.sampling.specs.Segments.{placedPoint, pointNear, Draws, GoesAlong};
-ghost use Rattle.sampling.specs.inner.Steps.{Carrying, Reaches, taskRamp, taskColours, taskEnd, taskFar, PointAt, CellCarried};
+ghost use Rattle.sampling.specs.inner.Steps.{Carrying, Reaches, taskRamp, taskColours, taskEnd, taskFar, PointDrawn, CellCarried};
 ghost use Rattle.sampling.specs.Lent.{lentBody};
 ghost use Rattle.stops.specs.Lent.{lentRamp, old, new};
 ghost use Rattle.stops.specs.Pair.{between};
@@ -50,6 +50,7 @@ fn pair_at(kind: Kind, positions: &[f32], channels: &[f32], k: usize, t: f32) ->
         ),
         Kind::CatmullRom => stops::colour_in(kind, positions, channels, t, Place::Between(k)),
         Kind::Gimp => stops::colour_in(kind, positions, channels, t, Place::Between(k)),
+        Kind::GimpSaved => stops::colour_in(kind, positions, channels, t, Place::Between(k)),
     }
 }
 
@@ -159,7 +160,7 @@ fn end_at(
 ) -> Point
     requires { ⌜ (i ≤ cells) × (checkOf (taskRamp task positions channels codes) ≡ Fine) ⌝ }
     requires { ⌜ Carrying (taskRamp task positions channels codes) guess (now drawn) ⌝ }
-    ensures { λ r. ⌜ PointAt (taskColours task positions channels codes) (taskEnd task i) r × Carrying (lentRamp (task .kind) positions channels codes) (r .pair) (new drawn) ⌝ }
+    ensures { λ r. ⌜ PointDrawn (lentRamp (task .kind) positions channels codes) (taskColours task positions channels codes) (taskEnd task i) (new drawn) r ⌝ }
 {
     let kind = task.kind;
     let t = edge(task.min, task.max, i);
@@ -178,7 +179,7 @@ fn left_end(
 ) -> Point
     requires { ⌜ i ≤ cells ⌝ }
     requires { ⌜ Reaches (taskRamp task positions channels codes) (now drawn) (task .min) (task .max) i carried ⌝ }
-    ensures { λ r. ⌜ PointAt (taskColours task positions channels codes) (taskEnd task i) r × Carrying (lentRamp (task .kind) positions channels codes) (r .pair) (new drawn) ⌝ }
+    ensures { λ r. ⌜ PointDrawn (lentRamp (task .kind) positions channels codes) (taskColours task positions channels codes) (taskEnd task i) (new drawn) r ⌝ }
 {
     let point = carried.point;
     if carried.known {

@@ -9,26 +9,26 @@ use lib.Dec.{eqb}
 use lib.Ieee.{Float, nan}
 use Rattle.refusals.specs.Refusals.{badSegment, notCarried}
 use Rattle.blend.specs.declared.Rgba.{Rgba}
-use Rattle.gradient.specs.Gimp.{carriedOf}
 use Rattle.gradient.specs.declared.gimp.Segment.{Segment}
 use Rattle.rows.specs.Rows.{Numbers, all, none}
+use Rattle.segment.specs.declared.Rules.{Rules}
 use Rattle.segment.specs.declared.SegmentRead.{SegmentRead}
 use Rattle.segment.specs.declared.SegmentRead.the-variants.{Valid, Fault}
-use Rattle.segment.specs.Line.{codeOf, validCodes, endColour, judge, build, fromNumbers, segmentOnLine}
+use Rattle.segment.specs.Line.{carriedBy, codeOf, validCodes, endColour, judge, build, fromNumbers, segmentOnLine}
 
-no-segment : {X : Type 0} {g : Segment} {o : SegmentRead} {a : ℕ} → o ≡ Valid g → o ≡ Fault a → X
+pub no-segment : {X : Type 0} {g : Segment} {o : SegmentRead} {a : ℕ} → o ≡ Valid g → o ≡ Fault a → X
 no-segment e f = absurd (let z : _≡_ {A = ℕ} 0 1 = cc in omega arith)
 
-judged : (h g : Segment) → judge h ≡ Valid g → carriedOf g ≡ true
+judged : (rules : Rules) (h g : Segment) → judge rules h ≡ Valid g → carriedBy rules g ≡ true
 unfolding judge
-judged h g e = go (carriedOf h) refl e where
-  go : (t : Bool) → carriedOf h ≡ t → cond t (Valid h) (Fault notCarried) ≡ Valid g → carriedOf g ≡ true
-  go true f i = let q : h ≡ g = cc in ap carriedOf (sym q) ∙ f
+judged rules h g e = go (carriedBy rules h) refl e where
+  go : (t : Bool) → carriedBy rules h ≡ t → cond t (Valid h) (Fault notCarried) ≡ Valid g → carriedBy rules g ≡ true
+  go true f i = let q : h ≡ g = cc in ap (carriedBy rules) (sym q) ∙ f
   go false f i = absurd (let z : _≡_ {A = ℕ} 0 1 = cc in omega arith)
 
-built : (fg bg : Rgba) (xs : List Float) (g : Segment) → build fg bg xs ≡ Valid g → carriedOf g ≡ true
+built : (rules : Rules) (fg bg : Rgba) (xs : List Float) (g : Segment) → build rules fg bg xs ≡ Valid g → carriedBy rules g ≡ true
 unfolding build
-built fg bg xs g e =
+built rules fg bg xs g e =
     let at : ℕ → Float = λ i. getD xs i nan in
     go
     (validCodes (codeOf (at 11)) (codeOf (at 12)) (codeOf (at 13)) (codeOf (at 14)))
@@ -42,19 +42,19 @@ built fg bg xs g e =
       colouring = codeOf (at 12);
     })
     e where
-      go : (t : Bool) (h : Segment) → cond t (judge h) (Fault badSegment) ≡ Valid g → carriedOf g ≡ true
-      go true h i = judged h g i
+      go : (t : Bool) (h : Segment) → cond t (judge rules h) (Fault badSegment) ≡ Valid g → carriedBy rules g ≡ true
+      go true h i = judged rules h g i
       go false h i = no-segment i refl
 
-read-carried : (fg bg : Rgba) (o : Numbers) (g : Segment) → fromNumbers fg bg o ≡ Valid g → carriedOf g ≡ true
+read-carried : (rules : Rules) (fg bg : Rgba) (o : Numbers) (g : Segment) → fromNumbers rules fg bg o ≡ Valid g → carriedBy rules g ≡ true
 unfolding fromNumbers
-read-carried fg bg none g e = no-segment e refl
-read-carried fg bg (all xs) g e = go (eqb (length xs) 13) (eqb (length xs) 15) _ e where
-  go : (t u : Bool) (ys : List Float) → cond t (build fg bg ys) (cond u (build fg bg xs) (Fault badSegment)) ≡ Valid g → carriedOf g ≡ true
-  go true u ys i = built fg bg ys g i
-  go false true ys i = built fg bg xs g i
+read-carried rules fg bg none g e = no-segment e refl
+read-carried rules fg bg (all xs) g e = go (eqb (length xs) 13) (eqb (length xs) 15) _ e where
+  go : (t u : Bool) (ys : List Float) → cond t (build rules fg bg ys) (cond u (build rules fg bg xs) (Fault badSegment)) ≡ Valid g → carriedBy rules g ≡ true
+  go true u ys i = built rules fg bg ys g i
+  go false true ys i = built rules fg bg xs g i
   go false false ys i = no-segment i refl
 
-pub line-carried : (fg bg : Rgba) (l : List ℕ) (g : Segment) → segmentOnLine fg bg l ≡ Valid g → carriedOf g ≡ true
+pub line-carried : (rules : Rules) (fg bg : Rgba) (l : List ℕ) (g : Segment) → segmentOnLine rules fg bg l ≡ Valid g → carriedBy rules g ≡ true
 unfolding segmentOnLine
-line-carried fg bg l g e = read-carried fg bg _ g e
+line-carried rules fg bg l g e = read-carried rules fg bg _ g e

@@ -17,9 +17,11 @@ use Rattle.refusals.specs.Refusals.{badSegment, notCarried}
 use Rattle.float.specs.Number.{wholeOf}
 use Rattle.blend.specs.declared.Rgba.{Rgba}
 use Rattle.gradient.specs.declared.gimp.Segment.{Segment}
-use Rattle.segment.specs.declared.SegmentRead.the-variants.{Valid, Fault}
+use Rattle.stops.specs.declared.Kind.{Kind}
 use Rattle.gradient.specs.Gimp.{carriedOf}
-use Rattle.segment.specs.Line.{cut, codeOf, validCodes, endColour, judge, build}
+use Rattle.segment.specs.declared.Rules.{Rules}
+use Rattle.segment.specs.declared.SegmentRead.the-variants.{Valid, Fault}
+use Rattle.segment.specs.Line.{kindBy, cut, codeOf, validCodes, endColour, judge, build}
 
 -- a key of a `match` on an i64 is its bits
 pub code-key : (x : Float) (z : ℤ) (n : ℕ) → mag z < 2 ^ 63 → z ≡ wholeOf x → ofZ w64 z ≡ n → cut (toZ w64 n) ≡ codeOf x
@@ -37,9 +39,9 @@ pub code-none : (x : Float) (z : ℤ) → z ≡ wholeOf x → ((n : ℕ) → n <
 code-none x z w h = six z h ∙ ap cut w
 
 -- ---- the segment of 15 numbers
-module _ (fg bg : Rgba) (d : List Float) (b k l r : ℕ)
+module _ (rules : Rules) (fg bg : Rgba) (d : List Float) (b k l r : ℕ)
     (eb : b ≡ codeOf (getD d 11 nan)) (ek : k ≡ codeOf (getD d 12 nan)) (el : l ≡ codeOf (getD d 13 nan)) (er : r ≡ codeOf (getD d 14 nan)) where
-  pub build-invalid : validCodes b k l r ≡ false → Fault badSegment ≡ build fg bg d
+  pub build-invalid : validCodes b k l r ≡ false → Fault badSegment ≡ build rules fg bg d
   unfolding build
   build-invalid h = rw (← eb, ← ek, ← el, ← er, h)
 
@@ -49,14 +51,17 @@ module _ (fg bg : Rgba) (d : List Float) (b k l r : ℕ)
   module _ (h : validCodes b k l r ≡ true) (p q : Rgba)
       (ep : p ≡ endColour l (record { r = getD d 3 nan; g = getD d 4 nan; b = getD d 5 nan; a = getD d 6 nan }) fg bg)
       (eq : q ≡ endColour r (record { r = getD d 7 nan; g = getD d 8 nan; b = getD d 9 nan; a = getD d 10 nan }) fg bg) where
-    by : judge (segmentBy p q) ≡ build fg bg d
+    by : judge rules (segmentBy p q) ≡ build rules fg bg d
     unfolding build
     by = rw (← eb, ← ek, ← el, ← er, h, ← ep, ← eq)
 
-    pub build-valid : carriedOf (segmentBy p q) ≡ true → Valid (segmentBy p q) ≡ build fg bg d
-    unfolding judge
-    build-valid c = sym (ap (λ (t : Bool). cond t (Valid (segmentBy p q)) (Fault notCarried)) c) ∙ by
+    module _ {kind : Kind} (w : kind ≡ kindBy rules) {t : Bool} (z : t ≡ carriedOf kind (segmentBy p q)) where
+      by-kind : cond t (Valid (segmentBy p q)) (Fault notCarried) ≡ build rules fg bg d
+      unfolding judge
+      by-kind = ap (λ (u : Bool). cond u (Valid (segmentBy p q)) (Fault notCarried)) (z ∙ ap (λ (k : Kind). carriedOf k (segmentBy p q)) w) ∙ by
 
-    pub build-not : carriedOf (segmentBy p q) ≡ false → Fault notCarried ≡ build fg bg d
-    unfolding judge
-    build-not c = sym (ap (λ (t : Bool). cond t (Valid (segmentBy p q)) (Fault notCarried)) c) ∙ by
+      pub build-valid : t ≡ true → Valid (segmentBy p q) ≡ build rules fg bg d
+      build-valid c = rw c at by-kind
+
+      pub build-not : t ≡ false → Fault notCarried ≡ build rules fg bg d
+      build-not c = rw c at by-kind

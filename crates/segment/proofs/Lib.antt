@@ -3,3 +3,4 @@ mod Rows
 mod Codes
 mod Stored
 pub mod Carried
+pub mod Both

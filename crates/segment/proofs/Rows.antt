@@ -17,28 +17,29 @@ use Rattle.text.proofs.Bytes.{no}
 use Rattle.text.proofs.Lines.{lines-after}
 use Rattle.rows.proofs.Numbers.{row-is, row-not, row-next}
 use Rattle.blend.specs.declared.Rgba.{Rgba}
+use Rattle.segment.specs.declared.Rules.{Rules}
 use Rattle.segment.specs.declared.SegmentRead.{SegmentRead}
 use Rattle.segment.specs.declared.SegmentRead.the-variants.{Fault}
-use Rattle.segment.specs.Line.{build, fromNumbers, segmentOnLine, numberOfSegment, SegmentAt}
+use Rattle.segment.specs.Line.{notationBy, build, fromNumbers, segmentOnLine, numberOfSegment, SegmentAt}
 use Rattle.segment.specs.inner.Steps.{segmentLength}
 
 -- neither 13 numbers nor 15
-not-segment : (fg bg : Rgba) (o : Numbers) → ((k : ℕ) → true ≡ segmentLength k → (xs : List Float) → o ≡ all xs → length xs ≡ k → ⊥) → Fault badSegment ≡ fromNumbers fg bg o
+not-segment : (rules : Rules) (fg bg : Rgba) (o : Numbers) → ((k : ℕ) → true ≡ segmentLength k → (xs : List Float) → o ≡ all xs → length xs ≡ k → ⊥) → Fault badSegment ≡ fromNumbers rules fg bg o
 unfolding fromNumbers
-not-segment fg bg none h = refl
-not-segment fg bg (all xs) h = rw (ne-eqb (length xs) 13 (h 13 refl xs refl), ne-eqb (length xs) 15 (h 15 refl xs refl))
+not-segment rules fg bg none h = refl
+not-segment rules fg bg (all xs) h = rw (ne-eqb (length xs) 13 (h 13 refl xs refl), ne-eqb (length xs) 15 (h 15 refl xs refl))
 
 -- n numbers xs, and zeros after them
-by-length : (fg bg : Rgba) (xs d : List Float) (n : ℕ) → length xs ≡ n → true ≡ segmentLength n → d ≡ xs ++ replicate (15 - n) f0 → build fg bg d ≡ fromNumbers fg bg (all xs)
+by-length : (rules : Rules) (fg bg : Rgba) (xs d : List Float) (n : ℕ) → length xs ≡ n → true ≡ segmentLength n → d ≡ xs ++ replicate (15 - n) f0 → build rules fg bg d ≡ fromNumbers rules fg bg (all xs)
 unfolding fromNumbers
-by-length fg bg xs d n l h e = rw l (go (eqb n 13) refl (eqb n 15) refl h) where
-  go : (t : Bool) → eqb n 13 ≡ t → (u : Bool) → eqb n 15 ≡ u → true ≡ (t || u) → build fg bg d ≡ cond t (build fg bg (xs ++ f0 ∷ f0 ∷ [])) (cond u (build fg bg xs) (Fault badSegment))
-  go true f u g i = ap (build fg bg) (e ∙ ap (λ (m : ℕ). xs ++ replicate (15 - m) f0) (eqb-true n 13 f))
-  go false f true g i = ap (build fg bg) (e ∙ ap (λ (m : ℕ). xs ++ replicate (15 - m) f0) (eqb-true n 15 g) ∙ append-nil xs)
+by-length rules fg bg xs d n l h e = rw l (go (eqb n 13) refl (eqb n 15) refl h) where
+  go : (t : Bool) → eqb n 13 ≡ t → (u : Bool) → eqb n 15 ≡ u → true ≡ (t || u) → build rules fg bg d ≡ cond t (build rules fg bg (xs ++ f0 ∷ f0 ∷ [])) (cond u (build rules fg bg xs) (Fault badSegment))
+  go true f u g i = ap (build rules fg bg) (e ∙ ap (λ (m : ℕ). xs ++ replicate (15 - m) f0) (eqb-true n 13 f))
+  go false f true g i = ap (build rules fg bg) (e ∙ ap (λ (m : ℕ). xs ++ replicate (15 - m) f0) (eqb-true n 15 g) ∙ append-nil xs)
   go false f false g i = no i
 
-module _ (fg bg : Rgba) {s : List ℕ} {at : ℕ} {d : List Float} {n next : ℕ} (w : RowAt Spaces s at d n next) {t : Bool} (e : t ≡ segmentLength n) where
-  pub segment-none : t ≡ false → SegmentAt fg bg s at (Fault badSegment) next
+module _ (rules : Rules) (fg bg : Rgba) {s : List ℕ} {at : ℕ} {d : List Float} {n next : ℕ} (w : RowAt (notationBy rules) Spaces s at d n next) {t : Bool} (e : t ≡ segmentLength n) where
+  pub segment-none : t ≡ false → SegmentAt rules fg bg s at (Fault badSegment) next
   unfolding segmentOnLine partsAt
   segment-none h = record {
     is = none-there;
@@ -53,8 +54,8 @@ module _ (fg bg : Rgba) {s : List ℕ} {at : ℕ} {d : List Float} {n next : ℕ
       go false f true g i = omega (arith, eqb-true k 15 g)
       go false f false g i = no i
 
-    none-there : Fault badSegment ≡ segmentOnLine fg bg (firstOf (lines (drop at s)))
-    none-there = not-segment fg bg _ (λ k i. row-not w k (most k i) (λ q. no (i ∙ ap segmentLength (sym q) ∙ sym e ∙ h)))
+    none-there : Fault badSegment ≡ segmentOnLine rules fg bg (firstOf (lines (drop at s)))
+    none-there = not-segment rules fg bg _ (λ k i. row-not w k (most k i) (λ q. no (i ∙ ap segmentLength (sym q) ∙ sym e ∙ h)))
 
   some : t ≡ true → 0 < n
   some h = go n (sym h ∙ e) where
@@ -62,11 +63,11 @@ module _ (fg bg : Rgba) {s : List ℕ} {at : ℕ} {d : List Float} {n next : ℕ
     go zero i = no i
     go (suc m) i = omega arith
 
-  pub segment-some : t ≡ true → (o : SegmentRead) → o ≡ build fg bg d → SegmentAt fg bg s at o next
+  pub segment-some : t ≡ true → (o : SegmentRead) → o ≡ build rules fg bg d → SegmentAt rules fg bg s at o next
   unfolding segmentOnLine partsAt rowEnd
   segment-some h o b =
       let r = row-is w (some h) in
-      let there : o ≡ segmentOnLine fg bg (firstOf (lines (drop at s))) = b ∙ by-length fg bg (take n d) d n (r .1) (sym h ∙ e) (r .2) ∙ ap (fromNumbers fg bg) (sym (r .0)) in
+      let there : o ≡ segmentOnLine rules fg bg (firstOf (lines (drop at s))) = b ∙ by-length rules fg bg (take n d) d n (r .1) (sym h ∙ e) (r .2) ∙ ap (fromNumbers rules fg bg) (sym (r .0)) in
       record {
         is = there;
         number = ap numberOfSegment there;

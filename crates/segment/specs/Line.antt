@@ -1,4 +1,4 @@
--- A segment line of a GIMP file: 12, then 16. Document 01, 'What a GIMP file may hold'; document 02 (i), (ix).
+-- A segment line of a GIMP file: 12, then 16. Document 01, 'What a GIMP file may hold'; document 02 (i), (ix); and files as GIMP saves them.
 use Prim.Native.Nat.{ℕ, min}
 use mathlib.Core.Path.{_≡_}
 use mathlib.Core.Bool.{Bool, cond, _&&_}
@@ -11,13 +11,34 @@ use Rattle.refusals.specs.Refusals.{badSegment, notCarried}
 use Rattle.float.specs.F32.{f0}
 use Rattle.float.specs.Number.{wholeOf}
 use Rattle.blend.specs.declared.Rgba.{Rgba}
+use Rattle.stops.specs.declared.Kind.{Kind}
+use Rattle.stops.specs.declared.Kind.the-variants.{Gimp, GimpSaved}
 use Rattle.gradient.specs.Gimp.{carriedOf}
 use Rattle.gradient.specs.declared.gimp.Segment.{Segment}
+use Rattle.segment.specs.declared.Rules.{Rules}
+use Rattle.segment.specs.declared.Rules.the-variants.{Published, Saved}
 use Rattle.segment.specs.declared.SegmentRead.{SegmentRead}
 use Rattle.segment.specs.declared.SegmentRead.the-variants.{Valid, Fault}
+use Rattle.rows.specs.declared.Notation.{Notation}
+use Rattle.rows.specs.declared.Notation.the-variants.{Short, Long}
 use Rattle.rows.specs.declared.Parting.the-variants.{Spaces}
 use Rattle.text.specs.Text.{lines, firstOf, restOf, words}
 use Rattle.rows.specs.Rows.{Numbers, all, none, numbers, rowAt, rowEnd}
+
+-- ---- the rules that a file is read by: document 01's, or those for what GIMP saves
+
+-- the notation of its numbers
+abbrev pub notationBy : Rules → Notation
+notationBy Published = Short
+notationBy Saved = Long
+
+-- the kind of ramp that its segments make, which says what is carried
+abbrev pub kindBy : Rules → Kind
+kindBy Published = Gimp
+kindBy Saved = GimpSaved
+
+abbrev pub carriedBy : Rules → Segment → Bool
+carriedBy rules g = carriedOf (kindBy rules) g
 
 -- ---- codes
 
@@ -43,20 +64,20 @@ endColour code own fg bg =
 
 -- ---- the segment
 
--- of a kind that is carried: not curved, and if sinusoidal with a middle that is not outside its ends; or 16
-unfoldable pub judge : Segment → SegmentRead
-judge g = cond (carriedOf g) (Valid g) (Fault notCarried)
+-- carried: not curved but by the rules for what GIMP saves, and if curved or sinusoidal with a middle that is not outside its ends; or 16
+unfoldable pub judge : Rules → Segment → SegmentRead
+judge rules g = cond (carriedBy rules g) (Valid g) (Fault notCarried)
 
 -- of 15 numbers: left, middle and right position; four left channels; four right; blending; colouring; left and right colour code
-unfoldable pub build : Rgba → Rgba → List Float → SegmentRead
-build fg bg xs =
+unfoldable pub build : Rules → Rgba → Rgba → List Float → SegmentRead
+build rules fg bg xs =
     let at : ℕ → Float = λ i. getD xs i nan in
     let blending = codeOf (at 11) in
     let colouring = codeOf (at 12) in
     let left = codeOf (at 13) in
     let right = codeOf (at 14) in
     cond (validCodes blending colouring left right)
-    (judge (record {
+    (judge rules (record {
       left = at 0;
       middle = at 1;
       right = at 2;
@@ -68,15 +89,15 @@ build fg bg xs =
     (Fault badSegment)
 
 -- a segment has 13 or 15 numbers, or is refused with 12; the colour codes are 0 if 13
-unfoldable pub fromNumbers : Rgba → Rgba → Numbers → SegmentRead
-fromNumbers fg bg none = Fault badSegment
-fromNumbers fg bg (all xs) =
-    cond (eqb (length xs) 13) (build fg bg (xs ++ f0 ∷ f0 ∷ []))
-    (cond (eqb (length xs) 15) (build fg bg xs) (Fault badSegment))
+unfoldable pub fromNumbers : Rules → Rgba → Rgba → Numbers → SegmentRead
+fromNumbers rules fg bg none = Fault badSegment
+fromNumbers rules fg bg (all xs) =
+    cond (eqb (length xs) 13) (build rules fg bg (xs ++ f0 ∷ f0 ∷ []))
+    (cond (eqb (length xs) 15) (build rules fg bg xs) (Fault badSegment))
 
 -- the numbers are the words of the line
-unfoldable pub segmentOnLine : Rgba → Rgba → List ℕ → SegmentRead
-segmentOnLine fg bg l = fromNumbers fg bg (numbers (words l))
+unfoldable pub segmentOnLine : Rules → Rgba → Rgba → List ℕ → SegmentRead
+segmentOnLine rules fg bg l = fromNumbers rules fg bg (numbers (notationBy rules) (words l))
 
 -- document 01's number of what a line holds, 0 for a segment; its line is the reader's to tell
 abbrev pub numberOfSegment : SegmentRead → ℕ
@@ -84,8 +105,8 @@ numberOfSegment (Valid g) = 0
 numberOfSegment (Fault number) = number
 
 -- the line at `at` holds this; `next` is where the line after it starts, or `at` where there are no numbers, and after a valid segment the lines go on there
-pub record SegmentAt (fg bg : Rgba) (s : List ℕ) (at : ℕ) (o : SegmentRead) (next : ℕ) : Type 0 where
-  pub is : o ≡ segmentOnLine fg bg (firstOf (lines (drop at s)))
-  pub number : numberOfSegment o ≡ numberOfSegment (segmentOnLine fg bg (firstOf (lines (drop at s))))
-  pub goes-on : next ≡ cond (eqb (length (rowAt Spaces s at)) 0) at (rowEnd Spaces s at)
+pub record SegmentAt (rules : Rules) (fg bg : Rgba) (s : List ℕ) (at : ℕ) (o : SegmentRead) (next : ℕ) : Type 0 where
+  pub is : o ≡ segmentOnLine rules fg bg (firstOf (lines (drop at s)))
+  pub number : numberOfSegment o ≡ numberOfSegment (segmentOnLine rules fg bg (firstOf (lines (drop at s))))
+  pub goes-on : next ≡ cond (eqb (length (rowAt (notationBy rules) Spaces s at)) 0) at (rowEnd Spaces s at)
   pub rest : (g : Segment) → o ≡ Valid g → lines (drop next s) ≡ restOf (lines (drop at s))

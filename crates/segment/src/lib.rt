@@ -4,18 +4,44 @@ use gradient::gimp;
 use gradient::gimp::Segment;
 use refusals::BAD_SEGMENT;
 use refusals::NOT_CARRIED;
+use rows::Notation;
 use rows::Parting;
 use rows::row_at;
+use stops::Kind;
 ghost use mathlib.Core.Path.{_≡_};
-ghost use Rattle.segment.specs.Line.{codeOf, validCodes, withoutAlpha, endColour, build, SegmentAt};
+ghost use Rattle.segment.specs.Line.{notationBy, kindBy, codeOf, validCodes, withoutAlpha, endColour, build, SegmentAt};
 ghost use Rattle.segment.specs.inner.Steps.{segmentLength};
 
 pub mod store;
+
+// The rules that a file is read by: document 01's, or those for what GIMP saves.
+pub enum Rules {
+    Published,
+    Saved,
+}
 
 // What a line holds: a segment, or document 01's number of why it is none.
 pub enum SegmentRead {
     Valid(Segment),
     Fault(u8),
+}
+
+fn notation_by(rules: Rules) -> Notation
+    ensures { λ r. ⌜ r ≡ notationBy rules ⌝ }
+{
+    match rules {
+        Rules::Published => Notation::Short,
+        Rules::Saved => Notation::Long,
+    }
+}
+
+fn kind_by(rules: Rules) -> Kind
+    ensures { λ r. ⌜ r ≡ kindBy rules ⌝ }
+{
+    match rules {
+        Rules::Published => Kind::Gimp,
+        Rules::Saved => Kind::GimpSaved,
+    }
 }
 
 // The code in x; 6, which is no code, for every other number.
@@ -80,8 +106,8 @@ fn colour(code: u8, own: Rgba, fg: Rgba, bg: Rgba) -> Rgba
 }
 
 // The segment of 15 numbers.
-fn built(d: [f32; 15], fg: Rgba, bg: Rgba) -> SegmentRead
-    ensures { λ r. ⌜ r ≡ build fg bg d ⌝ }
+fn built(rules: Rules, d: [f32; 15], fg: Rgba, bg: Rgba) -> SegmentRead
+    ensures { λ r. ⌜ r ≡ build rules fg bg d ⌝ }
 {
     let blending = code(d[11]);
     let colouring = code(d[12]);
@@ -113,7 +139,8 @@ fn built(d: [f32; 15], fg: Rgba, bg: Rgba) -> SegmentRead
         blending,
         colouring,
     };
-    if gimp::is_carried(blending, colouring, g.left, g.middle, g.right) {
+    let kind = kind_by(rules);
+    if gimp::is_carried(kind, blending, colouring, g.left, g.middle, g.right) {
         return SegmentRead::Valid(g);
     }
     SegmentRead::Fault(NOT_CARRIED)
@@ -135,10 +162,10 @@ pub struct SegmentLine {
 }
 
 // The segment of the line at `at`: 13 or 15 numbers, of which the last two are 0 where they are left out.
-pub fn segment_at(s: &[u8], at: usize, fg: Rgba, bg: Rgba) -> SegmentLine
-    ensures { λ r. ⌜ SegmentAt fg bg (now (s .entry)) at (r .read) (r .next) ⌝ }
+pub fn segment_at(s: &[u8], at: usize, rules: Rules, fg: Rgba, bg: Rgba) -> SegmentLine
+    ensures { λ r. ⌜ SegmentAt rules fg bg (now (s .entry)) at (r .read) (r .next) ⌝ }
 {
-    let row = row_at(s, at, Parting::Spaces);
+    let row = row_at(s, at, Parting::Spaces, notation_by(rules));
     let n = row.n;
     let next = row.next;
     if !makes_segment(n) {
@@ -148,6 +175,6 @@ pub fn segment_at(s: &[u8], at: usize, fg: Rgba, bg: Rgba) -> SegmentLine
         };
     }
     let d = row.d;
-    let read = built(d, fg, bg);
+    let read = built(rules, d, fg, bg);
     SegmentLine { read, next }
 }

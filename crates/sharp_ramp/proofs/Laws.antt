@@ -1,16 +1,15 @@
 -- Building a sharp ramp, by the tests that the code makes. Assumes nothing.
 use mathlib.Core.Path.{_≡_, refl, sym, _∙_, ap}
 use mathlib.Core.Bool.{Bool, true, false, not, cond, _&&_}
-use mathlib.Core.List.{List, [], _∷_, _++_}
-use Prim.Native.Nat.{ℕ, zero, suc, _+_, _*_, _/_, _%_, _≤_, _<_}
-use native.Mathlib.Numerals.{add-one}
+use mathlib.Core.List.{List, _++_}
+use Prim.Native.Nat.{ℕ, _+_, _*_, _/_, _%_, _≤_, _<_}
 use native.Mathlib.Omega.{arith}
 use lib.Dec.{leb, eqb}
-use lib.ListN.{length, getD, take, drop, drop-of-length-le, length-take}
-use lib.Seq.{drop-cons, take-at}
-use lib.Ieee.{Float, nan, inf, lt, eq}
+use lib.ListN.{length, take, drop, length-take}
+use lib.Seq.{take-at}
+use lib.Ieee.{Float, inf, lt}
 use lib.Ieee.Scale.{finite}
-use borrow.Author.Tests.{eq-eqb, ne-eqb, lt-ltb, le-ltb, leb-true, eqb-true, not-true}
+use borrow.Author.Tests.{eq-eqb, ne-eqb, lt-ltb, le-ltb, leb-true, eqb-true}
 use Rattle.refusals.specs.Refusals.{misshapen, notFinite, notBuilt}
 use Rattle.refusals.specs.Limits.{mostColours}
 use Rattle.float.proofs.Flags.{both-l, both-r}
@@ -18,7 +17,8 @@ use Rattle.float.specs.F32.{_⊕_, _⊖_, _⊗_, _⊘_, f4, tenth}
 use Rattle.float.specs.Number.{clampOf, countOf}
 use Rattle.blend.specs.Points.{linspaceAt}
 use Rattle.blend.specs.Finite.{allFinite}
-use Rattle.sharp_ramp.specs.Sharp.{softnessOf, insetOf, bandAt, listed, sharpPositions, bandChannel, sharpChannels, domainFits, steady, roomy, bands, buildOf, numberOfBuilt, stopsOfBuilt, afterBuilding, Builds}
+use Rattle.sharp_ramp.specs.Sharp.{softnessOf, insetOf, bandAt, listed, sharpPositions, bandChannel, sharpChannels, domainFits, roomy, bands, buildOf, numberOfBuilt, stopsOfBuilt, afterBuilding, Builds}
+use Rattle.stops.specs.Stops.{steady}
 use Rattle.sharp_ramp.specs.declared.Built.{Built}
 use Rattle.sharp_ramp.specs.declared.Built.the-variants.{Stops, Refused}
 use Rattle.sharp_ramp.proofs.Filling.{length-listed}
@@ -54,41 +54,6 @@ module _ (min max inset : Float) (n j : ℕ) {p : Float} where
   pub band-last : (j % 2 ≡ 0 → ⊥) → p ≡ linspaceAt min max (n + 1) (j / 2 + 1) → 2 * n ≤ j + 1 → p ≡ bandAt min max inset n j
   unfolding bandAt
   band-last a e h = e ∙ simp (ne-eqb (j % 2) 0 a, le-ltb (j + 1) (2 * n) h)
-
--- ---- the positions, one by one
-module _ (max : Float) (xs : List Float) (i : ℕ) (prev : Float) where
-  steady-step : i < length xs → steady max prev (drop i xs) ≡ (finite (getD xs i nan) && not (lt (getD xs i nan) prev) && steady max (getD xs i nan) (drop (i + 1) xs))
-  unfolding steady
-  steady-step h = ap (λ (l : List Float). steady max prev l) (drop-cons xs i nan h) ∙ simp add-one
-
-  pub steady-infinite : i < length xs → finite (getD xs i nan) ≡ false → steady max prev (drop i xs) ≡ false
-  steady-infinite h a = steady-step h ∙ simp a
-
-  pub steady-falls : i < length xs → finite (getD xs i nan) ≡ true → lt (getD xs i nan) prev ≡ true → steady max prev (drop i xs) ≡ false
-  steady-falls h a b = steady-step h ∙ simp (a, b)
-
-  pub steady-next : i < length xs → finite (getD xs i nan) ≡ true → lt (getD xs i nan) prev ≡ false → steady max prev (drop i xs) ≡ steady max (getD xs i nan) (drop (i + 1) xs)
-  steady-next h a b = steady-step h ∙ simp (a, b)
-
-  pub steady-end : length xs ≤ i → steady max prev (drop i xs) ≡ eq prev max
-  unfolding steady
-  steady-end h = ap (λ (l : List Float). steady max prev l) (drop-of-length-le xs h)
-
--- any of them
-pub steady-finite : (max prev : Float) (ps : List Float) → steady max prev ps ≡ true → (i : ℕ) → i < length ps → finite (getD ps i nan) ≡ true
-unfolding steady
-steady-finite max prev [] h i l = absurd (omega arith)
-steady-finite max prev (p ∷ ps) h zero l = both-l (finite p) (not (lt p prev)) (both-l (finite p && not (lt p prev)) (steady max p ps) h)
-steady-finite max prev (p ∷ ps) h (suc i) l = steady-finite max p ps (both-r (finite p && not (lt p prev)) (steady max p ps) h) i (omega arith)
-
-pub steady-rises : (max prev : Float) (ps : List Float) → steady max prev ps ≡ true → (i : ℕ) → suc i < length ps → lt (getD ps (suc i) nan) (getD ps i nan) ≡ false
-unfolding steady
-steady-rises max prev [] h i l = absurd (omega arith)
-steady-rises max prev (p ∷ []) h i l = absurd (omega arith)
-steady-rises max prev (p ∷ q ∷ ps) h zero l =
-    let rest : steady max p (q ∷ ps) ≡ true = both-r (finite p && not (lt p prev)) (steady max p (q ∷ ps)) h in
-    not-true (lt q p) (both-r (finite q) (not (lt q p)) (both-l (finite q && not (lt q p)) (steady max q ps) rest))
-steady-rises max prev (p ∷ q ∷ ps) h (suc i) l = steady-rises max p (q ∷ ps) (both-r (finite p && not (lt p prev)) (steady max p (q ∷ ps)) h) i (omega arith)
 
 -- ---- what the tests tell
 pub record Few (n : ℕ) : Type 0 where

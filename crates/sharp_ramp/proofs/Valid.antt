@@ -13,16 +13,16 @@ use Rattle.blend.specs.Finite.{allFinite}
 use Rattle.blend.proofs.FiniteLists.{finite-each}
 use Rattle.stops.specs.Lent.{Ramp, rampOf}
 use Rattle.stops.specs.Stops.{colourAt, finiteRgba}
-use Rattle.stops.specs.Place.{Rising}
 use Rattle.stops.specs.declared.Kind.the-variants.{Sharp}
 use Rattle.stops.specs.declared.Checked.the-variants.{Fine}
 use Rattle.stops.proofs.Checking.{Shape}
-use Rattle.stops.proofs.Valid.{Valid, rises, finite-number}
+use Rattle.stops.proofs.Valid.{Valid}
 use Rattle.gradient.specs.Ramp.{checkOf}
-use Rattle.sharp_ramp.specs.Sharp.{sharpPositions, bandChannel, sharpChannels, steady, bands, buildOf}
+use Rattle.stops.proofs.Steady.{steady-finite, steady-rising}
+use Rattle.sharp_ramp.specs.Sharp.{sharpPositions, bandChannel, sharpChannels, bands, buildOf}
 use Rattle.sharp_ramp.specs.declared.Built.the-variants.{Stops}
 use Rattle.sharp_ramp.proofs.Filling.{listed-at}
-use Rattle.sharp_ramp.proofs.Laws.{few, room, made, steady-finite, steady-rises, length-positions, length-channels}
+use Rattle.sharp_ramp.proofs.Laws.{few, room, made, length-positions, length-channels}
 use Rattle.gradient.proofs.Valid.{passes}
 
 -- a channel of a stop is one of a colour
@@ -36,10 +36,6 @@ all-four p q r s = simp (p, q, r, s)
 colour-of : (colours : List Float) (n i : ℕ) → allFinite colours ≡ true → length colours ≡ 4 * n → i < 2 * n → finiteRgba (colourAt (sharpChannels colours n) i) ≡ true
 colour-of colours n i h e l =
     all-four (channel-finite colours n (4 * i) h e (omega arith)) (channel-finite colours n (4 * i + 1) h e (omega arith)) (channel-finite colours n (4 * i + 2) h e (omega arith)) (channel-finite colours n (4 * i + 3) h e (omega arith))
-
--- finite positions that do not fall
-pub steady-rising : (max prev : Float) (ps : List Float) → steady max prev ps ≡ true → Rising ps
-steady-rising max prev ps h = rises ps (λ i l. finite-number (getD ps i nan) (steady-finite max prev ps h i l)) (λ j l. steady-rises max prev ps h j l)
 
 sized-as : (n p c : ℕ) → 1 ≤ n → n ≤ 256 → p ≡ 2 * n → c ≡ 8 * n → Shape Sharp p c 0
 unfolding mostStops

@@ -5,7 +5,7 @@ use mathlib.Core.Bool.{Bool, true, not, cond, _&&_}
 use mathlib.Core.List.{List, [], _∷_, _++_}
 use lib.Dec.{leb, ltb, eqb}
 use lib.ListN.{length, getD, drop}
-use lib.Ieee.{Float, nan, inf, lt, eq}
+use lib.Ieee.{Float, nan, inf, lt}
 use lib.Ieee.Scale.{finite}
 use Rattle.refusals.specs.Refusals.{misshapen, notFinite, notBuilt}
 use Rattle.refusals.specs.Limits.{mostColours}
@@ -13,6 +13,7 @@ use Rattle.float.specs.F32.{_⊕_, _⊖_, _⊗_, _⊘_, f4, tenth}
 use Rattle.float.specs.Number.{clampOf, countOf}
 use Rattle.blend.specs.Points.{linspaceAt}
 use Rattle.blend.specs.Finite.{allFinite}
+use Rattle.stops.specs.Stops.{steady}
 use Rattle.sharp_ramp.specs.declared.Built.{Built}
 use Rattle.sharp_ramp.specs.declared.Built.the-variants.{Stops, Refused}
 
@@ -51,11 +52,6 @@ sharpChannels colours n = listed (bandChannel colours) (8 * n)
 -- 17: n bands over a domain
 unfoldable pub domainFits : ℕ → Float → Float → Bool
 domainFits n min max = leb 1 n && leb n mostColours && finite min && finite max && not (lt max min)
-
--- 17: finite positions that do not fall and end at max; `prev` is the one before
-unfoldable pub steady : Float → Float → List Float → Bool
-steady max prev [] = eq prev max
-steady max prev (p ∷ ps) = finite p && not (lt p prev) && steady max p ps
 
 -- 1: m channels are those of n colours, and p positions and c channels have room for 2n stops
 unfoldable pub roomy : ℕ → ℕ → ℕ → ℕ → Bool

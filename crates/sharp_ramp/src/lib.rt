@@ -4,15 +4,15 @@ use refusals::MISSHAPEN;
 use refusals::MOST_COLOURS;
 use refusals::NOT_BUILT;
 use refusals::NOT_FINITE;
+use stops::is_steady;
 ghost use mathlib.Core.Path.{_≡_};
 ghost use mathlib.Core.Bool.{true};
 ghost use mathlib.Core.List.{_++_};
 ghost use Prim.Native.Nat.{_*_, _<_, _≤_};
 ghost use lib.ListN.{length, take, drop};
-ghost use lib.Ieee.{inf};
 ghost use Rattle.refusals.specs.Limits.{mostColours};
 ghost use Rattle.stops.specs.Lent.{old, new};
-ghost use Rattle.sharp_ramp.specs.Sharp.{softnessOf, insetOf, bandAt, sharpPositions, sharpChannels, domainFits, steady, roomy, Builds};
+ghost use Rattle.sharp_ramp.specs.Sharp.{softnessOf, insetOf, bandAt, sharpPositions, sharpChannels, domainFits, roomy, Builds};
 
 // How many stops were written, or the number of the refusal.
 pub enum Built {
@@ -94,26 +94,6 @@ fn copy(from: &[f32], to: &mut [f32])
         to[j] = from[j];
         j += 1;
     }
-}
-
-// Finite positions that do not fall and end at max.
-pub fn is_steady(positions: &[f32], max: f32) -> bool
-    ensures { λ r. ⌜ r ≡ steady max (inf true) (now (positions .entry)) ⌝ }
-{
-    let mut prev = -1.0 / 0.0;
-    let mut j = 0;
-    while j < positions.len() {
-        let p = positions[j];
-        if !float::is_finite(p) {
-            return false;
-        }
-        if p < prev {
-            return false;
-        }
-        prev = p;
-        j += 1;
-    }
-    prev == max
 }
 
 fn domain_fits(n: usize, min: f32, max: f32) -> bool

@@ -104,7 +104,7 @@ abbrev pub cosine : ℕ → ℤ
 cosine i = pos (2 ^ 24) -ℤ pos (2 * entry i)
 
 -- The rule: T starts at 0, never falls, T[i] + T[1024 - i] = 2^24, and 2^24·C[2i] lies within 5·2^24 + 2 of 2·C[i]² - 2^48 for i to 512.
--- It does not pin T: the entries are compared with ones worked out elsewhere (compare/sine.py).
+-- It does not pin T: the entries are compared with ones worked out elsewhere (compare/documents/sine.py).
 pub record Rule : Type 0 where
   pub starts : entry 0 ≡ 0
   pub never-falls : (i : ℕ) → i < 1024 → entry i ≤ entry (suc i)

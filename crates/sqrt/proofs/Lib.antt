@@ -8,3 +8,4 @@ pub mod Above
 pub mod Threshold
 pub mod Theorems
 pub mod Prints
+pub mod Squared

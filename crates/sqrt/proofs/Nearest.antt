@@ -7,6 +7,7 @@ use native.Mathlib.Decide.{decLe}
 use native.Mathlib.Omega.{arith}
 use mathlib.Core.Bool.{true, false}
 use lib.Dec.{T, lit≤}
+use lib.IntN.{ℤ}
 use lib.Pow.{pow-pos, pow-mono, pow-add, shl-lt}
 use lib.Ieee.{Float, nan, inf, fin, up, down, binary32, units, fits}
 use lib.Ieee.Fits.{odd-fits}
@@ -72,6 +73,16 @@ rooted m g p h l =
       room = lt-of-lt-of-le (shl-lt 24 k q-lt) (pow-mono {i = 24 + k} {j = 277} (omega arith));
       is = ap nearestRoot e ∙ nearestRoot-at n k q lo n-lt near;
     }
+
+-- of every f32 above zero
+pub rooted-of : (m : ℕ) (e : ℤ) → T (fits binary32 (fin false (suc m) e)) → Rooted (count (fin false (suc m) e)) (nearestRoot (count (fin false (suc m) e) * 2 ^ 149))
+rooted-of m e t =
+    let x = fin false (suc m) e in
+    let z = counted x t tt in
+    let s = shape z in
+    let some : 0 < s .m = factor (s .m) (2 ^ s .g) (subst (λ (c : ℕ). 0 < c) (s .is) (some-units false m e (z .is))) in
+    let room : s .m * 2 ^ s .g < 2 ^ 277 = subst (λ (c : ℕ). c < 2 ^ 277) (s .is) (few-units (suc m * up e) (down e) (count x) 128 (z .is .1) (parts false m e t .2)) in
+    subst (λ (c : ℕ). Rooted c (nearestRoot (c * 2 ^ 149))) (sym (s .is)) (rooted (s .m) (s .g) some (s .small) room)
 
 -- ---- the root is on its side of half-way to any other
 
@@ -183,11 +194,4 @@ rootOf-is-root nan t p = absurd p
 rootOf-is-root (inf s) t p = absurd p
 rootOf-is-root (fin true m e) t p = absurd p
 rootOf-is-root (fin false zero e) t p = is-root-zero (fin false zero e) t p (count-of (fin false zero e) false 0 (refl, zero-units e))
-rootOf-is-root (fin false (suc m) e) t p =
-    let x = fin false (suc m) e in
-    let z = counted x t p in
-    let s = shape z in
-    let some : 0 < s .m = factor (s .m) (2 ^ s .g) (subst (λ (c : ℕ). 0 < c) (s .is) (some-units false m e (z .is))) in
-    let room : s .m * 2 ^ s .g < 2 ^ 277 = subst (λ (c : ℕ). c < 2 ^ 277) (s .is) (few-units (suc m * up e) (down e) (count x) 128 (z .is .1) (parts false m e t .2)) in
-    let d = rooted (s .m) (s .g) some (s .small) room in
-    is-root-at x (nearestRoot (count x * 2 ^ 149)) t p (subst (λ (c : ℕ). Rooted c (nearestRoot (c * 2 ^ 149))) (sym (s .is)) d)
+rootOf-is-root (fin false (suc m) e) t p = is-root-at (fin false (suc m) e) _ t p (rooted-of m e t)

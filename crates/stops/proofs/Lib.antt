@@ -1,5 +1,6 @@
 pub mod Reading
 pub mod Checking
+pub mod Steady
 pub mod Choice
 pub mod Narrowing
 pub mod Quarters

@@ -21,7 +21,7 @@ use Rattle.stops.specs.Pair.{leftOf, rightOf, pairOf, between, colourIn}
 use Rattle.stops.specs.Near.{isBetween, placeNear, pairOr, segmentFor, segmentIn}
 use Rattle.stops.specs.Segments.{isCatmullRom}
 use Rattle.stops.specs.declared.Kind.{Kind}
-use Rattle.stops.specs.declared.Kind.the-variants.{Linear, Smoothstep, Sharp, Basis, CatmullRom, Gimp}
+use Rattle.stops.specs.declared.Kind.the-variants.{Linear, Smoothstep, Sharp, Basis, CatmullRom, Gimp, GimpSaved}
 use Rattle.stops.specs.declared.Place.{Place}
 use Rattle.stops.specs.declared.Place.the-variants.{End, Nowhere, Between}
 use Rattle.stops.proofs.Choice.{rising-numbers, le-is, first-is, place-between}
@@ -125,6 +125,7 @@ catmull Sharp h = absurd (true≢false (sym h))
 catmull Basis h = absurd (true≢false (sym h))
 catmull CatmullRom h = refl
 catmull Gimp h = absurd (true≢false (sym h))
+catmull GimpSaved h = absurd (true≢false (sym h))
 
 -- ---- what the functions give
 module _ (cs : List Float) (n k : ℕ) {s : List (List Float)} where

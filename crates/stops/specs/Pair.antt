@@ -12,7 +12,7 @@ use Rattle.blend.specs.declared.Rgba.{Rgba}
 use Rattle.blend.specs.declared.Stop.{Stop}
 use Rattle.stops.specs.Stops.{colourAt, stopAt}
 use Rattle.stops.specs.declared.Kind.{Kind}
-use Rattle.stops.specs.declared.Kind.the-variants.{Linear, Smoothstep, Sharp, Basis, CatmullRom, Gimp}
+use Rattle.stops.specs.declared.Kind.the-variants.{Linear, Smoothstep, Sharp, Basis, CatmullRom, Gimp, GimpSaved}
 use Rattle.stops.specs.declared.Place.{Place}
 use Rattle.stops.specs.declared.Place.the-variants.{End, Nowhere, Between}
 
@@ -35,6 +35,7 @@ pairOf Sharp cs n k p q t = sharpPair (k - 1) p q t
 pairOf Basis cs n k p q t = basisPair (leftOf cs k (p .colour) (q .colour)) p q (rightOf cs n k (p .colour) (q .colour)) t
 pairOf CatmullRom cs n k p q t = catmullPair (leftOf cs k (p .colour) (q .colour)) p q (rightOf cs n k (p .colour) (q .colour)) t
 pairOf Gimp cs n k p q t = black
+pairOf GimpSaved cs n k p q t = black
 
 unfoldable pub between : Kind → List Float → List Float → ℕ → Float → Rgba
 between kind ps cs k t = pairOf kind cs (length ps) k (stopAt ps cs (k - 1)) (stopAt ps cs k) t

@@ -16,7 +16,7 @@ use Rattle.stops.specs.Near.{segmentFor, segmentIn}
 use Rattle.stops.specs.declared.Kind.{Kind}
 use Rattle.stops.specs.declared.Window.{Window}
 use Rattle.stops.specs.declared.Place.the-variants.{Between}
-use Rattle.stops.specs.declared.Kind.the-variants.{Linear, Smoothstep, Sharp, Basis, CatmullRom, Gimp}
+use Rattle.stops.specs.declared.Kind.the-variants.{Linear, Smoothstep, Sharp, Basis, CatmullRom, Gimp, GimpSaved}
 
 abbrev pub isCatmullRom : Kind → Bool
 isCatmullRom Linear = false
@@ -25,6 +25,7 @@ isCatmullRom Sharp = false
 isCatmullRom Basis = false
 isCatmullRom CatmullRom = true
 isCatmullRom Gimp = false
+isCatmullRom GimpSaved = false
 
 abbrev pub Table : Type 0
 Table = List (List (List Float))

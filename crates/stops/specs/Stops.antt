@@ -1,10 +1,10 @@
 -- Stops lent as n positions and 4 n channels (r g b a of each), and what they must be. Refusals 1 to 3 of document 01's table.
 use Prim.Native.Nat.{ℕ, zero, suc, _+_, _*_, _%_}
 use mathlib.Core.Bool.{Bool, true, false, not, cond, _&&_, _||_}
-use mathlib.Core.List.{List}
+use mathlib.Core.List.{List, [], _∷_}
 use lib.Dec.{leb, eqb}
 use lib.ListN.{length, getD}
-use lib.Ieee.{Float, nan, inf, lt}
+use lib.Ieee.{Float, nan, inf, lt, eq}
 use lib.Ieee.Scale.{finite}
 use Rattle.refusals.specs.Refusals.{misshapen, notFinite, falling}
 use Rattle.refusals.specs.Limits.{mostStops}
@@ -12,7 +12,7 @@ use Rattle.blend.specs.declared.Rgba.{Rgba}
 use Rattle.blend.specs.declared.Stop.{Stop}
 use Rattle.stops.specs.Lent.{Ramp}
 use Rattle.stops.specs.declared.Kind.{Kind}
-use Rattle.stops.specs.declared.Kind.the-variants.{Linear, Smoothstep, Sharp, Basis, CatmullRom, Gimp}
+use Rattle.stops.specs.declared.Kind.the-variants.{Linear, Smoothstep, Sharp, Basis, CatmullRom, Gimp, GimpSaved}
 use Rattle.stops.specs.declared.Checked.{Checked}
 use Rattle.stops.specs.declared.Checked.the-variants.{Fine, Refused}
 
@@ -36,6 +36,7 @@ isSharp Sharp = true
 isSharp Basis = false
 isSharp CatmullRom = false
 isSharp Gimp = false
+isSharp GimpSaved = false
 
 -- n positions, m channels and c codes: 2 stops to the most, four channels each, no code, and for sharp an even number of stops
 unfoldable pub shaped : Kind → ℕ → ℕ → ℕ → Bool
@@ -55,3 +56,8 @@ stopsCheck ramp =
     cond (shaped (ramp .kind) (length (ramp .positions)) (length (ramp .channels)) (length (ramp .codes)))
     (eachStop (length (ramp .positions)) 0 (inf true) (ramp .positions) (ramp .channels))
     (Refused misshapen)
+
+-- for refusal 17: finite positions that do not fall and end at max; `prev` is the one before
+unfoldable pub steady : Float → Float → List Float → Bool
+steady max prev [] = eq prev max
+steady max prev (p ∷ ps) = finite p && not (lt p prev) && steady max p ps

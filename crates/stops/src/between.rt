@@ -75,6 +75,12 @@ fn pair_colour(kind: Kind, channels: &[f32], n: usize, k: usize, p: Stop, q: Sto
             b: 0.0,
             a: 1.0,
         },
+        Kind::GimpSaved => Rgba {
+            r: 0.0,
+            g: 0.0,
+            b: 0.0,
+            a: 1.0,
+        },
     }
 }
 

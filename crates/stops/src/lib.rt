@@ -19,11 +19,13 @@ pub use crate::channels::item;
 pub use crate::channels::stop;
 pub use crate::rules::check;
 pub use crate::rules::is_finite_colour;
+pub use crate::rules::is_steady;
 pub use crate::search::below;
 pub use crate::search::find_place;
 
 // The kinds of ramp. Stops are n positions and 4n channels, with no codes. GIMP segments are 3n positions
-// (left, middle, right), 8n channels (left, then right) and 2n codes (blending, colouring).
+// (left, middle, right), 8n channels (left, then right) and 2n codes (blending, colouring). `GimpSaved` takes every
+// segment that GIMP saves, `Gimp` no curved ones.
 pub enum Kind {
     Linear,
     Smoothstep,
@@ -31,6 +33,7 @@ pub enum Kind {
     Basis,
     CatmullRom,
     Gimp,
+    GimpSaved,
 }
 
 // A ramp that may be used, or the number of the refusal.

@@ -8,8 +8,10 @@ use refusals::MISSHAPEN;
 use refusals::MOST_STOPS;
 use refusals::NOT_FINITE;
 ghost use mathlib.Core.Path.{_≡_};
+ghost use mathlib.Core.Bool.{true};
+ghost use lib.Ieee.{inf};
 ghost use Rattle.stops.specs.Lent.{lentRamp};
-ghost use Rattle.stops.specs.Stops.{finiteRgba, isSharp, shaped, stopsCheck};
+ghost use Rattle.stops.specs.Stops.{finiteRgba, isSharp, shaped, stopsCheck, steady};
 ghost use Rattle.stops.specs.Answers.{Checks};
 
 pub fn is_finite_colour(c: Rgba) -> bool
@@ -37,6 +39,7 @@ fn is_sharp(kind: Kind) -> bool
         Kind::Basis => false,
         Kind::CatmullRom => false,
         Kind::Gimp => false,
+        Kind::GimpSaved => false,
     }
 }
 
@@ -87,4 +90,24 @@ pub fn check(kind: Kind, positions: &[f32], channels: &[f32], codes: &[u8]) -> C
         i += 1;
     }
     Checked::Fine
+}
+
+// Finite positions that do not fall and end at max.
+pub fn is_steady(positions: &[f32], max: f32) -> bool
+    ensures { λ r. ⌜ r ≡ steady max (inf true) (now (positions .entry)) ⌝ }
+{
+    let mut prev = -1.0 / 0.0;
+    let mut j = 0;
+    while j < positions.len() {
+        let p = positions[j];
+        if !float::is_finite(p) {
+            return false;
+        }
+        if p < prev {
+            return false;
+        }
+        prev = p;
+        j += 1;
+    }
+    prev == max
 }

@@ -33,6 +33,7 @@ pub fn is_catmull_rom(kind: Kind) -> bool
         Kind::Basis => false,
         Kind::CatmullRom => true,
         Kind::Gimp => false,
+        Kind::GimpSaved => false,
     }
 }
 

@@ -1,9 +1,12 @@
-// What GIMP files and the tool read by: marks, lines, white space, fields.
+// What GIMP files and the tool read by: marks, lines, white space, fields; and how they write.
 ghost use mathlib.Core.Path.{_≡_};
 ghost use Prim.Native.Nat.{_+_, _≤_};
 ghost use lib.ListN.{length, take, drop};
 ghost use Rattle.text.specs.Text.{every, ascii, unmark, white, same, starts, trim, trimEnd};
 ghost use Rattle.text.specs.Places.{inClass, span, LineAt};
+
+pub mod output;
+pub mod utf8;
 
 const TAB: u8 = 9;
 

@@ -96,14 +96,8 @@ fn put_stop(out: &mut [f32], n: usize, c: Rgba)
 }
 
 // Writes a stop at p, unless it is refused; as much of it as the outputs have room for.
-pub fn emit(
-    room: usize,
-    s: Progress,
-    p: Point,
-    out_positions: &mut [f32],
-    out_channels: &mut [f32],
-) -> Progress
-    ensures { λ r. ⌜ runIs r «out_positions» «out_channels» ≡ emitRun room (runWas s «out_positions» «out_channels») p ⌝ }
+pub fn emit(room: usize, s: Progress, p: Point, places: &mut [f32], colours: &mut [f32]) -> Progress
+    ensures { λ r. ⌜ runIs r places colours ≡ emitRun room (runWas s places colours) p ⌝ }
 {
     let n = s.stops;
     let last = s.last;
@@ -116,8 +110,8 @@ pub fn emit(
             refusal,
         };
     }
-    put(out_positions, n, p.t);
-    put_stop(out_channels, n, p.colour);
+    put(places, n, p.t);
+    put_stop(colours, n, p.colour);
     Progress {
         last: p,
         stops: n + 1,
@@ -148,10 +142,10 @@ pub fn step(
     s: Progress,
     x: Point,
     next: Point,
-    out_positions: &mut [f32],
-    out_channels: &mut [f32],
+    places: &mut [f32],
+    colours: &mut [f32],
 ) -> Progress
-    ensures { λ r. ⌜ runIs r «out_positions» «out_channels» ≡ stepRun (exceeds cutoff) room (runWas s «out_positions» «out_channels») x next ⌝ }
+    ensures { λ r. ⌜ runIs r places colours ≡ stepRun (exceeds cutoff) room (runWas s places colours) x next ⌝ }
 {
     let kept = s.last;
     let w = weigh(cutoff, kept, x, next);
@@ -164,5 +158,5 @@ pub fn step(
     if !w.kept {
         return weighed;
     }
-    emit(room, weighed, x, out_positions, out_channels)
+    emit(room, weighed, x, places, colours)
 }

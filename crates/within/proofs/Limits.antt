@@ -93,7 +93,7 @@ hold-most asked hold =
     same = not-lt→le (thresholdOf asked) (thresholdOf asked) (threshold-number asked) (threshold-number asked) (lt-irrefl (thresholdOf asked))
 
 -- ---- the hold is a threshold in force
-threshold-most : (asked : Float) → T (le (thresholdOf asked) mostThreshold)
+pub threshold-most : (asked : Float) → T (le (thresholdOf asked) mostThreshold)
 unfolding thresholdOf
 threshold-most x =
     pick (λ y. T (le y mostThreshold)) (finite x) _ _

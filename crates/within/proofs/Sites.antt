@@ -52,8 +52,8 @@ positions-few ramp h = go (isGimp (ramp .kind)) refl
     go : (b : Bool) → isGimp (ramp .kind) ≡ b → length ps ≤ 2048
     go false e = valid ramp e h .sized .most
     go true e =
-        let k = passed-by (gimpShaped (segments ps) (length ps) (length (ramp .channels)) (length (ramp .codes)) && allCarried (segments ps) 0 ps (ramp .codes)) _ (rw e at h) in
-        shaped-few (segments ps) (length ps) (length (ramp .channels)) (length (ramp .codes)) (both-l (gimpShaped (segments ps) (length ps) (length (ramp .channels)) (length (ramp .codes))) (allCarried (segments ps) 0 ps (ramp .codes)) k)
+        let k = passed-by (gimpShaped (segments ps) (length ps) (length (ramp .channels)) (length (ramp .codes)) && allCarried (ramp .kind) (segments ps) 0 ps (ramp .codes)) _ (rw e at h) in
+        shaped-few (segments ps) (length ps) (length (ramp .channels)) (length (ramp .codes)) (both-l (gimpShaped (segments ps) (length ps) (length (ramp .channels)) (length (ramp .codes))) (allCarried (ramp .kind) (segments ps) 0 ps (ramp .codes)) k)
 
 -- ---- the points
 module _ (ramp : Ramp) (rows : List Float) (counts : List ℕ) (ok : Ready rows counts) (few : length (ramp .positions) ≤ 2048) where

@@ -84,13 +84,13 @@ no-twenty : listFalling ≡ otherThreshold → ⊥
 no-twenty h = omega arith
 
 -- ---- a ramp that passes has 2,048 positions at most
-few-positions : (ramp : Ramp) → checkOf ramp ≡ checked.Fine → length (ramp .positions) ≤ 2048
+pub few-positions : (ramp : Ramp) → checkOf ramp ≡ checked.Fine → length (ramp .positions) ≤ 2048
 unfolding mostStops
 few-positions ramp passes = go (isGimp (ramp .kind)) refl
   where
     go : (b : Bool) → isGimp (ramp .kind) ≡ b → length (ramp .positions) ≤ 2048
     go true e =
-        let s = fine-shape (ramp .positions) (ramp .channels) (ramp .codes) (segments-pass ramp passes e) in
+        let s = fine-shape (ramp .kind) (ramp .positions) (ramp .channels) (ramp .codes) (segments-pass ramp passes e) in
         omega (arith, s .most, s .positions)
     go false e = valid ramp e passes .sized .most
 
@@ -98,6 +98,9 @@ module _ (ramp : Ramp) (asked hold : Float) where
   refusal-other : (room : ℕ) (ts : List Float) → refusalWithin ramp asked hold room ts ≡ listFalling → ⊥
   unfolding refusalWithin
   refusal-other room ts = kept-other (colourOf ramp) (min room mostListed) 0 (keptOf ramp asked hold ts)
+
+  pub thin-few : (was : Held) → thinCheck ramp asked was ≡ checked.Fine → length (pointsIn ramp was) ≤ 4609
+  thin-few was fine = list-most (was .rows) (was .counts) (maxOf ramp) (ready ramp asked was fine)
 
   pub thin-within-bounded : (was : Held) (out : Change Output) (r : Listed) → ThinsWithin ramp asked hold was out r → Bounded 10755 r
   thin-within-bounded was out r call =
@@ -108,11 +111,10 @@ module _ (ramp : Ramp) (asked hold : Float) where
         few =
             few-by (thinCheck ramp asked was) _ _ _ 10755 r (call .told)
             (λ fine.
-            let w = ready ramp asked was fine in
-            evaluations-most ramp asked hold (pointsIn ramp was) (list-most (was .rows) (was .counts) (maxOf ramp) w) (few-positions ramp (ramp-fine ramp _ _ _ (sample-fine ramp asked was fine))));
+            evaluations-most ramp asked hold (pointsIn ramp was) (thin-few was fine) (few-positions ramp (ramp-fine ramp _ _ _ (sample-fine ramp asked was fine))));
       }
 
-  fresh-few : length (freshPoints ramp asked hold) ≤ 4609
+  pub fresh-few : length (freshPoints ramp asked hold) ≤ 4609
   unfolding fresh
   fresh-few = list-most _ _ (maxOf ramp) (sampled-ready (colourOf ramp) (farOf asked) (minOf ramp) (maxOf ramp))
 

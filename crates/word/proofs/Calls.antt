@@ -38,9 +38,8 @@ use Rattle.judge.proofs.Theorems.{stands-yes, one-answer}
 use Rattle.refresh.specs.editing.Edited.{edited}
 use Rattle.refresh.specs.editing.Rules.{editCheck}
 use Rattle.refresh.specs.declared.editing.Edit.{Edit}
-use Rattle.refresh.specs.RefreshDesk.{numberOfRefreshed, Refreshes}
+use Rattle.refresh.specs.RefreshDesk.{Refreshes}
 use Rattle.refresh.specs.AfterEdit.{Shaped}
-use Rattle.refresh.specs.declared.Refreshed.{Refreshed}
 use Rattle.refresh.proofs.Theorem as theorem
 use Rattle.refresh.proofs.Calls.{refresh-is-fresh}
 use Rattle.ordinary.specs.Ordinary.{Singles}
@@ -128,7 +127,7 @@ module _ (ramp : Ramp) (asked mine hold : Float) (single : T (fits binary32 aske
 -- ---- a record that was sampled, then refreshed after an edit
 module _ (ramp : Ramp) (e : Edit) (edit : editCheck ramp e ≡ checked.Fine) (asked mine : Float) (single : T (fits binary32 asked)) (single′ : T (fits binary32 mine))
     (held : Change Held) (n : ℕ) (s : Sampled) (done : s ≡ sampled.Done n) (sampling : Samples ramp asked held s)
-    (after : Held) (q : Refreshed) (refreshing : Refreshes ramp e mine (change (held .exit) after) q) (not : numberOfRefreshed q ≡ otherThreshold → ⊥) where
+    (after : Held) (q : Sampled) (refreshing : Refreshes ramp e mine (change (held .exit) after) q) (not : numberOfSampled q ≡ otherThreshold → ⊥) where
   same-lists : (one other : Held) → one ≡ other → OneListWithin (edited ramp e) one other
   same-lists one other p third hold out out₁ out₂ r l v w =
       let u : ThinsWithin (edited ramp e) third hold other (change out out₁) r = rw (← p) v in

@@ -66,7 +66,7 @@ module _ (k : ℕ) (past : 5 < k) (other : k ≡ otherThreshold → ⊥) where
     unfolding checkOf gimpCheck stopsCheck
     ramp-other =
         pick (isGimp (ramp .kind)) _ _
-        (pick (gimpShaped (segments ps) (length ps) (length cs) (length ks) && allCarried (segments ps) 0 ps ks) (cond (allFinite ps && allFinite cs) checked.Fine (checked.Refused notFinite)) (checked.Refused misshapen)
+        (pick (gimpShaped (segments ps) (length ps) (length cs) (length ks) && allCarried (ramp .kind) (segments ps) 0 ps ks) (cond (allFinite ps && allFinite cs) checked.Fine (checked.Refused notFinite)) (checked.Refused misshapen)
         (pick (allFinite ps && allFinite cs) checked.Fine (checked.Refused notFinite) fine (low notFinite (omega arith))) (low misshapen (omega arith)))
         (pick (shaped (ramp .kind) (length ps) (length cs) (length ks)) (eachStop (length ps) 0 (inf true) ps cs) (checked.Refused misshapen) (each-other (length ps) 0 (inf true) ps cs) (low misshapen (omega arith)))
 

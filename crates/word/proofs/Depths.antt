@@ -44,6 +44,19 @@ asked-inside ramp t = go (isGimp (ramp .kind)) (eq t f0) refl
     go true false e d = d
     go false b e d = d
 
+-- and so is each depth that `apart` took
+module _ (ramp : Ramp) (his step : Float) (offer : Offer) (ds : List Float) (was is : List ℕ) (r : Apart) (call : TellsApart ramp his step offer ds was is r)
+    {moved close merged first : ℕ} (told : r ≡ apart.Told moved close merged first) where
+  pub depths-inside : (i : ℕ) → i < length ds → InDomain ramp (posAt ds i)
+  depths-inside i l =
+      let d = depth-inside ramp his step offer ds was is r call told i l in
+      let number = finite-number (posAt ds i) (d .0) in
+      let ends = ends-rise ramp (told-ramp ramp his step offer ds was is r call told) in
+      record {
+        lower = not-lt→le (posAt ds i) (minOf ramp) number (no-nan-l (minOf ramp) (maxOf ramp) ends) (d .1 .0);
+        upper = not-lt→le (maxOf ramp) (posAt ds i) (no-nan-r (minOf ramp) (maxOf ramp) ends) number (d .1 .1);
+      }
+
 -- ---- a list that keeps its word, and depths of its ramp's own
 module _ (ramp : Ramp) (offer : Offer) (hold : Float) (word : KeepsWord ramp offer hold) where
   held-at : (k : ℕ) → k < length (ramp .positions) → (t : Float)
@@ -52,27 +65,17 @@ module _ (ramp : Ramp) (offer : Offer) (hold : Float) (word : KeepsWord ramp off
   held-at k l t (inr (inl e)) = subst (HeldAt ramp offer hold) (sym e) (word .just-below k l)
   held-at k l t (inr (inr e)) = subst (HeldAt ramp offer hold) (sym e) (word .just-above k l)
 
-  own-near : (d : Float) → OwnDepth ramp d → InDomain ramp d → NearBy ramp offer hold d
+  pub own-near : (d : Float) → OwnDepth ramp d → InDomain ramp d → NearBy ramp offer hold d
   own-near d o inside =
       subst (NearBy ramp offer hold) (sym (o .asked))
       (held-at (o .k) (o .there) (o .t) (o .beside) (asked-inside ramp (o .t) (subst (InDomain ramp) (o .asked) inside)))
 
   module _ (his step : Float) (force : thresholdOf his ≡ hold) (ds : List Float) (own : OwnDepths ramp ds) (was is : List ℕ) (r : Apart) (call : TellsApart ramp his step offer ds was is r)
       {moved close merged first : ℕ} (told : r ≡ apart.Told moved close merged first) where
-    inside : (i : ℕ) → i < length ds → InDomain ramp (posAt ds i)
-    inside i l =
-        let d = depth-inside ramp his step offer ds was is r call told i l in
-        let number = finite-number (posAt ds i) (d .0) in
-        let ends = ends-rise ramp (told-ramp ramp his step offer ds was is r call told) in
-        record {
-          lower = not-lt→le (posAt ds i) (minOf ramp) number (no-nan-l (minOf ramp) (maxOf ramp) ends) (d .1 .0);
-          upper = not-lt→le (maxOf ramp) (posAt ds i) (no-nan-r (minOf ramp) (maxOf ramp) ends) number (d .1 .1);
-        }
-
     near : (i : ℕ) → i < length ds → Near ramp his offer (posAt ds i)
     near i l =
         subst (λ (x : Float). T (le (distanceOf (colourOf ramp (posAt ds i)) (colourOf (offeredRamp offer) (posAt ds i))) x)) (sym force)
-        (own-near (posAt ds i) (own i l) (inside i l))
+        (own-near (posAt ds i) (own i l) (depths-inside ramp his step offer ds was is r call told i l))
 
     unmoved : Unmoved ds is moved
     unmoved =

@@ -25,7 +25,7 @@ use Rattle.stops.specs.Stops.{posAt, stopAt}
 use Rattle.stops.specs.Place.{firstAt, placeOf}
 use Rattle.stops.specs.Pair.{pairOf, between, colourIn}
 use Rattle.stops.specs.declared.Kind.{Kind}
-use Rattle.stops.specs.declared.Kind.the-variants.{Linear, Smoothstep, Sharp, Basis, CatmullRom, Gimp}
+use Rattle.stops.specs.declared.Kind.the-variants.{Linear, Smoothstep, Sharp, Basis, CatmullRom, Gimp, GimpSaved}
 use Rattle.stops.proofs.Choice.{before-first, place-first, place-last, place-between}
 use Rattle.gradient.specs.Ramp.{isGimp, colourOf}
 
@@ -154,6 +154,7 @@ module _ (kind : Kind) (ps cs : List Float) (k : ℕ) (x y : Float) (e : x ⊖ p
       go Basis = unfold pairOf basisPair in rw e
       go CatmullRom = unfold pairOf catmullPair in rw e
       go Gimp = unfold pairOf in refl
+      go GimpSaved = unfold pairOf in refl
 
 -- the stop before the first one that is t or more lies below t
 below-pair : (t : Float) (ps : List Float) → le t (posAt ps 0) ≡ false → le t (posAt ps (firstAt t ps - 1)) ≡ false

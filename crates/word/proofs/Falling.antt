@@ -41,7 +41,7 @@ taken true x n h = (refl, h)
 taken false x n h = absurd (no-refusal n h)
 
 module _ (ramp : Ramp) (passes : checkOf ramp ≡ Fine) where
-  pub segments-pass : isGimp (ramp .kind) ≡ true → gimpCheck (ramp .positions) (ramp .channels) (ramp .codes) ≡ Fine
+  pub segments-pass : isGimp (ramp .kind) ≡ true → gimpCheck (ramp .kind) (ramp .positions) (ramp .channels) (ramp .codes) ≡ Fine
   unfolding checkOf
   segments-pass e = rw e at passes
 
@@ -51,7 +51,7 @@ module _ (ramp : Ramp) (passes : checkOf ramp ≡ Fine) where
       let ps = ramp .positions in
       let cs = ramp .channels in
       let ks = ramp .codes in
-      let shape = gimpShaped (segments ps) (length ps) (length cs) (length ks) && allCarried (segments ps) 0 ps ks in
+      let shape = gimpShaped (segments ps) (length ps) (length cs) (length ks) && allCarried (ramp .kind) (segments ps) 0 ps ks in
       both-l (allFinite ps) (allFinite cs) (taken (allFinite ps && allFinite cs) Fine notFinite (taken shape _ misshapen (segments-pass e) .1) .0)
 
   pub position-finite : (i : ℕ) → i < length (ramp .positions) → finite (posAt (ramp .positions) i) ≡ true
@@ -110,5 +110,5 @@ module _ (ps : List Float) (J : Joined ps) (three : length ps ≡ 3 * segments p
 pub joined-rise : (ramp : Ramp) → checkOf ramp ≡ Fine → Joined (ramp .positions) → NeverFalling ramp
 joined-rise ramp passes J e =
     let ps = ramp .positions in
-    let s = fine-shape ps (ramp .channels) (ramp .codes) (segments-pass ramp passes e) in
+    let s = fine-shape (ramp .kind) ps (ramp .channels) (ramp .codes) (segments-pass ramp passes e) in
     rises ps (λ i l. finite-number (posAt ps i) (position-finite ramp passes i l)) (step ps J (s .positions))

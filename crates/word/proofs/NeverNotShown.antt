@@ -41,7 +41,7 @@ use Rattle.within.specs.Promises.{ThinsWithin, FlattensWithin}
 use Rattle.word.proofs.Weighed.{AllShown}
 use Rattle.weighed.proofs.Merging.{rises, none}
 use Rattle.word.specs.Word.{TameOnDomain}
-use Rattle.word.proofs.Singles.{Every, every-both, every-joined, Single, each-merged, own-single}
+use Rattle.word.proofs.Singles.{Every, every-both, every-joined, every-of, Single, each-merged, own-single}
 use Rattle.word.proofs.FreshPoints.{all-single}
 use Rattle.word.proofs.Values.{min-single, max-single}
 use Rattle.word.proofs.CheckNumbers.{sample-other, thin-other, tells-other, first-other}
@@ -107,10 +107,6 @@ module _ (ramp : Ramp) (asked hold : Float) (domain : isDomain (minOf ramp) (max
   never-not-shown room = kept-other (colourOf ramp) (min room mostListed) 0 (keptOf ramp asked hold ts) all-shown
 
 -- ---- the calls
-every-of : (l : List Float) → Singles l → Every Single l
-every-of [] w = tt
-every-of (x ∷ l) w = (w 0 (omega arith), every-of l (λ i h. w (suc i) (omega arith)))
-
 every-take : (k : ℕ) (l : List Float) → Every Single l → Every Single (take k l)
 every-take zero l w = tt
 every-take (suc k) [] w = tt

@@ -37,12 +37,12 @@ use Rattle.word.proofs.EndDistance.{share-one, end-near}
 
 -- ---- of each point that is left
 module _ (P : Site → Type 0) where
-  each-get : (ss : List Site) (i : ℕ) (d : Site) → Each P ss → i < length ss → P (getD ss i d)
+  pub each-get : (ss : List Site) (i : ℕ) (d : Site) → Each P ss → i < length ss → P (getD ss i d)
   each-get [] i d w l = absurd (omega arith)
   each-get (s ∷ ss) zero d w l = w .0
   each-get (s ∷ ss) (suc i) d w l = each-get ss i d (w .1) (omega arith)
 
-  each-drop : (r : ℕ) (ss : List Site) → Each P ss → Each P (drop r ss)
+  pub each-drop : (r : ℕ) (ss : List Site) → Each P ss → Each P (drop r ss)
   each-drop zero ss w = w
   each-drop (suc r) [] w = w
   each-drop (suc r) (s ∷ ss) w = each-drop r ss (w .1)
@@ -60,7 +60,7 @@ module _ (ramp : Ramp) (asked hold : Float) (domain : isDomain (minOf ramp) (max
   abbrev near : ℕ → Rgba → Rgba → Bool
   near = nearWithin (thresholdOf asked) (holdOf asked hold)
 
-  off-least : (m : ℕ) → T (le leastThreshold (offAt (thresholdOf asked) (holdOf asked hold) m))
+  pub off-least : (m : ℕ) → T (le leastThreshold (offAt (thresholdOf asked) (holdOf asked hold) m))
   off-least m = go (eqb m sampledMark)
     where
       go : (b : Bool) → T (le leastThreshold (cond b (thresholdOf asked) (holdOf asked hold)))

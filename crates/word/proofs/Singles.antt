@@ -78,6 +78,10 @@ module _ (P : Site → Type 0) where
 abbrev pub Single : Float → Type 0
 Single x = T (fits binary32 x)
 
+pub every-of : (l : List Float) → Singles l → Every Single l
+every-of [] w = tt
+every-of (x ∷ l) w = (w 0 (omega arith), every-of l (λ i h. w (suc i) (omega arith)))
+
 pub above-single : (x : Float) → Single (aboveOf x)
 unfolding aboveOf
 above-single x =

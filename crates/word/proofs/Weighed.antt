@@ -60,7 +60,7 @@ module _ (max : Float) where
   after a (s ∷ ss) zero w = w .0
   after a (s ∷ ss) (suc r) w = lt-trans a (s .t) (pointIn ss r) (w .0) (after (s .t) ss r (w .1))
 
-  up-to : (a : Float) (ss : List Site) (i r : ℕ) → Rises max a ss → i < length ss → i ≤ r → T (le (siteIn ss i .t) (pointIn ss r))
+  pub up-to : (a : Float) (ss : List Site) (i r : ℕ) → Rises max a ss → i < length ss → i ≤ r → T (le (siteIn ss i .t) (pointIn ss r))
   up-to a [] i r w l k = absurd (omega arith)
   up-to a (s ∷ ss) zero zero w l k = le-refl (s .t) (no-nan-r a (s .t) (lt→le a (s .t) (w .0)))
   up-to a (s ∷ ss) zero (suc r) w l k = lt→le (s .t) (pointIn ss r) (after (s .t) ss r (w .1))

@@ -3,7 +3,7 @@ use mathlib.Core.Path.{_≡_}
 use mathlib.Core.Bool.{true, cond, _&&_}
 use mathlib.Core.List.{List}
 use mathlib.Core.Logic.{_⊎_}
-use Prim.Native.Nat.{ℕ, suc, _*_, _%_, _≤_, _<_}
+use Prim.Native.Nat.{ℕ, suc, _+_, _*_, _%_, _≤_, _<_}
 use lib.Dec.{T}
 use lib.ListN.{length, getD, take}
 use lib.Ieee.{Float, binary32, ofBits, fits, neg, le, lt, eq}
@@ -133,3 +133,11 @@ pub record TameColour (c : Rgba) : Type 0 where
 -- a ramp's colours, throughout its domain
 abbrev pub TameOnDomain : Ramp → Type 0
 TameOnDomain ramp = (t : Float) → InDomain ramp t → TameColour (colourOf ramp t)
+
+-- ---- lists that are never refused
+-- the answer is a list: two stops for each of the ramp's at most, and four more
+pub record ListedFew (ramp : Ramp) (r : Listed) : Type 0 where
+  pub stops : ℕ
+  pub evaluations : ℕ
+  pub done : r ≡ listed.Done stops evaluations
+  pub few : stops ≤ 2 * length (ramp .positions) + 4

@@ -1,42 +1,21 @@
 -- How long the texts are. Assumes nothing.
-use Prim.Native.Nat.{ℕ, zero, suc, _+_, _*_, _/_, _%_, _^_, _≤_, _<_}
-use native.Mathlib.Nat.{div-lt-iff-lt-mul, pow-suc, lt-of-lt-of-le, le-of-eq}
+use Prim.Native.Nat.{ℕ, zero, suc, _+_, _*_, _/_, _%_, _≤_}
 use native.Mathlib.Omega.{arith}
 use mathlib.Core.Path.{_≡_, refl, _∙_}
-use mathlib.Core.Bool.{Bool, true, false, cond}
 use mathlib.Core.List.{List, [], _∷_, _++_}
 use lib.ListN.{length, drop, length-append}
-use lib.Dec.{ltb, lit<}
 use lib.Ieee.{Float, binary32, toBits}
-use borrow.Author.Tests.{lt-ltb}
 use Rattle.blend.specs.declared.Rgba.{Rgba}
 use Rattle.blend.specs.declared.Stop.{Stop}
 use Rattle.stops.specs.Stops.{stopAt}
-use Rattle.writing.specs.Printed.{decimalOf, countText, hexDigit, hexOf, fieldText, colourText, stopText, rowsText, lineText, unreadText, refusedText, evaluationsWord, listText}
+use Rattle.text.proofs.Putting.{length-decimal}
+use Rattle.text.specs.Output.{countText}
+use Rattle.writing.specs.Printed.{hexDigit, hexOf, fieldText, colourText, stopText, rowsText, lineText, unreadText, refusedText, evaluationsWord, listText}
 
 length-hex : (left n : ℕ) → length (hexOf left n) ≡ left
 unfolding hexOf
 length-hex zero n = refl
 length-hex (suc left) n = length-append (hexOf left (n / 16)) (hexDigit (n % 16) ∷ []) ∙ omega (arith, length-hex left (n / 16))
-
-pub length-decimal : (left n : ℕ) → length (decimalOf left n) ≤ left
-unfolding decimalOf
-length-decimal zero n = omega arith
-length-decimal (suc left) n = go (ltb n 10) (length-decimal left (n / 10)) where
-  go : (t : Bool) → length (decimalOf left (n / 10)) ≤ left → length (cond t ((48 + n % 10) ∷ []) (decimalOf left (n / 10) ++ (48 + n % 10) ∷ [])) ≤ suc left
-  go true h = omega arith
-  go false h = omega (arith, length-append (decimalOf left (n / 10)) ((48 + n % 10) ∷ []))
-
--- a number below 10^(k + 1) has at most k + 1 digits
-pub few-digits : (left k n : ℕ) → n < 10 ^ suc k → length (decimalOf left n) ≤ suc k
-unfolding decimalOf
-few-digits zero k n h = omega arith
-few-digits (suc left) zero n h = let l : n < 10 = h in rw (lt-ltb n 10 l) (omega arith)
-few-digits (suc left) (suc k) n h = go (ltb n 10) (few-digits left k (n / 10) (div-lt-iff-lt-mul (lit< tt) .1 (lt-of-lt-of-le h (le-of-eq (pow-suc 10 (suc k))))))
-  where
-    go : (b : Bool) → length (decimalOf left (n / 10)) ≤ suc k → length (cond b ((48 + n % 10) ∷ []) (decimalOf left (n / 10) ++ (48 + n % 10) ∷ [])) ≤ suc (suc k)
-    go true l = omega arith
-    go false l = omega (arith, length-append (decimalOf left (n / 10)) ((48 + n % 10) ∷ []))
 
 length-field : (x : Float) → length (fieldText x) ≡ 9
 unfolding fieldText

@@ -1,12 +1,11 @@
 -- What the tool prints. Document 01, 'Tools read standard input ..': numbers come out as 8 hex digits of bits; every line ends with LF.
-use Prim.Native.Nat.{ℕ, zero, suc, _+_, _/_, _%_, min}
-use mathlib.Core.Path.{_≡_}
+use Prim.Native.Nat.{ℕ, zero, suc, _+_, _/_, _%_}
 use mathlib.Core.Bool.{cond}
 use mathlib.Core.List.{List, [], _∷_, _++_}
-use lib.ListN.{length, drop}
-use lib.Seq.{sets}
+use lib.ListN.{drop}
 use lib.Dec.{ltb}
 use lib.Ieee.{Float, binary32, toBits}
+use Rattle.text.specs.Output.{countText}
 use Rattle.blend.specs.declared.Rgba.{Rgba}
 use Rattle.blend.specs.declared.Stop.{Stop}
 use Rattle.stops.specs.Stops.{stopAt}
@@ -14,15 +13,6 @@ use Rattle.writing.specs.declared.Reply.{Reply}
 use Rattle.writing.specs.declared.Reply.the-variants as reply
 
 -- ---- numbers
-
--- the decimal digits of n, without leading zeros; the last `left` of them where it has more
-unfoldable pub decimalOf : ℕ → ℕ → List ℕ
-decimalOf zero n = []
-decimalOf (suc left) n = cond (ltb n 10) ((48 + n % 10) ∷ []) (decimalOf left (n / 10) ++ (48 + n % 10) ∷ [])
-
--- a count has at most 20
-abbrev pub countText : ℕ → List ℕ
-countText n = decimalOf 20 n
 
 -- '0' to '9', 'a' to 'f'
 unfoldable pub hexDigit : ℕ → ℕ
@@ -81,19 +71,3 @@ abbrev pub replyText : Reply → List Float → List Float → List ℕ
 replyText (reply.Unread line) ps cs = unreadText line
 replyText (reply.Refused number) ps cs = refusedText number
 replyText (reply.Made n evaluations) ps cs = listText n evaluations ps cs
-
--- ---- the promises
-
--- the greatest place, the largest number of 64 bits
-abbrev pub mostPlace : ℕ
-mostPlace = 18446744073709551615
-
--- a text is written from `at` on, as far as the output goes, and the next one starts at r; where it would start past the greatest place, at that
-pub record PutsFrom (out out′ : List ℕ) (at : ℕ) (text : List ℕ) (r : ℕ) : Type 0 where
-  pub next : r ≡ min (at + length text) mostPlace
-  pub written : out′ ≡ sets out at text
-
--- the same of a text that ends before the greatest place
-pub record Puts (out out′ : List ℕ) (at : ℕ) (text : List ℕ) (r : ℕ) : Type 0 where
-  pub next : r ≡ at + length text
-  pub written : out′ ≡ sets out at text

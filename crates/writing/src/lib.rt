@@ -1,13 +1,16 @@
-// What is printed. A byte past the end of the output is dropped, so that a text too long for it is measured all the same. A
-// place is a usize: after the greatest one comes that one again.
+// What is printed.
 use blend::Rgba;
 use blend::Stop;
+use text::output::DECIMALS;
+use text::output::put;
+use text::output::put_all;
+use text::output::put_decimal;
 ghost use mathlib.Core.Path.{_≡_};
-ghost use mathlib.Core.List.{[], _∷_};
 ghost use Prim.Native.Nat.{_<_};
 ghost use Rattle.stops.specs.Lent.{old, new};
-ghost use Rattle.writing.specs.Printed.{decimalOf, hexOf, hexDigit, fieldText, colourText, stopText, rowsText, lineText};
-ghost use Rattle.writing.specs.Printed.{unreadText, refusedText, listText, replyText, PutsFrom, Puts};
+ghost use Rattle.text.specs.Output.{PutsFrom, Puts};
+ghost use Rattle.writing.specs.Printed.{hexOf, hexDigit, fieldText, colourText, stopText, rowsText, lineText};
+ghost use Rattle.writing.specs.Printed.{unreadText, refusedText, listText, replyText};
 
 // What the tool has to say: which line cannot be read, why there is no list, or a list of so many stops. How many is a
 // u32, so that no text is too long to be measured.
@@ -21,54 +24,8 @@ const TAB: u8 = 9;
 
 const LF: u8 = 10;
 
-// Digits of the greatest number, and of the bits of an f32.
-pub const DECIMALS: usize = 20;
-
+// Of the bits of an f32.
 const HEX_DIGITS: usize = 8;
-
-const MOST_PLACE: usize = 18446744073709551615;
-
-// Writes a byte at a place; the place after it.
-pub fn put(out: &mut [u8], at: usize, b: u8) -> usize
-    ensures { λ r. ⌜ PutsFrom (old out) (new out) at (b ∷ []) r ⌝ }
-{
-    if at < out.len() {
-        out[at] = b;
-        return at + 1;
-    }
-    if at < MOST_PLACE {
-        return at + 1;
-    }
-    at
-}
-
-// Writes bytes from a place on; the place after them.
-pub fn put_all(out: &mut [u8], at: usize, text: &[u8]) -> usize
-    ensures { λ r. ⌜ PutsFrom (old out) (new out) at (old text) r ⌝ }
-{
-    let mut next = at;
-    let mut i = 0;
-    while i < text.len() {
-        next = put(out, next, text[i]);
-        i += 1;
-    }
-    next
-}
-
-// Writes the digits of n, the last `left` where it has more; the place after them.
-pub fn put_decimal(out: &mut [u8], at: usize, n: usize, left: usize) -> usize
-    ensures { λ r. ⌜ PutsFrom (old out) (new out) at (decimalOf left n) r ⌝ }
-{
-    if left == 0 {
-        return at;
-    }
-    let digit = 48 + (n % 10) as u8;
-    if n < 10 {
-        return put(out, at, digit);
-    }
-    let next = put_decimal(out, at, n / 10, left - 1);
-    put(out, next, digit)
-}
 
 fn hex_digit(d: u8) -> u8
     requires { ⌜ d < 16 ⌝ }

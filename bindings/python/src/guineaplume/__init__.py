@@ -23,11 +23,12 @@ from .apart import Apart, Fault
 from .colour import Colour
 from .edit import Edit, Sort
 from .gradient import HOLD, STEP, THRESHOLD, Gradient
-from .leaves import cutoff, desk, hold, numeral, root, threshold, token
+from .leaves import cutoff, desk, hold, long_token, numeral, root, threshold, token
 from .lists import List
 from .ramp import Kind, Ramp
 from .record import Record
 from .refusal import Reason, Refusal, Unread
+from .sheet import Sheet
 from .verdict import Judged, Verdict
 
 __version__ = VERSION
@@ -48,6 +49,7 @@ __all__ = [
     'Reason',
     'Record',
     'Refusal',
+    'Sheet',
     'Sort',
     'Unread',
     'Verdict',
@@ -55,6 +57,7 @@ __all__ = [
     'desk',
     'hold',
     'library_version',
+    'long_token',
     'numeral',
     'root',
     'threshold',

@@ -8,6 +8,8 @@ from array import array
 from typing import Any, Callable, List, NamedTuple, Tuple
 
 _RAMP = 'kind: u32, positions: &[f32], channels: &[f32], codes: &[u8]'
+_RAMP_FILLED = 'kind: u32, positions: &mut [f32], channels: &mut [f32], codes: &[u8]'
+_SHEET = 'threshold: f32, list_sort: u32, hold: f32'
 _EDIT = 'sort: u32, stop: usize, position: f32, r: f32, g: f32, b: f32, a: f32'
 _RECORD = 'rows: &[f32], counts: &[u8], marks: &[u32]'
 _FILLED = 'rows: &mut [f32], counts: &mut [u8], marks: &mut [u32]'
@@ -25,7 +27,9 @@ DECLARED = {
     'colorgrad_sharp_told': '(colours: &[f32], min: f32, max: f32, softness: f32, '
     'positions: &mut [f32], channels: &mut [f32], told: &mut [usize]) -> u32',
     'colorgrad_read_told': f'(text: &[u8], {_FOREGROUND}, {_BACKGROUND}, {_SEGMENTS}) -> u32',
+    'colorgrad_read_saved_told': f'(text: &[u8], {_FOREGROUND}, {_BACKGROUND}, {_SEGMENTS}) -> u32',
     'colorgrad_name': '(text: &[u8], out: &mut [u8]) -> usize',
+    'colorgrad_name_saved': '(text: &[u8], out: &mut [u8]) -> usize',
     'colorgrad_write_ggr_told': '(positions: &[f32], channels: &[f32], text: &mut [u8], told: &mut [usize]) -> u32',
     'colorgrad_numeral': '(x: f32, out: &mut [u8]) -> usize',
     'colorgrad_sample_told': f'({_RAMP}, threshold: f32, {_FILLED}, told: &mut [usize]) -> u32',
@@ -40,12 +44,15 @@ DECLARED = {
     'faults: &mut [u8], told: &mut [usize]) -> u32',
     'colorgrad_edit_told': f'({_RAMP}, {_EDIT}, threshold: f32, {_FILLED}, told: &mut [usize]) -> u32',
     'colorgrad_edit_list_told': f'({_RAMP}, {_EDIT}, threshold: f32, {_FILLED}, {_LIST}) -> u32',
+    'colorgrad_sheet_open_told': f'({_RAMP}, stops: usize, {_SHEET}, {_FILLED}, {_LIST}) -> u32',
+    'colorgrad_sheet_edit_told': f'({_RAMP_FILLED}, stops: usize, {_EDIT}, {_SHEET}, {_FILLED}, {_LIST}) -> u32',
     'colorgrad_desk': '(input: &[u8], output: &mut [u8]) -> usize',
     'colorgrad_threshold': '(asked: f32) -> f32',
     'colorgrad_hold': '(asked: f32, threshold: f32) -> f32',
     'colorgrad_root': '(x: f32) -> f32',
     'colorgrad_cutoff': '(t: f32) -> f32',
     'colorgrad_token_told': '(text: &[u8], value: &mut [f32]) -> u32',
+    'colorgrad_long_token_told': '(text: &[u8], value: &mut [f32]) -> u32',
     'colorgrad_message_told': '(refusal: u32, out: &mut [u8]) -> usize',
     'colorgrad_verdict_message_told': '(verdict: u32, out: &mut [u8]) -> usize',
     'colorgrad_version': '() -> u32',

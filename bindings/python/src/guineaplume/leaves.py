@@ -54,6 +54,17 @@ def token(text: Union[bytes, str]) -> Optional[float]:
     return value[0] if call('token_told', _bytes(text), value) else None
 
 
+def long_token(text: Union[bytes, str]) -> Optional[float]:
+    """The number that a text is as a long token: any number of digits, of which 19 count when zeros at the start and at the
+    end are left off, and then perhaps an exponent; None where it is none.
+
+    >>> long_token('0.25000000000000000000'), long_token('25e-2'), long_token('1e99')
+    (0.25, 0.25, inf)
+    """
+    value = zeros('f', 1)
+    return value[0] if call('long_token_told', _bytes(text), value) else None
+
+
 def numeral(x: float) -> Optional[str]:
     """A number as it stands in a written GIMP file, of 9 significant digits; None where it cannot be written.
 

@@ -29,6 +29,12 @@ class Kind(IntEnum):
     BASIS = 3
     CATMULL_ROM = 4
     GIMP = 5
+    GIMP_SAVED = 6
+
+    @property
+    def is_gimp(self) -> bool:
+        """Segments, not stops; of GIMP_SAVED they may be curved."""
+        return self in (Kind.GIMP, Kind.GIMP_SAVED)
 
 
 class Ramp(Gradient):
@@ -68,7 +74,7 @@ class Ramp(Gradient):
     @property
     def _depths(self) -> array[float]:
         """Its own positions; of GIMP segments their ends."""
-        return self._positions if self.kind != Kind.GIMP else self._positions[:1] + self._positions[2::3]
+        return self._positions[:1] + self._positions[2::3] if self.kind.is_gimp else self._positions
 
     # ---- making one
 
@@ -126,9 +132,12 @@ class Ramp(Gradient):
         return cls(Kind.SHARP, positions, channels)
 
     @classmethod
-    def from_ggr(cls, source: 'Source', foreground: ColourLike = BLACK, background: ColourLike = WHITE) -> 'Ramp':
-        """Reads a GIMP gradient: a path, or the bytes themselves. Foreground and background are what a segment may name in
-        place of a colour of its own. Refused with 2 and with 10 to 18, which have the line.
+    def from_ggr(
+        cls, source: 'Source', foreground: ColourLike = BLACK, background: ColourLike = WHITE, *, strict: bool = False
+    ) -> 'Ramp':
+        """Reads a GIMP gradient as GIMP itself saves it: a path, or the bytes themselves. Foreground and background are what a
+        segment may name in place of a colour of its own. Strict, only document 01's files are read: short numbers, names in
+        ASCII, no curved segment. Refused with 2 and with 10 to 18, which have the line.
 
         >>> text = b'GIMP Gradient\\nName: Shelf\\n1\\n0 0.5 1 0 0 0 1 1 1 1 1 0 0\\n'
         >>> shelf = Ramp.from_ggr(text)
@@ -137,7 +146,7 @@ class Ramp(Gradient):
         """
         from .reading import ramp_of_ggr
 
-        return ramp_of_ggr(source, Colour.of(foreground), Colour.of(background))
+        return ramp_of_ggr(source, Colour.of(foreground), Colour.of(background), strict)
 
     @classmethod
     def from_cpt(cls, source: 'Source') -> 'Ramp':
@@ -176,7 +185,7 @@ class Ramp(Gradient):
 
     def __len__(self) -> int:
         """How many stops or segments it has."""
-        return len(self._codes) // 2 if self.kind == Kind.GIMP else len(self._positions)
+        return len(self._codes) // 2 if self.kind.is_gimp else len(self._positions)
 
     def __eq__(self, other: object) -> bool:
         return isinstance(other, Ramp) and self._lent == other._lent
@@ -184,7 +193,7 @@ class Ramp(Gradient):
     __hash__ = None  # type: ignore[assignment]
 
     def __repr__(self) -> str:
-        what = 'segments' if self.kind == Kind.GIMP else 'stops'
+        what = 'segments' if self.kind.is_gimp else 'stops'
         return f'<{self.kind.name.lower()} ramp of {len(self)} {what} from {self.domain[0]:g} to {self.domain[1]:g}>'
 
     # ---- edits

@@ -66,17 +66,22 @@ def ramp_of_rows(kind: Kind, rows: List[Row]) -> Ramp:
 
 # ---- GIMP gradients
 
+# the blending that only ramps of kind GIMP_SAVED have
+CURVED = 1
 
-def ramp_of_ggr(source: Source, foreground: Colour, background: Colour) -> Ramp:
+
+def ramp_of_ggr(source: Source, foreground: Colour, background: Colour, strict: bool) -> Ramp:
+    read, name_of = ('read_told', 'name') if strict else ('read_saved_told', 'name_saved')
     text = array('B', bytes_of(source))
     positions, channels = zeros('f', 3 * MOST_SEGMENTS), zeros('f', 8 * MOST_SEGMENTS)
     codes, told = zeros('B', 2 * MOST_SEGMENTS), zeros('Q', 2)
-    refusal = call('read_told', text, *foreground, *background, positions, channels, codes, told)
+    refusal = call(read, text, *foreground, *background, positions, channels, codes, told)
     line, segments = told
     if refusal:
         raise Refusal(refusal, line)
-    name = text_of('name', text)
-    return Ramp(Kind.GIMP, positions[: 3 * segments], channels[: 8 * segments], codes[: 2 * segments], name)
+    name = text_of(name_of, text)
+    kind = Kind.GIMP_SAVED if CURVED in codes[: 2 * segments : 2] else Kind.GIMP
+    return Ramp(kind, positions[: 3 * segments], channels[: 8 * segments], codes[: 2 * segments], name)
 
 
 # ---- the tool's text

@@ -3,7 +3,7 @@
 use crate::color::distance;
 use crate::fault::{Answer, Fault};
 use crate::ramp::{Ramp, Stops};
-use guineaplume::lent::{self, Kind};
+use guineaplume::slices::{self, Kind};
 use guineaplume::Color;
 
 /// What is said of the depths, one after the other.
@@ -70,7 +70,7 @@ pub fn apart(
         is_close: depth.close,
         is_merged: depth.merged,
     });
-    Ok(Apart { depths: depths.collect(), threshold: lent::threshold(threshold), step })
+    Ok(Apart { depths: depths.collect(), threshold: slices::threshold(threshold), step })
 }
 
 /// The colours of a list, for people: a list may have more stops than a ramp, so it is asked pair by pair.

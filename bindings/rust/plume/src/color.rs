@@ -1,7 +1,7 @@
 //! Colours as people write them, and how far apart two are.
 
 use crate::number;
-use guineaplume::{lent, Color};
+use guineaplume::{slices, Color};
 
 /// Of '#rrggbb' or '#rrggbbaa'.
 pub fn of_hex(text: &str) -> Option<Color> {
@@ -17,15 +17,9 @@ pub fn of_hex(text: &str) -> Option<Color> {
     }
 }
 
-/// Its four channels as bytes.
-pub fn bytes(color: Color) -> [u8; 4] {
-    color.to_array().map(number::byte)
-}
-
 /// '#rrggbb', without alpha.
 pub fn hex(color: Color) -> String {
-    let [r, g, b, _] = bytes(color);
-    format!("#{r:02x}{g:02x}{b:02x}")
+    Color { a: 1.0, ..color }.to_css_hex().to_string()
 }
 
 /// How far apart two colours are, by the library's measure: half the root of the sum of the squared differences of clamped
@@ -33,7 +27,7 @@ pub fn hex(color: Color) -> String {
 pub fn distance(x: Color, y: Color) -> f32 {
     let clamped = |color: Color| color.to_array().map(number::clamped);
     let squares = clamped(x).into_iter().zip(clamped(y)).map(|(a, b)| (a - b) * (a - b));
-    lent::root(squares.fold(0.0, |sum, square| sum + square)) / 2.0
+    slices::root(squares.fold(0.0, |sum, square| sum + square)) / 2.0
 }
 
 /// The lightness L* of a colour, 0 to 100, alpha aside: sRGB, D65. In double precision, so that pictures are the same

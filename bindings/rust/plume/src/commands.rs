@@ -12,7 +12,7 @@ use crate::report;
 use crate::sheet::Way;
 use crate::show;
 use crate::write::{Format, Piece};
-use guineaplume::lent::Kind;
+use guineaplume::slices::Kind;
 
 /// Does something to each file; a bad one does not stop the others. The answer is the highest status.
 fn each(files: &[String], bytes: bool, mut act: impl FnMut(&Source) -> Answer<u8>) -> Answer<u8> {
@@ -91,7 +91,7 @@ pub fn convert(options: &Options) -> Answer<u8> {
 
 fn converted(source: &Source, options: &Options, target: &mut Target) -> Answer<u8> {
     let format = options.format();
-    let keeps_kind = format == Format::Text && source.ramp.kind() != Kind::Gimp;
+    let keeps_kind = format == Format::Text && !matches!(source.ramp, Ramp::Gimp(_));
     let kept = if keeps_kind { Some(source.ramp.stops()) } else { source.ramp.as_list() };
     let Some(stops) = kept.filter(|_| source.edit.is_none()) else {
         let why = if source.edit.is_some() { "it is edited" } else { "it is not mixed linearly" };

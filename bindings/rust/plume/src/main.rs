@@ -77,6 +77,6 @@ fn unknown(command: &str) -> Fault {
 
 /// The library's, which is the program's too.
 fn version() -> String {
-    let number = guineaplume::lent::version();
+    let number = guineaplume::slices::version();
     format!("{}.{}.{}", number / 1_000_000, number / 1000 % 1000, number % 1000)
 }

@@ -8,7 +8,7 @@ use crate::ramp::{stops_of, Ramp, Stops};
 use crate::read::Source;
 use crate::report;
 use crate::sheet::{Sheet, Way};
-use guineaplume::lent::{self, Kind, CELLS};
+use guineaplume::slices::{self, Kind, CELLS};
 use guineaplume::{Color, Refusal, Verdict};
 
 /// A ramp, edits made, with its list.
@@ -28,7 +28,7 @@ pub fn make(source: &Source, edits: &[Word], options: &Options) -> Answer<Made> 
     let refused = |refusal| Fault::refused_since(&source.file, 0, refusal, more(refusal));
     let asked = options.threshold(source.threshold);
     let way = match options.way() {
-        Way::Within(hold) => Way::Within(lent::hold(hold, asked)),
+        Way::Within(hold) => Way::Within(slices::hold(hold, asked)),
         Way::Published => Way::Published,
     };
     let mut sheet = Sheet::open(source.ramp.clone(), asked, way).map_err(refused)?;
@@ -39,7 +39,8 @@ pub fn make(source: &Source, edits: &[Word], options: &Options) -> Answer<Made> 
         let refused = |refusal| Fault::refused_since(&source.file, 0, refusal, &format!("; the edit is '{word}'"));
         sheet.edit(word.of(&sheet.ramp)).map_err(refused)?;
     }
-    let (list, evaluations) = (stops_of(&sheet.list), sheet.list.evaluations());
+    let list = sheet.list().map_err(refused)?;
+    let (list, evaluations) = (stops_of(list), list.evaluations());
     Ok(Made { threshold: sheet.threshold(), way, evaluations, redone: sheet.redone, ramp: sheet.ramp, list })
 }
 
@@ -89,13 +90,13 @@ impl Said {
 /// What is to be said where a number was taken otherwise than it was asked for.
 pub fn notes(source: &Source, options: &Options) -> Vec<String> {
     let asked = options.threshold(source.threshold);
-    let in_force = lent::threshold(asked);
+    let in_force = slices::threshold(asked);
     let mut notes = source.notes.clone();
     if asked != in_force {
         notes.push(format!("{}: the threshold {asked} is taken as {in_force}", source.file));
     }
     if let Way::Within(hold) = options.way() {
-        let held = lent::hold(hold, asked);
+        let held = slices::hold(hold, asked);
         if held != hold {
             notes.push(format!("{}: the hold {hold} is taken as {held}", source.file));
         }

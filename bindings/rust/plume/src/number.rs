@@ -1,17 +1,17 @@
 //! Numbers: read by the library's proved reader, and written.
 
-use guineaplume::lent;
+use guineaplume::slices;
 
 /// The number that the bytes are, by the library's rule: a sign or none, digits with a point or none, 1 to 18 of them.
 pub fn read(text: &str) -> Option<f32> {
-    lent::token(text.as_bytes())
+    slices::token(text.as_bytes())
 }
 
 /// Nine significant digits by the library's proved writer. A number that it does not write, one below 1e-6 or above 1e6 in
 /// size, is written with as many digits as it needs.
 pub fn nine_digits(x: f32) -> String {
-    let mut room = [0; lent::MOST_NUMERAL];
-    let length = lent::numeral(x, &mut room);
+    let mut room = [0; slices::MOST_NUMERAL];
+    let length = slices::numeral(x, &mut room);
     match length {
         0 => short(x),
         _ => room[..length].iter().copied().map(char::from).collect(),
@@ -39,18 +39,6 @@ pub fn clamped(channel: f32) -> f32 {
     channel.max(0.0).min(1.0)
 }
 
-/// How a channel becomes a byte, everywhere: clamped to 0..1, times 255, to the nearest whole number, ties to even.
-pub fn byte(channel: f32) -> u8 {
-    // exact: 24 bits times 8
-    let scaled = f64::from(clamped(channel)) * 255.0;
-    let below = scaled.floor();
-    let is_up = match scaled - below {
-        0.5 => below % 2.0 == 1.0,
-        rest => rest > 0.5,
-    };
-    below as u8 + u8::from(is_up)
-}
-
 /// How a byte, or a number of 0..255 with decimals, becomes a channel.
 pub fn channel(byte: f32) -> f32 {
     byte / 255.0
@@ -59,22 +47,6 @@ pub fn channel(byte: f32) -> f32 {
 #[cfg(test)]
 mod tests {
     use super::*;
-
-    #[test]
-    fn every_byte_comes_back() {
-        for n in 0..=255 {
-            assert_eq!(byte(channel(f32::from(n))), n);
-        }
-    }
-
-    #[test]
-    fn bytes_are_clamped_and_ties_are_even() {
-        assert_eq!([byte(-1.0), byte(1.000_000_1), byte(f32::NAN), byte(f32::INFINITY)], [0, 255, 0, 255]);
-        // 0.5 * 255 is 127.5, and 0.1 * 255 is just above 25.5
-        assert_eq!([byte(0.5), byte(0.1)], [128, 26]);
-        // 1.5 / 255 is no f32: what is near it goes where it lies
-        assert_eq!([byte(0.005_882_352), byte(0.005_882_354)], [1, 2]);
-    }
 
     #[test]
     fn what_is_written_is_read_back() {

@@ -1,6 +1,6 @@
 //! A ramp of any kind, as a file gave it, and stops that are mixed linearly.
 
-use guineaplume::lent::Kind;
+use guineaplume::slices::{self, Kind};
 use guineaplume::{
     BasisGradient, CatmullRomGradient, Color, Edit, GimpGradient, Gradient, LinearGradient, List, Record, Refresh,
     Refusal, SharpGradient, SmoothstepGradient,
@@ -48,6 +48,22 @@ impl Ramp {
         }
     }
 
+    /// Of stops that are lent.
+    pub fn of_slices(lent: slices::Ramp<'_>) -> Result<Ramp, Refusal> {
+        Ramp::of_stops(lent.kind, &stops_in(lent))
+    }
+
+    pub fn boxed(self) -> Box<dyn Gradient> {
+        match self {
+            Ramp::Linear(ramp) => ramp.boxed(),
+            Ramp::Smoothstep(ramp) => ramp.boxed(),
+            Ramp::Sharp(ramp) => ramp.boxed(),
+            Ramp::Basis(ramp) => ramp.boxed(),
+            Ramp::CatmullRom(ramp) => ramp.boxed(),
+            Ramp::Gimp(ramp) => ramp.boxed(),
+        }
+    }
+
     /// What every ramp can be asked.
     pub fn gradient(&self) -> &dyn Gradient {
         match self {
@@ -72,12 +88,12 @@ impl Ramp {
     }
 
     pub fn kind(&self) -> Kind {
-        self.gradient().lent().kind
+        self.gradient().as_slices().kind
     }
 
     /// The positions as they are lent: of stops one each, of GIMP segments three.
     pub fn positions(&self) -> &[f32] {
-        self.gradient().lent().positions
+        self.gradient().as_slices().positions
     }
 
     /// How many stops or segments it has, in words.
@@ -99,8 +115,7 @@ impl Ramp {
 
     /// Its stops, of a kind that has them.
     pub fn stops(&self) -> Stops {
-        let lent = self.gradient().lent();
-        lent.positions.iter().copied().zip(colors(lent.channels)).collect()
+        stops_in(self.gradient().as_slices())
     }
 
     /// Its stops where it is mixed linearly: it is a list already. GIMP segments are so where each is plain, RGB, and has
@@ -114,7 +129,7 @@ impl Ramp {
     }
 
     fn joined(&self) -> Option<Stops> {
-        let lent = self.gradient().lent();
+        let lent = self.gradient().as_slices();
         let is_centred = |p: &[f32]| ((p[1] - p[0]) - (p[2] - p[1])).abs() <= 1e-6;
         if lent.codes.iter().any(|code| *code != 0) || !lent.positions.chunks_exact(3).all(is_centred) {
             return None;
@@ -129,6 +144,10 @@ impl Ramp {
         }
         Some(stops)
     }
+}
+
+fn stops_in(lent: slices::Ramp<'_>) -> Stops {
+    lent.positions.iter().copied().zip(colors(lent.channels)).collect()
 }
 
 /// Four channels each.

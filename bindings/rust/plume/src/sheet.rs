@@ -1,8 +1,8 @@
 //! A ramp with its record and its list, which move together: opened once, changed by edits only.
 
 use crate::ramp::Ramp;
-use guineaplume::lent::{CELLS, ROWS};
-use guineaplume::{Edit, List, Record, Refusal};
+use guineaplume::slices::{CELLS, ROWS};
+use guineaplume::{Edit, Gradient, List, ListSort, Record, Refusal};
 
 /// The sort of list.
 #[derive(Clone, Copy, Debug, PartialEq)]
@@ -13,36 +13,43 @@ pub enum Way {
     Within(f32),
 }
 
+/// The library's sheet, and what is told of it: changed by edits only.
 pub struct Sheet {
+    held: guineaplume::Sheet<Box<dyn Gradient>>,
     pub ramp: Ramp,
-    pub list: List,
-    record: Record,
-    way: Way,
     /// The cells that edits have redone.
     pub redone: [bool; CELLS],
 }
 
 impl Sheet {
     pub fn open(ramp: Ramp, threshold: f32, way: Way) -> Result<Sheet, Refusal> {
-        let (record, list) = match way {
-            Way::Published => ramp.gradient().flatten(threshold)?,
-            Way::Within(hold) => ramp.gradient().flatten_within(threshold, hold)?,
+        let sort = match way {
+            Way::Published => ListSort::Thinned,
+            Way::Within(hold) => ListSort::Within(hold),
         };
-        Ok(Sheet { ramp, list, record, way, redone: [false; CELLS] })
+        let sheet = Sheet {
+            held: guineaplume::Sheet::open(ramp.clone().boxed(), threshold, sort)?,
+            ramp,
+            redone: [false; CELLS],
+        };
+        sheet.list()?;
+        Ok(sheet)
     }
 
     /// The threshold in force.
     pub fn threshold(&self) -> f32 {
-        self.record.threshold()
+        self.held.threshold()
+    }
+
+    pub fn list(&self) -> Result<&List, Refusal> {
+        self.held.list()
     }
 
     pub fn edit(&mut self, edit: Edit) -> Result<(), Refusal> {
-        let redone = redone(self.ramp.clone(), edit, &self.record)?;
-        self.ramp.edit(edit, &mut self.record)?;
-        self.list = match self.way {
-            Way::Published => self.ramp.gradient().thin(&self.record)?,
-            Way::Within(hold) => self.ramp.gradient().thin_within(&self.record, hold)?,
-        };
+        let redone = redone(self.ramp.clone(), edit, self.held.record())?;
+        self.held.edit(edit)?;
+        self.ramp = Ramp::of_slices(self.held.ramp().as_slices())?;
+        self.list()?;
         for (all, now) in self.redone.iter_mut().zip(redone) {
             *all |= now;
         }

@@ -1,4 +1,4 @@
-//! Every format, held to files that compare/golden.py works out of the same lists.
+//! Every format, held to files that compare/trade/golden.py works out of the same lists.
 
 mod common;
 use common::{file, plume};

@@ -55,7 +55,9 @@ fn refusals_have_their_number_and_line() {
     plume(&["flatten", "examples/refused.tsv"])
         .ends(3, &["plume: examples/refused.tsv:4: refused 3: ", "0.25 comes after 0.5"]);
     check(b"kind\tlinear\nstop\t0\t0\t0\t0\t1\n", 3, &["refused 1: ", "the file has 1"]);
-    check(b"GIMP Gradient\nName: x\n1\n0 0.5 1 0 0 0 1 1 1 1 1 1 0\n", 3, &["standard input:4: refused 16: "]);
+    // a curved segment is read; its middle must not lie outside
+    check(b"GIMP Gradient\nName: x\n1\n0 0.5 1 0 0 0 1 1 1 1 1 1 0\n", 0, &[]);
+    check(b"GIMP Gradient\nName: x\n1\n0 1.5 1 0 0 0 1 1 1 1 1 1 0\n", 3, &["standard input:4: refused 16: "]);
     let edited = [GOOD, "edit\t2\t0\t0\t0\t1\n"].concat();
     plume_of(&["flatten", "-"], edited.as_bytes()).ends(3, &["standard input:4: refused 6: "]);
     check(b"GIMP Palette\n", 3, &["standard input:1: refused 11: "]);

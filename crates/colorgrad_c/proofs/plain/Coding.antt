@@ -3,7 +3,7 @@ use mathlib.Core.Path.{_≡_, sym, ap, ap₂, subst, _∙_}
 use Prim.Native.Nat.{ℕ}
 use borrow.Author.Tests.{ne-eqb}
 use Rattle.stops.specs.declared.Kind.{Kind}
-use Rattle.stops.specs.declared.Kind.the-variants.{Linear, Smoothstep, Sharp, Basis, CatmullRom, Gimp}
+use Rattle.stops.specs.declared.Kind.the-variants.{Linear, Smoothstep, Sharp, Basis, CatmullRom, Gimp, GimpSaved}
 use Rattle.colorgrad_c.specs.plain.Kinds.{kindOf, onKind, Shows}
 use Rattle.colorgrad_c.specs.declared.plain.kinds.Coded.{Coded}
 use Rattle.colorgrad_c.specs.declared.plain.kinds.Coded.the-variants.{Of, Unknown}
@@ -33,9 +33,13 @@ pub code-5 : {n : ℕ} → n ≡ 5 → Of Gimp ≡ kindOf n
 unfolding kindOf
 code-5 h = sym (ap kindOf h)
 
-pub no-code : (n : ℕ) → (n ≡ 0 → ⊥) → (n ≡ 1 → ⊥) → (n ≡ 2 → ⊥) → (n ≡ 3 → ⊥) → (n ≡ 4 → ⊥) → (n ≡ 5 → ⊥) → Unknown ≡ kindOf n
+pub code-6 : {n : ℕ} → n ≡ 6 → Of GimpSaved ≡ kindOf n
 unfolding kindOf
-no-code n h0 h1 h2 h3 h4 h5 = simp (ne-eqb n 0 h0, ne-eqb n 1 h1, ne-eqb n 2 h2, ne-eqb n 3 h3, ne-eqb n 4 h4, ne-eqb n 5 h5)
+code-6 h = sym (ap kindOf h)
+
+pub no-code : (n : ℕ) → (n ≡ 0 → ⊥) → (n ≡ 1 → ⊥) → (n ≡ 2 → ⊥) → (n ≡ 3 → ⊥) → (n ≡ 4 → ⊥) → (n ≡ 5 → ⊥) → (n ≡ 6 → ⊥) → Unknown ≡ kindOf n
+unfolding kindOf
+no-code n h0 h1 h2 h3 h4 h5 h6 = simp (ne-eqb n 0 h0, ne-eqb n 1 h1, ne-eqb n 2 h2, ne-eqb n 3 h3, ne-eqb n 4 h4, ne-eqb n 5 h5, ne-eqb n 6 h6)
 
 module _ {A B : Type 0} {code : ℕ} {x : Coded} {P : Kind → A → Type 0} {Q : A → Type 0} {show : A → B} {b : B} (a : A) (is : x ≡ kindOf code) where
   pub of-a-kind : {kind : Kind} → x ≡ Of kind → P kind a → b ≡ show a → Shows code P Q show b

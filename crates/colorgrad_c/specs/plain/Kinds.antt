@@ -4,7 +4,7 @@ use mathlib.Core.Path.{_≡_}
 use mathlib.Core.List.{List}
 use mathlib.Core.Bool.{cond}
 use lib.Dec.{eqb}
-use Rattle.stops.specs.declared.Kind.the-variants.{Linear, Smoothstep, Sharp, Basis, CatmullRom, Gimp}
+use Rattle.stops.specs.declared.Kind.the-variants.{Linear, Smoothstep, Sharp, Basis, CatmullRom, Gimp, GimpSaved}
 use lib.Ieee.{Float}
 use Rattle.stops.specs.Lent.{Lent, Ramp, lentRamp}
 use Rattle.stops.specs.declared.Kind.{Kind}
@@ -19,7 +19,8 @@ kindOf code =
     (cond (eqb code 2) (Of Sharp)
     (cond (eqb code 3) (Of Basis)
     (cond (eqb code 4) (Of CatmullRom)
-    (cond (eqb code 5) (Of Gimp) Unknown)))))
+    (cond (eqb code 5) (Of Gimp)
+    (cond (eqb code 6) (Of GimpSaved) Unknown))))))
 
 -- what is promised of an answer: for the kind of a code, and for a code that names none
 abbrev pub onKind : {A : Type 0} → Coded → (Kind → A → Type 0) → (A → Type 0) → A → Type 0

@@ -15,6 +15,8 @@ pub const CATMULL_ROM: u32 = 4;
 
 pub const GIMP: u32 = 5;
 
+pub const GIMP_SAVED: u32 = 6;
+
 // A kind, or a code that names none.
 pub enum Coded {
     Of(Kind),
@@ -41,6 +43,9 @@ pub(crate) fn kind_of(code: u32) -> Coded
     }
     if code == GIMP {
         return Coded::Of(Kind::Gimp);
+    }
+    if code == GIMP_SAVED {
+        return Coded::Of(Kind::GimpSaved);
     }
     Coded::Unknown
 }

@@ -3,14 +3,12 @@
 use crate::plain::telling::tell_numbers;
 use linearize::Listed;
 use linearize::Sampled;
-use refresh::Refreshed;
 ghost use mathlib.Core.Path.{_≡_};
 ghost use Rattle.stops.specs.Lent.{old, new};
 ghost use Rattle.sampling.specs.Sampling.{numberOfSampled};
 ghost use Rattle.linearize.specs.Desk.{numberOfListed};
-ghost use Rattle.refresh.specs.RefreshDesk.{numberOfRefreshed};
 ghost use Rattle.colorgrad_c.specs.plain.Telling.{telling};
-ghost use Rattle.colorgrad_c.specs.plain.Lists.{sampledTold, listedTold, refreshedTold};
+ghost use Rattle.colorgrad_c.specs.plain.Lists.{sampledTold, listedTold};
 
 // Tells the evaluations.
 pub(crate) fn tell_sampled(sampled: Sampled, told: &mut [usize]) -> u32
@@ -41,23 +39,6 @@ pub(crate) fn tell_listed(listed: Listed, told: &mut [usize]) -> u32
         }
         Listed::Refused(n) => {
             tell_numbers(told, &[0, 0]);
-            n as u32
-        }
-    }
-}
-
-// Tells the evaluations.
-pub(crate) fn tell_refreshed(refreshed: Refreshed, told: &mut [usize]) -> u32
-    ensures { λ r. ⌜ r ≡ numberOfRefreshed refreshed ⌝ }
-    ensures { λ _. ⌜ new told ≡ telling (refreshedTold refreshed) (old told) ⌝ }
-{
-    match refreshed {
-        Refreshed::Done(evaluations) => {
-            tell_numbers(told, &[evaluations]);
-            0
-        }
-        Refreshed::Refused(n) => {
-            tell_numbers(told, &[0]);
             n as u32
         }
     }

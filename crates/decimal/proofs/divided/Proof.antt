@@ -9,16 +9,16 @@ use Rattle.decimal.proofs.divided.Statement.{statement}
 use Rattle.decimal.proofs.divided.Tie as tie
 
 abbrev Inv-loop : tie.InvT-loop
-Inv-loop num den m₀ rest₀ down₀ m rest down = (num * 2 ^ down ≡ m * den + rest) × ((rest < den) × ((m < 16777216) × (down ≤ 65)))
+Inv-loop num den m₀ rest₀ down₀ m rest down = (num * 2 ^ down ≡ m * den + rest) × ((rest < den) × ((m < 16777216) × (down ≤ 24)))
 
 abbrev μ-loop : tie.MeasureT-loop
-μ-loop num den m₀ rest₀ down₀ m rest down = 65 - down
+μ-loop num den m₀ rest₀ down₀ m rest down = 24 - down
 
 loop-holds : tie.Need-loop-holds Inv-loop μ-loop
 loop-holds c = (mul-one _ ∙ sym (div-add-mod' _ _), (mod-lt _ (omega arith), (div-lt-iff-lt-mul {k = c .args .den} (omega arith) .1 (omega arith), omega arith)))
 
--- at a turn fewer than 65 digits were taken
-taken-few : (c : tie.In-loop Inv-loop μ-loop) → c .before .loop .down < 65
+-- at a turn fewer than 23 digits were taken
+taken-few : (c : tie.In-loop Inv-loop μ-loop) → c .before .loop .down < 23
 taken-few c =
     let a = c .before .before .args in
     let l = c .before .loop in

@@ -7,7 +7,6 @@ use native.Mathlib.Omega.{arith}
 use lib.Ieee.{binary32, round, toBits}
 use lib.Ieee.Fits.{nearest-le}
 use lib.Count.{leadingZeros}
-use Rattle.decimal.specs.Decimal.{mostDigits}
 use Rattle.decimal.proofs.Division.{moved-long}
 use Rattle.float.proofs.Fraction.{bits-are, bits-zero}
 use Rattle.float.proofs.Counted.{Shifted, shifted}
@@ -35,12 +34,12 @@ scaled-requires : tie.Need-scaled-requires
 scaled-requires c κs =
     let k = c .before .args .places in
     let e : c .before .args .five ≡ 5 ^ k = c .before .pre .1 in
-    let l : 5 ^ k ≤ 5 ^ mostDigits = five-le k mostDigits (omega arith) in
+    let l : 5 ^ k ≤ 5 ^ 27 = five-le k 27 (omega arith) in
     let m : 1 ≤ 5 ^ k = five-le 0 k (omega arith) in
     (omega arith, omega arith)
 
 divided-requires : tie.Need-divided-requires
-divided-requires c κs = let h = up-to-top (c .before) in (h .some, (c .scaled .ensures .some, (c .scaled .ensures .bound, c .scaled .ensures .above)))
+divided-requires c κs = let h = up-to-top (c .before) in (h .full, (c .scaled .ensures .bound, c .scaled .ensures .above))
 
 cast-down : tie.Need-cast-down
 cast-down c = let h = up-to-top (c .before .before) in omega arith

@@ -22,17 +22,17 @@ pub record RunsTo (s : List ℕ) (from before value five end : ℕ) : Type 0 whe
   pub stops : end < length s → isDigit (getD s end 0) ≡ false
   pub small : value < 10 ^ end
 
--- five doubled up times is from 2 ^ 39 to 2 ^ 42
+-- five doubled up times is from 2 ^ 39 on
 pub record DoublesTo (five up : ℕ) : Type 0 where
   pub lo : 2 ^ 39 ≤ five * 2 ^ up
-  pub hi : five * 2 ^ up < 2 ^ 42
+  pub hi : five * 2 ^ up < 2 ^ 63
   pub few : up ≤ 39
 
 -- den is five doubled up times, and num is less than 2 ^ 24 of it
 pub record ScalesTo (num five den up : ℕ) : Type 0 where
   pub is : den ≡ five * 2 ^ up
   pub some : 0 < den
-  pub bound : den < 2 ^ 42
+  pub bound : den < 2 ^ 63
   pub above : num < 16777216 * den
   pub few : up ≤ 40
 
@@ -42,9 +42,9 @@ pub record DividesTo (num den m rest down : ℕ) : Type 0 where
   pub less : rest < den
   pub lo : 8388608 ≤ m
   pub hi : m < 16777216
-  pub few : down ≤ 65
+  pub few : down ≤ 24
 
--- r has the bits of d / p rounded to binary32, which is finite, but for the sign's
+-- r has the bits of d / p rounded to binary32, but for the sign's
 pub record BitsOf (d p r : ℕ) : Type 0 where
-  pub small : r < 2139095040
+  pub small : r ≤ 2139095040
   pub signed : (s : Bool) → cond s (2 ^ 31) 0 + r ≡ toBits binary32 (round binary32 s d p)

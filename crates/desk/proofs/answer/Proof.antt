@@ -1,6 +1,6 @@
 -- `answer` meets its contract: what is written is what there is to say. Assumes nothing.
 use borrow.Author.Needs.{needs}
-use Rattle.writing.proofs.Texts.{puts-as}
+use Rattle.text.proofs.Putting.{puts-as}
 use Rattle.desk.proofs.answer.Statement.{statement}
 use Rattle.desk.proofs.answer.Tie as tie
 

@@ -8,10 +8,10 @@ use Rattle.files.proofs.rows.Statement.{statement}
 use Rattle.files.proofs.rows.Tie as tie
 
 abbrev Inv-loop : tie.InvT-loop
-Inv-loop s at₀ at = at ≤ length s
+Inv-loop saved s at₀ at = at ≤ length s
 
 abbrev μ-loop : tie.MeasureT-loop
-μ-loop s at₀ at = length s - at
+μ-loop saved s at₀ at = length s - at
 
 part-row-start : tie.Need-part-row-start Inv-loop μ-loop
 part-row-start c = c .line-at .ensures .order

@@ -11,7 +11,7 @@ use lib.Ieee.{Float, le}
 use Rattle.blend.specs.Channels.{channelsOf}
 use Rattle.blend.specs.declared.Rgba.{Rgba}
 use Rattle.stops.specs.Stops.{colourAt}
-use Rattle.gradient.specs.Gimp.{stepCode, isHued, unwaved, blended}
+use Rattle.gradient.specs.Gimp.{stepCode, isCostly, unwaved, blended}
 use Rattle.gradient.specs.declared.gimp.Segment.{Segment}
 use Rattle.gradient.proofs.GimpLaws.{by-rest}
 
@@ -26,7 +26,7 @@ pub end-there : (g : Segment) {ends : List Float} → ends ≡ endsOf g → (b :
 end-there g e true = rw e (omega arith)
 end-there g e false = rw e (omega arith)
 
-pub by-step : (g : Segment) (pivot place : Float) {ends : List Float} {z : Rgba} → isHued (g .colouring) ≡ false → ends ≡ endsOf g → g .blending ≡ stepCode
+pub by-step : (g : Segment) (pivot place : Float) {ends : List Float} {z : Rgba} → isCostly (g .blending) (g .colouring) ≡ false → ends ≡ endsOf g → g .blending ≡ stepCode
     → z ≡ colourAt ends (boolByte (le pivot place)) → z ≡ blended g pivot place
 unfolding unwaved
 by-step g pivot place h e s z =

@@ -12,7 +12,7 @@ use lib.Ieee.{Float, nan, lt}
 use Rattle.float.proofs.Flags.{both-l, both-r}
 use Rattle.float.proofs.Order.{lt-irrefl}
 use Rattle.blend.specs.declared.Rgba.{Rgba}
-use Rattle.gradient.specs.Gimp.{segments, leftAt, rightAt, segmentFound, colouringAt, isHued, gimpSegment, along, blended, offDomain, gimpColour}
+use Rattle.gradient.specs.Gimp.{segments, leftAt, rightAt, segmentFound, blendingAt, colouringAt, isCostly, gimpSegment, along, blended, offDomain, gimpColour}
 use Rattle.gradient.proofs.GimpLaws.{inside, segment-coloured}
 use Rattle.gradient.proofs.GimpSearch.{found-inside, strict-hit, in-domain}
 use Rattle.gradient.specs.declared.gimp.Segment.{Segment}
@@ -39,9 +39,9 @@ module _ (ps cs : List Float) (ks : List ℕ) (s : ℕ) {g : Segment} (held : g 
   pub shaded : (ts : List Float) (i : ℕ) {pivot place : Float} {z : Rgba} → Lies ps ts s i → pivot ≡ along (g .left) (g .right) (g .middle) → place ≡ along (g .left) (g .right) (getD ts i nan) → z ≡ blended g pivot place → z ≡ gimpColour ps cs ks (getD ts i nan)
   shaded ts i w m f e = let t = getD ts i nan in inside ps cs ks t refl (w .on) (w .found) held (segment-coloured g t m f e)
 
-  pub hued-so : {b : Bool} → isHued (colouringAt ks s) ≡ b → isHued (g .colouring) ≡ b
+  pub costly-so : {b : Bool} → isCostly (blendingAt ks s) (colouringAt ks s) ≡ b → isCostly (g .blending) (g .colouring) ≡ b
   unfolding gimpSegment
-  hued-so h = ap (λ (x : Segment). isHued (x .colouring)) held ∙ h
+  costly-so h = ap (λ (x : Segment). isCostly (x .blending) (x .colouring)) held ∙ h
 
   -- what lies strictly inside is a point before the end, since the left end does not
   module _ (ts : List Float) (j end : ℕ) {t : Float} (peeked : Peeked ts j end (g .left) t) {b : Bool} (e : b ≡ strictlyInside (g .left) (g .right) t) (inner : b ≡ true) where

@@ -11,9 +11,8 @@ use borrow.Author.Tests.{leb-true, le-leb, lt-leb, not-true}
 use Rattle.float.specs.F32.{f0, f1}
 use Rattle.float.proofs.Flags.{both-l, both-r}
 use Rattle.float.proofs.Order.{no-nan-l, not-lt→le}
-use Rattle.stops.specs.Stops.{posAt}
-use Rattle.sharp_ramp.specs.Sharp.{steady}
-use Rattle.sharp_ramp.proofs.Valid.{steady-rising}
+use Rattle.stops.specs.Stops.{posAt, steady}
+use Rattle.stops.proofs.Steady.{steady-rising}
 use Rattle.paint.specs.inner.Segments.{segmentsInOrder, Orderly}
 
 zero-is : isNan f0 ≡ false

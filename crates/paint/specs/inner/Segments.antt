@@ -9,10 +9,9 @@ use lib.Ieee.{Float, nan, inf, le, lt}
 use Rattle.float.specs.F32.{f0, f1}
 use Rattle.blend.specs.Channels.{coloursOf}
 use Rattle.blend.specs.declared.Rgba.{Rgba}
-use Rattle.stops.specs.Stops.{posAt}
+use Rattle.stops.specs.Stops.{posAt, steady}
 use Rattle.stops.specs.Place.{Rising}
 use Rattle.gradient.specs.Gimp.{segments, segmentFound, offDomain}
-use Rattle.sharp_ramp.specs.Sharp.{steady}
 
 -- segments: one or more, and lengths that agree
 pub record Cut (ps cs : List Float) (ks : List ℕ) : Type 0 where

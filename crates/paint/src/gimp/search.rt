@@ -24,7 +24,7 @@ pub(crate) fn is_orderly(positions: &[f32]) -> bool
     if positions[n - 1] > 1.0 {
         return false;
     }
-    sharp_ramp::is_steady(positions, positions[n - 1])
+    stops::is_steady(positions, positions[n - 1])
 }
 
 // 1 where t lies past the left end of segment i, else 0.

@@ -18,7 +18,7 @@ use Rattle.stops.specs.Stops.{posAt, colourAt, stopAt}
 use Rattle.stops.specs.Place.{Rising, placeOf}
 use Rattle.stops.specs.Pair.{beyond, leftOf, rightOf, pairOf, between, colourIn}
 use Rattle.stops.specs.declared.Kind.{Kind}
-use Rattle.stops.specs.declared.Kind.the-variants.{Linear, Smoothstep, Sharp, Basis, CatmullRom, Gimp}
+use Rattle.stops.specs.declared.Kind.the-variants.{Linear, Smoothstep, Sharp, Basis, CatmullRom, Gimp, GimpSaved}
 use Rattle.stops.specs.declared.Place.{Place}
 use Rattle.stops.specs.declared.Place.the-variants.{End, Nowhere, Between}
 use Rattle.gradient.specs.Ramp.{isGimp, colourOf}
@@ -59,6 +59,7 @@ module _ (ps cs : List Float) (k : ℕ) (colour : Rgba) (t : Float) where
   beside Basis n j x y h = ap (λ (c : Rgba). basisPair c x y (rightOf (changed cs k colour) n j (x .colour) (y .colour)) t) (left j (x .colour) (y .colour) h) ∙ ap (λ (c : Rgba). basisPair (leftOf cs j (x .colour) (y .colour)) x y c t) (right n j (x .colour) (y .colour) h)
   beside CatmullRom n j x y h = ap (λ (c : Rgba). catmullPair c x y (rightOf (changed cs k colour) n j (x .colour) (y .colour)) t) (left j (x .colour) (y .colour) h) ∙ ap (λ (c : Rgba). catmullPair (leftOf cs j (x .colour) (y .colour)) x y c t) (right n j (x .colour) (y .colour) h)
   beside Gimp n j x y h = refl
+  beside GimpSaved n j x y h = refl
 
   pub unread : (kind : Kind) (p : Place) → Unread (reachOf kind) k p → colourIn kind ps (changed cs k colour) t p ≡ colourIn kind ps cs t p
   unfolding colourIn between

@@ -16,7 +16,7 @@ use Rattle.blend.specs.Channels.{channelsOf}
 use Rattle.stops.specs.Lent.{Ramp}
 use Rattle.stops.specs.Stops.{posAt, colourAt, finiteRgba, isSharp}
 use Rattle.stops.specs.declared.Kind.{Kind}
-use Rattle.stops.specs.declared.Kind.the-variants.{Linear, Smoothstep, Sharp, Basis, CatmullRom, Gimp}
+use Rattle.stops.specs.declared.Kind.the-variants.{Linear, Smoothstep, Sharp, Basis, CatmullRom, Gimp, GimpSaved}
 use Rattle.stops.specs.declared.Checked.the-variants.{Fine}
 use Rattle.stops.proofs.Valid.{Valid}
 use Rattle.gradient.specs.Ramp.{isGimp, checkOf, minIn, maxIn, minOf, maxOf, colourOf}
@@ -44,6 +44,7 @@ of-stops Sharp h = refl
 of-stops Basis h = refl
 of-stops CatmullRom h = refl
 of-stops Gimp h = sym h
+of-stops GimpSaved h = sym h
 
 straight-stops : (kind : Kind) → movable kind ≡ true → isGimp kind ≡ false
 straight-stops Linear h = refl
@@ -52,6 +53,7 @@ straight-stops Sharp h = refl
 straight-stops Basis h = refl
 straight-stops CatmullRom h = refl
 straight-stops Gimp h = sym h
+straight-stops GimpSaved h = sym h
 
 -- any number of stops will do
 any-number : (kind : Kind) → movable kind ≡ true → (b : Bool) → (not (isSharp kind) || b) ≡ true
@@ -61,6 +63,7 @@ any-number Sharp h b = absurd (true≢false (sym h))
 any-number Basis h b = refl
 any-number CatmullRom h b = refl
 any-number Gimp h b = refl
+any-number GimpSaved h b = refl
 
 -- ---- a stop moved, added or removed
 module _ (ramp : Ramp) (fine : checkOf ramp ≡ Fine) (straight : movable (ramp .kind) ≡ true) where

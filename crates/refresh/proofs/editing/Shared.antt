@@ -19,7 +19,7 @@ use Rattle.stops.specs.Stops.{posAt, colourAt, stopAt}
 use Rattle.stops.specs.Place.{Rising, firstAt, placeOf}
 use Rattle.stops.specs.Pair.{pairOf, between, colourIn}
 use Rattle.stops.specs.declared.Kind.{Kind}
-use Rattle.stops.specs.declared.Kind.the-variants.{Linear, Smoothstep, Sharp, Basis, CatmullRom, Gimp}
+use Rattle.stops.specs.declared.Kind.the-variants.{Linear, Smoothstep, Sharp, Basis, CatmullRom, Gimp, GimpSaved}
 use Rattle.stops.proofs.Choice.{rising-numbers, first-reaches, before-first, place-first, place-last, place-nan, place-between}
 use Rattle.stops.proofs.Valid.{first-le, pair-inside}
 use Rattle.refresh.specs.reach.Stretch.{stretchBetween, beforeOf, afterOf, outsideOf}
@@ -46,6 +46,7 @@ pair-same Sharp h cs ds n m k k′ p q p′ q′ t e f = absurd (true≢false (s
 pair-same Basis h cs ds n m k k′ p q p′ q′ t e f = absurd (true≢false (sym h))
 pair-same CatmullRom h cs ds n m k k′ p q p′ q′ t e f = absurd (true≢false (sym h))
 pair-same Gimp h cs ds n m k k′ p q p′ q′ t e f = absurd (true≢false (sym h))
+pair-same GimpSaved h cs ds n m k k′ p q p′ q′ t e f = absurd (true≢false (sym h))
 
 stop-same : (ps cs qs ds : List Float) (k k′ : ℕ) → (posAt qs k′ ≡ posAt ps k) × (colourAt ds k′ ≡ colourAt cs k) → stopAt ps cs k ≡ stopAt qs ds k′
 stop-same ps cs qs ds k k′ e = rw (e .0, e .1)

@@ -20,7 +20,7 @@ use Rattle.stops.proofs.Valid.{first-le}
 use Rattle.stops.specs.Stops.{posAt}
 use Rattle.stops.specs.Place.{Rising, firstAt, placeOf}
 use Rattle.stops.specs.declared.Kind.{Kind}
-use Rattle.stops.specs.declared.Kind.the-variants.{Linear, Smoothstep, Sharp, Basis, CatmullRom, Gimp}
+use Rattle.stops.specs.declared.Kind.the-variants.{Linear, Smoothstep, Sharp, Basis, CatmullRom, Gimp, GimpSaved}
 use Rattle.stops.specs.declared.Place.{Place}
 use Rattle.stops.specs.declared.Place.the-variants.{End, Nowhere, Between}
 use Rattle.refresh.specs.reach.Stretch.{reachOf, leftEnd, ownEnd, colourStretch, beforeOf, afterOf, outsideOf}
@@ -38,6 +38,7 @@ reach-some Sharp = omega arith
 reach-some Basis = omega arith
 reach-some CatmullRom = omega arith
 reach-some Gimp = omega arith
+reach-some GimpSaved = omega arith
 
 -- ---- where t is found
 pub past-all : (t : Float) (ps : List Float) (j : ℕ) → j ≤ length ps → ((i : ℕ) → i < j → le t (posAt ps i) ≡ false) → j ≤ firstAt t ps

@@ -98,13 +98,13 @@ returns-2 c =
 
 returns-3 : tie.Need-returns-3
 returns-3 c =
-    let sampled = c .before .before .before .before .before .before .before in
+    let sampled = c .before .before .before .before .before .before in
     let kept = sampled .before .before .before .before .before .before in
     let told = kept .before in
     let k = told .before .before .before .before .before in
     let thin = sym (thinned k .check-thin .ensures .answer) ∙ passed k .enum-told .given .1 in
     let made = holds k _ (told .before .n3 .given .1) in
-    refresh-done _ _ _ _ (by-edit (ramp k) (edit k) (start k .args .threshold) _ thin (made .edit-fine)) _ _ (same k _ made) (kept .kept .ensures) _ _ (sampled .resample .ensures) (c .refreshed-by .ensures)
+    refresh-done _ _ _ _ (by-edit (ramp k) (edit k) (start k .args .threshold) _ thin (made .edit-fine)) _ _ (same k _ made) (kept .kept .ensures) _ (sampled .resample .ensures)
 
 pub refresh-spec : {M : Type 1} → statement M
 refresh-spec =
@@ -124,7 +124,6 @@ refresh-spec =
     slice-aggregate-resample
     array-share-prefix-copied-channels
     slice-aggregate-resample-2
-    (λ c κs. search needs)
     (λ c κs. search needs)
     (λ c. search needs)
     (λ c. search needs)

@@ -11,7 +11,7 @@ use Rattle.refusals.specs.Limits.{mostStops}
 use Rattle.stops.specs.Lent.{Ramp}
 use Rattle.stops.specs.Stops.{posAt, finiteRgba}
 use Rattle.stops.specs.declared.Kind.{Kind}
-use Rattle.stops.specs.declared.Kind.the-variants.{Linear, Smoothstep, Sharp, Basis, CatmullRom, Gimp}
+use Rattle.stops.specs.declared.Kind.the-variants.{Linear, Smoothstep, Sharp, Basis, CatmullRom, Gimp, GimpSaved}
 use Rattle.stops.specs.declared.Checked.{Checked}
 use Rattle.stops.specs.declared.Checked.the-variants as checked
 use Rattle.refresh.specs.declared.editing.Edit.{Edit}
@@ -25,6 +25,7 @@ refreshable Sharp = false
 refreshable Basis = true
 refreshable CatmullRom = true
 refreshable Gimp = false
+refreshable GimpSaved = false
 
 -- the kinds of which a stop can be moved, added or removed
 abbrev pub movable : Kind → Bool
@@ -34,6 +35,7 @@ movable Sharp = false
 movable Basis = false
 movable CatmullRom = false
 movable Gimp = false
+movable GimpSaved = false
 
 -- stop k of n is neither the first nor the last; place k is between two stops
 unfoldable pub isInner : ℕ → ℕ → Bool

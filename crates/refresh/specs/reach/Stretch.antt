@@ -7,7 +7,7 @@ use lib.ListN.{length}
 use lib.Ieee.{Float, nan, inf, lt, le}
 use Rattle.stops.specs.Stops.{posAt}
 use Rattle.stops.specs.declared.Kind.{Kind}
-use Rattle.stops.specs.declared.Kind.the-variants.{Linear, Smoothstep, Sharp, Basis, CatmullRom, Gimp}
+use Rattle.stops.specs.declared.Kind.the-variants.{Linear, Smoothstep, Sharp, Basis, CatmullRom, Gimp, GimpSaved}
 use Rattle.sampling.specs.Constants.{depth}
 use Rattle.sampling.specs.Midpoints.{midOf}
 use Rattle.sampling.specs.Cells.{edgeOf}
@@ -37,6 +37,7 @@ reachOf Sharp = 1
 reachOf Basis = 2
 reachOf CatmullRom = 2
 reachOf Gimp = 1
+reachOf GimpSaved = 1
 
 -- for the last stop an outside point must also lie below its position; ∞ says nothing
 unfoldable pub ownEnd : List Float → ℕ → Float

@@ -25,6 +25,7 @@ fn is_refreshable(kind: Kind) -> bool
         Kind::Basis => true,
         Kind::CatmullRom => true,
         Kind::Gimp => false,
+        Kind::GimpSaved => false,
     }
 }
 
@@ -38,6 +39,7 @@ fn is_movable(kind: Kind) -> bool
         Kind::Basis => false,
         Kind::CatmullRom => false,
         Kind::Gimp => false,
+        Kind::GimpSaved => false,
     }
 }
 

@@ -26,6 +26,7 @@ fn reach_of(kind: Kind) -> usize
         Kind::Basis => 2,
         Kind::CatmullRom => 2,
         Kind::Gimp => 1,
+        Kind::GimpSaved => 1,
     }
 }
 

@@ -10,13 +10,13 @@ use Rattle.rows.proofs.row_at.Statement.{statement}
 use Rattle.rows.proofs.row_at.Tie as tie
 
 abbrev Inv-loop : tie.InvT-loop
-Inv-loop s at by d₀ n₀ i₀ d n i = Sofar by s at d n i
+Inv-loop s at by notation d₀ n₀ i₀ d n i = Sofar notation by s at d n i
 
 abbrev μ-loop : tie.MeasureT-loop
-μ-loop s at by d₀ n₀ i₀ d n i = length s + 1 - i
+μ-loop s at by notation d₀ n₀ i₀ d n i = length s + 1 - i
 
 loop-holds : tie.Need-loop-holds Inv-loop μ-loop
-loop-holds c = let a = c .before .args in begun (a .by) (a .s .now) (a .at)
+loop-holds c = let a = c .before .args in begun (a .notation) (a .by) (a .s .now) (a .at)
 
 returns : tie.Need-returns Inv-loop μ-loop
 returns c = let t = c .before .before in let w = t .before .before in
@@ -30,21 +30,21 @@ returns-3 : tie.Need-returns-3 Inv-loop μ-loop
 returns-3 c = let t = c .before .before in let w = t .before .before in
     over (w .before .loop .inv) (w .field-at .ensures) (not-false _ (t .if1 .left)) (c .before .if3 .taken) (c .no-row2 .ensures)
 
-sub-read : tie.Need-sub-read Inv-loop μ-loop
-sub-read c = let e = c .before in
+sub-token-of : tie.Need-sub-token-of Inv-loop μ-loop
+sub-token-of c = let e = c .before in
     omega (arith, e .before .before .field-at .ensures .order (not-false _ (e .if1 .left)))
 
-part-read-start : tie.Need-part-read-start Inv-loop μ-loop
-part-read-start c = let e = c .before in
+part-token-of-start : tie.Need-part-token-of-start Inv-loop μ-loop
+part-token-of-start c = let e = c .before in
     e .before .before .field-at .ensures .order (not-false _ (e .if1 .left))
 
-part-read-end : tie.Need-part-read-end Inv-loop μ-loop
-part-read-end c = let e = c .before in
+part-token-of-end : tie.Need-part-token-of-end Inv-loop μ-loop
+part-token-of-end c = let e = c .before in
     omega (arith, e .before .before .field-at .ensures .within (not-false _ (e .if1 .left)))
 
 returns-4 : tie.Need-returns-4 Inv-loop μ-loop
 returns-4 c = let d = c .before .before .before in let e = d .before .before .before in let w = e .before .before in
-    no-number (w .before .loop .inv) (w .field-at .ensures) (not-false _ (e .if1 .left)) (sym (d .read .ensures) ∙ c .before .enum-told .given .1) (c .no-row3 .ensures)
+    no-number (w .before .loop .inv) (w .field-at .ensures) (not-false _ (e .if1 .left)) (sym (d .token-of .ensures) ∙ c .before .enum-told .given .1) (c .no-row3 .ensures)
 
 loop-less : tie.Need-loop-less Inv-loop μ-loop
 loop-less c = let e = c .before .before .before .before .before .before in let f = e .before .before .field-at .ensures in
@@ -52,7 +52,7 @@ loop-less c = let e = c .before .before .before .before .before .before in let f
 
 loop-again : tie.Need-loop-again Inv-loop μ-loop
 loop-again c = let d = c .before .before .before in let e = d .before .before .before in let w = e .before .before in
-    kept (w .before .loop .inv) (w .field-at .ensures) (not-false _ (e .if1 .left)) (sym (d .read .ensures) ∙ c .before .x .given .1) (search needs)
+    kept (w .before .loop .inv) (w .field-at .ensures) (not-false _ (e .if1 .left)) (sym (d .token-of .ensures) ∙ c .before .x .given .1) (search needs)
 
 pub row-at-spec : {M : Type 1} → statement M
 row-at-spec =
@@ -67,9 +67,9 @@ row-at-spec =
     returns-2
     (λ c κs. search needs)
     returns-3
-    sub-read
-    part-read-start
-    part-read-end
+    sub-token-of
+    part-token-of-start
+    part-token-of-end
     (λ c κs. search needs)
     (λ c. search needs)
     (λ c. search needs)

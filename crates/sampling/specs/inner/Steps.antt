@@ -53,6 +53,10 @@ DrawnAt ramp k s = 1 ≤ k → s ≡ drawnFor (ramp .channels) (length (ramp .po
 abbrev pub Carrying : Ramp → ℕ → Drawn → Type 0
 Carrying ramp k s = isCatmullRom (ramp .kind) ≡ true → DrawnAt ramp k s
 
+-- a point at t, whose pair is in hand, drawn
+abbrev pub PointDrawn : Ramp → Gradient → Float → Drawn → Point → Type 0
+PointDrawn ramp g t s p = PointAt g t p × Carrying ramp (p .pair) s
+
 -- the ends of a stretch of a checked ramp carry their colours
 pub record Between (ramp : Ramp) (p q : Point) : Type 0 where
   pub fine : checkOf ramp ≡ Fine

@@ -9,7 +9,8 @@ use lib.Ieee.{Float, inf}
 use denote.Ref.{now}
 use Rattle.refusals.specs.Limits.{mostColours}
 use Rattle.float.proofs.Flags.{failed, passed}
-use Rattle.sharp_ramp.specs.Sharp.{sharpPositions, sharpChannels, domainFits, steady, bands}
+use Rattle.stops.specs.Stops.{steady}
+use Rattle.sharp_ramp.specs.Sharp.{sharpPositions, sharpChannels, domainFits, bands}
 use Rattle.sharp_ramp.proofs.Laws.{builds, few, Room, room, build-domain, build-fit, build-room, build-finite, build-stops, length-positions, length-channels, longer, after-refused, after-stops, after-copy}
 use borrow.Author.Needs.{needs}
 use Rattle.sharp_ramp.proofs.build.Statement.{statement}

@@ -12,7 +12,7 @@ returns : tie.Need-returns
 returns c =
     let a = c .before .before .before .before .before .args in
     let s = c .before .stop-refusal in
-    refused-run (a .room) (run (a .s) (a .out-positions .now) (a .out-channels .now)) (a .p) (s .result) (s .ensures) (c .if1 .taken)
+    refused-run (a .room) (run (a .s) (a .places .now) (a .colours .now)) (a .p) (s .result) (s .ensures) (c .if1 .taken)
 
 add-t15 : tie.Need-add-t15
 add-t15 c =
@@ -25,7 +25,7 @@ returns-2 c =
     let at-put = c .before .before .before .before .before .before in
     let at-test = at-put .before .before in
     let a = at-test .before .before .before .before .before .args in
-    emitted-run (a .room) (run (a .s) (a .out-positions .now) (a .out-channels .now)) (a .p) _ _ (sym (at-test .before .stop-refusal .ensures) ∙ at-test .if1 .left) (at-put .put .ensures) (c .before .before .put-stop .ensures)
+    emitted-run (a .room) (run (a .s) (a .places .now) (a .colours .now)) (a .p) _ _ (sym (at-test .before .stop-refusal .ensures) ∙ at-test .if1 .left) (at-put .put .ensures) (c .before .before .put-stop .ensures)
 
 pub emit-spec : {M : Type 1} → statement M
 emit-spec =

@@ -13,7 +13,7 @@ returns c =
     let at-sum = c .before .before in
     let at-weigh = at-sum .before in
     let a = at-weigh .before .before .before .before .args in
-    passed-run (exceeds (a .cutoff)) (a .room) (run (a .s) (a .out-positions .now) (a .out-channels .now)) (a .x) (a .next) (at-weigh .weigh .ensures) (at-sum .sum .ensures) (not-true _ (c .if1 .taken))
+    passed-run (exceeds (a .cutoff)) (a .room) (run (a .s) (a .places .now) (a .colours .now)) (a .x) (a .next) (at-weigh .weigh .ensures) (at-sum .sum .ensures) (not-true _ (c .if1 .taken))
 
 returns-2 : tie.Need-returns-2
 returns-2 c =
@@ -23,7 +23,7 @@ returns-2 c =
     let at-weigh = at-sum .before in
     let a = at-weigh .before .before .before .before .args in
     at-emit .emit .ensures
-    ∙ kept-run (exceeds (a .cutoff)) (a .room) (run (a .s) (a .out-positions .now) (a .out-channels .now)) (a .x) (a .next) (at-weigh .weigh .ensures) (at-sum .sum .ensures) (not-false _ (at-test .if1 .left))
+    ∙ kept-run (exceeds (a .cutoff)) (a .room) (run (a .s) (a .places .now) (a .colours .now)) (a .x) (a .next) (at-weigh .weigh .ensures) (at-sum .sum .ensures) (not-false _ (at-test .if1 .left))
 
 pub step-spec : {M : Type 1} → statement M
 step-spec =

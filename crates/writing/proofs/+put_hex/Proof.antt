@@ -10,7 +10,7 @@ use Rattle.writing.proofs.put_hex.Reads as put-hex
 use Rattle.writing.proofs.put_hex.Kinds as put-hex-kinds
 use Rattle.writing.proofs.+put_hex.Lts-put_hex as put-hex-lts
 use Rattle.writing.proofs.hex_digit.Reads as hex-digit-reads
-use Rattle.writing.proofs.put.Reads as put-reads
+use Rattle.text.proofs.output.put.Reads as put-reads
 use Rattle.writing.proofs.+put_hex.{statement}
 use Rattle.writing.proofs.+put_hex.Tie.{close}
 

@@ -5,7 +5,8 @@ use mathlib.Core.Path.{_≡_, refl, _∙_}
 use Prim.Native.Nat.{_-_}
 use denote.Ref.{now}
 use lib.ListN.{length}
-use Rattle.writing.proofs.Texts.{from-size, Rowed, rowed-start, rowed-next, rowed-done}
+use Rattle.text.proofs.Putting.{from-size}
+use Rattle.writing.proofs.Texts.{Rowed, rowed-start, rowed-next, rowed-done}
 use Rattle.writing.proofs.put_rows.Statement.{statement}
 use Rattle.writing.proofs.put_rows.Tie as tie
 

@@ -4,7 +4,7 @@
 use super::{lines, stumble, File, Row, Source};
 use crate::fault::Answer;
 use crate::number;
-use guineaplume::lent::Kind;
+use guineaplume::slices::Kind;
 
 const EXPECTED: &str = "expected 'z r g b z r g b' or 'z r/g/b z r/g/b'";
 

@@ -5,7 +5,7 @@ use super::{lines, stumble, File, Row, Source};
 use crate::color;
 use crate::fault::Answer;
 use crate::number;
-use guineaplume::lent::Kind;
+use guineaplume::slices::Kind;
 
 const EXPECTED: &str = "expected a header that names a position and r, g, b, perhaps a, or a color";
 const POSITIONS: [&str; 9] = ["position", "pos", "t", "x", "z", "value", "depth", "elevation", "offset"];

@@ -10,7 +10,7 @@ mod text;
 use crate::fault::{Answer, Fault};
 use crate::number;
 use crate::ramp::Ramp;
-use guineaplume::lent::Kind;
+use guineaplume::slices::Kind;
 use guineaplume::{Color, Edit, Refusal};
 use std::io::Read;
 use std::path::Path;

@@ -2,7 +2,7 @@
 
 use super::{lines, stumble, File, Row, Source};
 use crate::fault::Answer;
-use guineaplume::lent::Kind;
+use guineaplume::slices::Kind;
 
 pub fn read(file: &File) -> Answer<Source> {
     let mut rows = Vec::new();

@@ -5,7 +5,7 @@ use super::{lines, File, Row, Source};
 use crate::fault::Answer;
 use crate::number;
 use crate::ramp::KINDS;
-use guineaplume::lent::Kind;
+use guineaplume::slices::Kind;
 use guineaplume::Edit;
 
 const STOP: Expected = Expected { words: "'stop' and 5 numbers parted by tabs", first: "stop", numbers: 5 };

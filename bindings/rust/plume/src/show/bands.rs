@@ -2,7 +2,7 @@
 
 use super::canvas::{Canvas, LEFT, RIGHT};
 use crate::apart::mixed;
-use crate::color::{bytes, hex};
+use crate::color::hex;
 use crate::ramp::{Ramp, Stops};
 use guineaplume::Color;
 
@@ -39,7 +39,7 @@ pub fn list(canvas: &mut Canvas, list: &Stops) {
 fn band(canvas: &mut Canvas, colors: &[Color], name: &str) {
     let top = canvas.y;
     canvas.text(LEFT - 8.0, top + HEIGHT / 2.0 + 5.0, name, NAME);
-    if colors.iter().any(|color| bytes(*color)[3] < 255) {
+    if colors.iter().any(|color| color.to_rgba8()[3] < 255) {
         canvas.rect(LEFT, top, RIGHT - LEFT, HEIGHT, "fill=\"url(#clear)\"");
     }
     // edges are not softened, so that no gap shows between two columns
@@ -53,10 +53,10 @@ fn columns(canvas: &mut Canvas, colors: &[Color], top: f32) {
     let width = (RIGHT - LEFT) / COLUMNS as f32;
     let mut from = 0;
     for i in 1..=colors.len() {
-        if colors.get(i).is_some_and(|color| bytes(*color) == bytes(colors[from])) {
+        if colors.get(i).is_some_and(|color| color.to_rgba8() == colors[from].to_rgba8()) {
             continue;
         }
-        let opacity = match bytes(colors[from])[3] {
+        let opacity = match colors[from].to_rgba8()[3] {
             255 => String::new(),
             byte => format!(" fill-opacity=\"{:.4}\"", f32::from(byte) / 255.0),
         };

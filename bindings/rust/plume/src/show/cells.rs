@@ -2,7 +2,7 @@
 
 use super::canvas::{Canvas, LEFT, RIGHT};
 use crate::number::short;
-use guineaplume::lent::CELLS;
+use guineaplume::slices::CELLS;
 
 const HEIGHT: f32 = 18.0;
 

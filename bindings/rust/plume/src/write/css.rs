@@ -1,7 +1,7 @@
 //! A gradient of CSS, as a property of the file's name.
 
 use super::Piece;
-use crate::color::{bytes, hex};
+use crate::color::hex;
 use crate::number::short;
 
 pub fn css(piece: &Piece) -> String {
@@ -11,7 +11,7 @@ pub fn css(piece: &Piece) -> String {
         .stops
         .iter()
         .map(|(position, color)| {
-            let alpha = match bytes(*color)[3] {
+            let alpha = match color.to_rgba8()[3] {
                 255 => String::new(),
                 byte => format!("{byte:02x}"),
             };

@@ -2,7 +2,7 @@
 
 use super::Piece;
 use crate::fault::Answer;
-use guineaplume::lent::{self, MOST_WRITTEN};
+use guineaplume::slices::{self, MOST_WRITTEN};
 use guineaplume::Refusal;
 
 /// The least number that the writer takes, zero aside.
@@ -14,8 +14,8 @@ pub fn ggr(piece: &Piece) -> Answer<String> {
     let whole = |x: f32| if x < LEAST { 0.0 } else { x.min(1.0) };
     let positions: Vec<f32> = piece.stops.iter().map(|(position, _)| place(*position)).collect();
     let channels: Vec<f32> = piece.stops.iter().flat_map(|(_, color)| color.to_array().map(whole)).collect();
-    let mut text = vec![0; lent::written_bytes(positions.len().min(MOST_WRITTEN))];
-    let bytes = lent::write_ggr(&positions, &channels, &mut text).map_err(|refusal| {
+    let mut text = vec![0; slices::written_bytes(positions.len().min(MOST_WRITTEN))];
+    let bytes = slices::write_ggr(&positions, &channels, &mut text).map_err(|refusal| {
         let many = format!(
             "; it has {} stops, and a GIMP gradient at most {MOST_WRITTEN}: a greater --hold gives fewer",
             positions.len()

@@ -9,7 +9,7 @@ mod text;
 
 use crate::fault::{Answer, Fault};
 use crate::ramp::{stretched, with_edges, Stops};
-use guineaplume::lent::Kind;
+use guineaplume::slices::Kind;
 use guineaplume::Refusal;
 
 #[derive(Clone, Copy, Debug, PartialEq, Eq)]

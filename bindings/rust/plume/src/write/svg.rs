@@ -1,7 +1,7 @@
 //! A linear gradient of SVG, with a band that shows it.
 
 use super::Piece;
-use crate::color::{bytes, hex};
+use crate::color::hex;
 use crate::number::short;
 use std::fmt::Write;
 
@@ -12,7 +12,7 @@ pub fn svg(piece: &Piece) -> String {
          <title id=\"title\">{name}</title>\n<defs>\n<linearGradient id=\"ramp\">\n"
     );
     for (position, color) in &piece.stops {
-        let opacity = match bytes(*color)[3] {
+        let opacity = match color.to_rgba8()[3] {
             255 => String::new(),
             byte => format!(" stop-opacity=\"{:.4}\"", f32::from(byte) / 255.0),
         };

@@ -1,7 +1,6 @@
 //! Colour tables: GMT's, which gdaldem reads too, gdaldem's own and QGIS's. Colours are whole numbers of 0 to 255.
 
 use super::Piece;
-use crate::color::bytes;
 use crate::fault::{Answer, Fault};
 use crate::number::short;
 use std::fmt::Write;
@@ -16,7 +15,7 @@ pub fn cpt(piece: &Piece) -> Answer<String> {
         if from == to {
             continue;
         }
-        let ([r, g, b, _], [s, h, c, _]) = (bytes(pair[0].1), bytes(pair[1].1));
+        let ([r, g, b, _], [s, h, c, _]) = (pair[0].1.to_rgba8(), pair[1].1.to_rgba8());
         let _ = writeln!(text, "{from} {r} {g} {b} {to} {s} {h} {c}");
         slices += 1;
     }
@@ -29,7 +28,7 @@ pub fn cpt(piece: &Piece) -> Answer<String> {
 pub fn gdal(piece: &Piece) -> String {
     let mut text = String::new();
     for (position, color) in &piece.stops {
-        let [r, g, b, a] = bytes(*color);
+        let [r, g, b, a] = color.to_rgba8();
         let _ = writeln!(text, "{} {r} {g} {b} {a}", short(*position));
     }
     text
@@ -38,7 +37,7 @@ pub fn gdal(piece: &Piece) -> String {
 pub fn qgis(piece: &Piece) -> String {
     let mut text = "# QGIS Generated Color Map Export File\nINTERPOLATION:INTERPOLATED\n".to_string();
     for (position, color) in &piece.stops {
-        let [r, g, b, a] = bytes(*color);
+        let [r, g, b, a] = color.to_rgba8();
         let position = short(*position);
         let _ = writeln!(text, "{position},{r},{g},{b},{a},{position}");
     }

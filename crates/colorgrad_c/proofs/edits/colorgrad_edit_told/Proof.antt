@@ -1,7 +1,7 @@
 -- `colorgrad_edit_told` meets its contract: the call for the kind of the code, its answer told; a code that names none is refused. Assumes nothing.
 use mathlib.Core.Path.{refl}
 use Rattle.refusals.specs.Refusals.{misshapen}
-use Rattle.refresh.specs.declared.Refreshed.the-variants as refreshed
+use Rattle.sampling.specs.declared.Sampled.the-variants as sampled
 use Rattle.colorgrad_c.proofs.plain.Coding.{of-a-kind, of-no-kind, paired}
 use Rattle.colorgrad_c.proofs.Sorted.{refreshes-by}
 use borrow.Author.Needs.{needs}
@@ -17,8 +17,8 @@ enum-known-known c = search needs
 enum-told : tie.Need-enum-told
 enum-told c = search needs
 
-tell-refreshed-requires : tie.Need-tell-refreshed-requires
-tell-refreshed-requires c κs = search needs
+tell-sampled-requires : tie.Need-tell-sampled-requires
+tell-sampled-requires c κs = search needs
 
 same-length : tie.Need-same-length
 same-length c = search needs
@@ -26,7 +26,7 @@ same-length c = search needs
 returns : tie.Need-returns
 returns c =
     let told = c .before .before in let kind = told .before .before in
-    of-no-kind (refreshed.Refused misshapen) (kind .before .before .kind-of .ensures) (kind .enum-told .given .1) (refl, refl) (paired (told .tell-refreshed .ensures))
+    of-no-kind (sampled.Refused misshapen) (kind .before .before .kind-of .ensures) (kind .enum-told .given .1) (refl, refl) (paired (told .tell-sampled .ensures))
 
 edit-of-requires : tie.Need-edit-of-requires
 edit-of-requires c κs = search needs
@@ -34,8 +34,8 @@ edit-of-requires c κs = search needs
 refresh-requires : tie.Need-refresh-requires
 refresh-requires c κs = search needs
 
-tell-refreshed-requires-2 : tie.Need-tell-refreshed-requires-2
-tell-refreshed-requires-2 c κs = search needs
+tell-sampled-requires-2 : tie.Need-tell-sampled-requires-2
+tell-sampled-requires-2 c κs = search needs
 
 same-length-2 : tie.Need-same-length-2
 same-length-2 c = search needs
@@ -52,7 +52,7 @@ same-length-5 c = search needs
 returns-2 : tie.Need-returns-2
 returns-2 c =
     let told = c .before .before in let made = told .before .before .before .before .before .before .before .before in let kind = made .before .before .before .before .before .before in
-    of-a-kind _ (kind .before .before .kind-of .ensures) (kind .known .given .1) (refreshes-by (made .before .before .before .before .edit-of .ensures) (made .refresh .ensures)) (paired (told .tell-refreshed2 .ensures))
+    of-a-kind _ (kind .before .before .kind-of .ensures) (kind .known .given .1) (refreshes-by (made .before .before .before .before .edit-of .ensures) (made .refresh .ensures)) (paired (told .tell-sampled2 .ensures))
 
 pub colorgrad-edit-told-spec : {M : Type 1} → statement M
 colorgrad-edit-told-spec =
@@ -61,12 +61,12 @@ colorgrad-edit-told-spec =
     kind-of-requires
     enum-known-known
     enum-told
-    tell-refreshed-requires
+    tell-sampled-requires
     same-length
     returns
     edit-of-requires
     refresh-requires
-    tell-refreshed-requires-2
+    tell-sampled-requires-2
     same-length-2
     same-length-3
     same-length-4

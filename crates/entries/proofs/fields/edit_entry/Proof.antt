@@ -50,17 +50,17 @@ returns-4 : tie.Need-returns-4
 returns-4 c = let r = c .before .before .before in let k = r .before .before in let d = k .before .before in let f = d .before .before .before .before in let z = f .before .before in
     edit-row (z .args .l .now) (z .args .from) (f .span-end .result) (z .pre) (f .span-end .ensures) (search needs) (search needs) (sym (d .number-of .ensures) ∙ k .k .given .1) (change-not (z .args .l .now) (f .span-end .result + 1) (search needs) (r .row-at .ensures) _ (c .if3 .taken))
 
-array-read-t19 : tie.Need-array-read-t19
-array-read-t19 c = search needs
+array-read-t20 : tie.Need-array-read-t20
+array-read-t20 c = search needs
 
-array-read-t22 : tie.Need-array-read-t22
-array-read-t22 c = search needs
+array-read-t23 : tie.Need-array-read-t23
+array-read-t23 c = search needs
 
-array-read-t25 : tie.Need-array-read-t25
-array-read-t25 c = search needs
+array-read-t26 : tie.Need-array-read-t26
+array-read-t26 c = search needs
 
-array-read-t28 : tie.Need-array-read-t28
-array-read-t28 c = search needs
+array-read-t29 : tie.Need-array-read-t29
+array-read-t29 c = search needs
 
 returns-5 : tie.Need-returns-5
 returns-5 c = let r = c .before .before .before in let k = r .before .before in let d = k .before .before in let f = d .before .before .before .before in let z = f .before .before in
@@ -84,8 +84,8 @@ edit-entry-spec =
     add-row-at
     row-at-requires
     returns-4
-    array-read-t19
-    array-read-t22
-    array-read-t25
-    array-read-t28
+    array-read-t20
+    array-read-t23
+    array-read-t26
+    array-read-t29
     returns-5)

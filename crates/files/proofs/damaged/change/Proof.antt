@@ -7,10 +7,10 @@ use Rattle.files.proofs.damaged.change.Statement.{statement}
 use Rattle.files.proofs.damaged.change.Tie as tie
 
 abbrev Inv-loop : tie.InvT-loop
-Inv-loop counts₀ text₀ i others kept j₀ counts text j = (length counts ≡ length counts₀) × (length text ≡ length text₀)
+Inv-loop saved counts₀ text₀ i others kept j₀ counts text j = (length counts ≡ length counts₀) × (length text ≡ length text₀)
 
 abbrev μ-loop : tie.MeasureT-loop
-μ-loop counts₀ text₀ i others kept j₀ counts text j = 12 - j
+μ-loop saved counts₀ text₀ i others kept j₀ counts text j = 12 - j
 
 pub change-spec : {M : Type 1} → statement M
 change-spec =

@@ -7,10 +7,10 @@ use Rattle.files.proofs.damaged.changes.Statement.{statement}
 use Rattle.files.proofs.damaged.changes.Tie as tie
 
 abbrev Inv-loop : tie.InvT-loop
-Inv-loop file counts₀ text₀ i₀ t5 counts text i = (length counts ≡ 20) × (length text ≡ 55)
+Inv-loop saved file counts₀ text₀ i₀ t6 counts text i = (length counts ≡ 20) × (length text ≡ 55)
 
 abbrev μ-loop : tie.MeasureT-loop
-μ-loop file counts₀ text₀ i₀ t5 counts text i = 55 - i
+μ-loop saved file counts₀ text₀ i₀ t6 counts text i = 55 - i
 
 pub changes-spec : {M : Type 1} → statement M
 changes-spec =

@@ -7,10 +7,10 @@ use Rattle.files.proofs.damaged.prefixes.Statement.{statement}
 use Rattle.files.proofs.damaged.prefixes.Tie as tie
 
 abbrev Inv-loop : tie.InvT-loop
-Inv-loop text counts₀ n₀ t4 n-end counts n = length counts ≡ 20
+Inv-loop saved text counts₀ n₀ t5 n-end counts n = length counts ≡ 20
 
 abbrev μ-loop : tie.MeasureT-loop
-μ-loop text counts₀ n₀ t4 n-end counts n = n-end - n
+μ-loop saved text counts₀ n₀ t5 n-end counts n = n-end - n
 
 pub prefixes-spec : {M : Type 1} → statement M
 prefixes-spec =

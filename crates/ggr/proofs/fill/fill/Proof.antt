@@ -13,15 +13,15 @@ use Rattle.ggr.proofs.fill.fill.Statement.{statement}
 use Rattle.ggr.proofs.fill.fill.Tie as tie
 
 abbrev Inv-loop : tie.InvT-loop
-Inv-loop s from n fg bg p₀ c₀ k₀ at₀ end₀ i₀ p c k at end i =
-    Going (segmentLines fg bg n 4 f0 (lines (drop from s))) s fg bg n (storeOf p₀ c₀ k₀) (storeOf p c k) at end i
+Inv-loop rules s from n fg bg p₀ c₀ k₀ at₀ end₀ i₀ p c k at end i =
+    Going (segmentLines rules fg bg n 4 f0 (lines (drop from s))) s rules fg bg n (storeOf p₀ c₀ k₀) (storeOf p c k) at end i
 
 abbrev μ-loop : tie.MeasureT-loop
-μ-loop s from n fg bg p₀ c₀ k₀ at₀ end₀ i₀ p c k at end i = n - i
+μ-loop rules s from n fg bg p₀ c₀ k₀ at₀ end₀ i₀ p c k at end i = n - i
 
 loop-holds : tie.Need-loop-holds Inv-loop μ-loop
 loop-holds c = let a = c .before .before .before .before .args in
-    going-start _ (a .s .now) (a .fg) (a .bg) (a .n) _ (a .from) refl
+    going-start _ (a .s .now) (a .rules) (a .fg) (a .bg) (a .n) _ (a .from) refl
 
 same-length : tie.Need-same-length Inv-loop μ-loop
 same-length c = search needs
@@ -36,7 +36,7 @@ returns : tie.Need-returns Inv-loop μ-loop
 returns c =
     let l = c .before .before in
     let a = l .before .before .before .before .before .args in
-    short _ (a .s .now) (a .fg) (a .bg) (a .n) _ _ (l .loop .at) (l .loop .end) (l .loop .i) (l .loop .inv) (search needs) (c .if1 .taken)
+    short _ (a .s .now) (a .rules) (a .fg) (a .bg) (a .n) _ _ (l .loop .at) (l .loop .end) (l .loop .i) (l .loop .inv) (search needs) (c .if1 .taken)
 
 segment-at-requires : tie.Need-segment-at-requires Inv-loop μ-loop
 segment-at-requires c κs = search needs
@@ -47,8 +47,8 @@ weigh-requires c κs = search needs
 enum-known-o : tie.Need-enum-known-o Inv-loop μ-loop
 enum-known-o c = search needs
 
-add-t19 : tie.Need-add-t19 Inv-loop μ-loop
-add-t19 c = search needs
+add-t20 : tie.Need-add-t20 Inv-loop μ-loop
+add-t20 c = search needs
 
 same-length-4 : tie.Need-same-length-4 Inv-loop μ-loop
 same-length-4 c = search needs
@@ -65,7 +65,7 @@ returns-2 c =
     let read = q .before in
     let l = read .before .before .before in
     let a = l .before .before .before .before .before .args in
-    bad _ (a .s .now) (a .fg) (a .bg) (a .n) _ _ (l .loop .at) (l .loop .end) (l .loop .i) (l .loop .inv) (search needs) (search needs) (read .segment-at .result .read) _ (read .segment-at .result .next) (read .segment-at .ensures) (q .weigh .ensures) _ (c .before .o .given .1)
+    bad _ (a .s .now) (a .rules) (a .fg) (a .bg) (a .n) _ _ (l .loop .at) (l .loop .end) (l .loop .i) (l .loop .inv) (search needs) (search needs) (read .segment-at .result .read) _ (read .segment-at .result .next) (read .segment-at .ensures) (q .weigh .ensures) _ (c .before .o .given .1)
 
 enum-known-o-2 : tie.Need-enum-known-o-2 Inv-loop μ-loop
 enum-known-o-2 c = search needs
@@ -92,7 +92,7 @@ loop-again c =
     let l = read .before .before .before in
     let start = l .before .before .before .before .before in
     let a = start .args in
-    going-on _ (a .s .now) (a .fg) (a .bg) (a .n) _ _ (l .loop .at) (l .loop .end) (l .loop .i) (l .loop .inv) (search needs) (search needs) (read .segment-at .result .read) _ (read .segment-at .result .next) (read .segment-at .ensures) (q .weigh .ensures) (start .pre .1) (start .pre .2) (start .pre .3) _ (valid .o2 .given .1) _ (put .put-segment .ensures)
+    going-on _ (a .s .now) (a .rules) (a .fg) (a .bg) (a .n) _ _ (l .loop .at) (l .loop .end) (l .loop .i) (l .loop .inv) (search needs) (search needs) (read .segment-at .result .read) _ (read .segment-at .result .next) (read .segment-at .ensures) (q .weigh .ensures) (start .pre .1) (start .pre .2) (start .pre .3) _ (valid .o2 .given .1) _ (put .put-segment .ensures)
 
 closing-requires : tie.Need-closing-requires Inv-loop μ-loop
 closing-requires c κs = c .before .before .before .before .before .before .pre .0
@@ -110,7 +110,7 @@ returns-3 : tie.Need-returns-3 Inv-loop μ-loop
 returns-3 c =
     let l = c .before .before in
     let a = l .before .before .before .before .before .args in
-    closed _ (a .s .now) (a .fg) (a .bg) (a .n) _ _ (l .loop .at) (l .loop .end) (l .loop .i) (l .loop .inv) (omega arith) _ (c .closing .ensures)
+    closed _ (a .s .now) (a .rules) (a .fg) (a .bg) (a .n) _ _ (l .loop .at) (l .loop .end) (l .loop .i) (l .loop .inv) (omega arith) _ (c .closing .ensures)
 
 pub fill-spec : {M : Type 1} → statement M
 fill-spec =
@@ -126,7 +126,7 @@ fill-spec =
     segment-at-requires
     weigh-requires
     enum-known-o
-    add-t19
+    add-t20
     same-length-4
     same-length-5
     same-length-6

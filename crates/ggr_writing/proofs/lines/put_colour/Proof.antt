@@ -2,7 +2,7 @@
 use borrow.Author.Needs.{needs}
 use native.Mathlib.Omega.{arith}
 use Rattle.ggr_writing.specs.File.{spacedColour}
-use Rattle.writing.proofs.Texts.{puts-then}
+use Rattle.text.proofs.Putting.{puts-then}
 use Rattle.ggr_writing.proofs.lines.put_colour.Statement.{statement}
 use Rattle.ggr_writing.proofs.lines.put_colour.Tie as tie
 

@@ -5,7 +5,7 @@ use mathlib.Core.Path.{_≡_, refl, _∙_}
 use Prim.Native.Nat.{_-_}
 use denote.Ref.{now}
 use lib.ListN.{length}
-use Rattle.writing.proofs.Texts.{from-size}
+use Rattle.text.proofs.Putting.{from-size}
 use Rattle.ggr_writing.proofs.Texts.{Rowed, rowed-start, rowed-next, rowed-done}
 use Rattle.ggr_writing.proofs.lines.put_rows.Statement.{statement}
 use Rattle.ggr_writing.proofs.lines.put_rows.Tie as tie

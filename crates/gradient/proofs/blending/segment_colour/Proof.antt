@@ -1,5 +1,5 @@
 -- `blending::segment_colour` meets its contract: what the calls ensure, put together. Assumes nothing.
-use Rattle.gradient.proofs.GimpLaws.{by-hue, by-wave, by-rest, segment-coloured}
+use Rattle.gradient.proofs.GimpLaws.{by-cost, by-wave, by-rest, segment-coloured}
 use borrow.Author.Needs.{needs}
 use Rattle.gradient.proofs.blending.segment_colour.Statement.{statement}
 use Rattle.gradient.proofs.blending.segment_colour.Tie as tie
@@ -10,18 +10,18 @@ place-along-requires c κs = search needs
 place-along-requires-2 : tie.Need-place-along-requires-2
 place-along-requires-2 c κs = search needs
 
-is-hued-requires : tie.Need-is-hued-requires
-is-hued-requires c κs = search needs
+is-costly-requires : tie.Need-is-costly-requires
+is-costly-requires c κs = search needs
 
-blend-hued-requires : tie.Need-blend-hued-requires
-blend-hued-requires c κs = search needs
+blend-costly-requires : tie.Need-blend-costly-requires
+blend-costly-requires c κs = search needs
 
 returns : tie.Need-returns
 returns c =
     let test = c .before in
-    let hue = test .before in
-    let place = hue .before in
-    segment-coloured _ _ (place .before .place-along .ensures) (place .place-along2 .ensures) (by-hue _ _ _ (hue .is-hued .ensures) (test .if1 .taken) (c .blend-hued .ensures))
+    let cost = test .before in
+    let place = cost .before in
+    segment-coloured _ _ (place .before .place-along .ensures) (place .place-along2 .ensures) (by-cost _ _ _ (cost .is-costly .ensures) (test .if1 .taken) (c .blend-costly .ensures))
 
 blend-wave-requires : tie.Need-blend-wave-requires
 blend-wave-requires c κs = search needs
@@ -30,9 +30,9 @@ returns-2 : tie.Need-returns-2
 returns-2 c =
     let test = c .before in
     let left = test .before .before in
-    let hue = left .before in
-    let place = hue .before in
-    segment-coloured _ _ (place .before .place-along .ensures) (place .place-along2 .ensures) (by-wave _ _ _ (hue .is-hued .ensures) (left .if1 .left) (test .if2 .taken) (c .blend-wave .ensures))
+    let cost = left .before in
+    let place = cost .before in
+    segment-coloured _ _ (place .before .place-along .ensures) (place .place-along2 .ensures) (by-wave _ _ _ (cost .is-costly .ensures) (left .if1 .left) (test .if2 .taken) (c .blend-wave .ensures))
 
 blend-requires : tie.Need-blend-requires
 blend-requires c κs = search needs
@@ -41,9 +41,9 @@ returns-3 : tie.Need-returns-3
 returns-3 c =
     let test = c .before in
     let left = test .before .before in
-    let hue = left .before in
-    let place = hue .before in
-    segment-coloured _ _ (place .before .place-along .ensures) (place .place-along2 .ensures) (by-rest _ _ _ (hue .is-hued .ensures) (left .if1 .left) (test .if2 .left) (c .blend .ensures))
+    let cost = left .before in
+    let place = cost .before in
+    segment-coloured _ _ (place .before .place-along .ensures) (place .place-along2 .ensures) (by-rest _ _ _ (cost .is-costly .ensures) (left .if1 .left) (test .if2 .left) (c .blend .ensures))
 
 pub segment-colour-spec : {M : Type 1} → statement M
 segment-colour-spec =
@@ -51,8 +51,8 @@ segment-colour-spec =
     (tie.spec
     place-along-requires
     place-along-requires-2
-    is-hued-requires
-    blend-hued-requires
+    is-costly-requires
+    blend-costly-requires
     returns
     blend-wave-requires
     returns-2

@@ -11,29 +11,29 @@ use Rattle.gradient.proofs.gimp.are_carried.Statement.{statement}
 use Rattle.gradient.proofs.gimp.are_carried.Tie as tie
 
 abbrev Inv-loop : tie.InvT-loop
-Inv-loop positions codes n i₀ i = (i ≤ n) × (allCarried (n - i) i positions codes ≡ allCarried n 0 positions codes)
+Inv-loop kind positions codes n i₀ i = (i ≤ n) × (allCarried kind (n - i) i positions codes ≡ allCarried kind n 0 positions codes)
 
 abbrev μ-loop : tie.MeasureT-loop
-μ-loop positions codes n i₀ i = n - i
+μ-loop kind positions codes n i₀ i = n - i
 
 loop-holds : tie.Need-loop-holds Inv-loop μ-loop
-loop-holds c = (omega arith, carried-start (c .before .before .args .n) (now (c .before .before .args .positions)) (now (c .before .before .args .codes)))
+loop-holds c = (omega arith, carried-start (c .before .before .args .kind) (c .before .before .args .n) (now (c .before .before .args .positions)) (now (c .before .before .args .codes)))
 
 returns : tie.Need-returns Inv-loop μ-loop
 returns c =
     let l = c .before .before .before in
     let a = l .before .before .before .args in
-    sym (carried-not (a .n) (l .loop .i) (now (a .positions)) (now (a .codes)) (c .before .before .loop-test .taken) (failed (c .if1 .taken) (c .before .is-carried-at .ensures))) ∙ l .loop .inv .1
+    sym (carried-not (a .kind) (a .n) (l .loop .i) (now (a .positions)) (now (a .codes)) (c .before .before .loop-test .taken) (failed (c .if1 .taken) (c .before .is-carried-at .ensures))) ∙ l .loop .inv .1
 
 loop-again : tie.Need-loop-again Inv-loop μ-loop
 loop-again c =
     let l = c .before .before .before in
     let a = l .before .before .before .args in
     let h = c .before .before .loop-test .taken in
-    (omega arith, sym (carried-next (a .n) (l .loop .i) (now (a .positions)) (now (a .codes)) h (passed (c .if1 .left) (c .before .is-carried-at .ensures))) ∙ l .loop .inv .1)
+    (omega arith, sym (carried-next (a .kind) (a .n) (l .loop .i) (now (a .positions)) (now (a .codes)) h (passed (c .if1 .left) (c .before .is-carried-at .ensures))) ∙ l .loop .inv .1)
 
 returns-2 : tie.Need-returns-2 Inv-loop μ-loop
-returns-2 c = let l = c .before in let a = l .before .before .before .args in sym (carried-end (a .n) (l .loop .i) (now (a .positions)) (now (a .codes)) (c .loop-test .left)) ∙ l .loop .inv .1
+returns-2 c = let l = c .before in let a = l .before .before .before .args in sym (carried-end (a .kind) (a .n) (l .loop .i) (now (a .positions)) (now (a .codes)) (c .loop-test .left)) ∙ l .loop .inv .1
 
 pub are-carried-spec : {M : Type 1} → statement M
 are-carried-spec =

@@ -13,7 +13,7 @@ returns : tie.Need-returns
 returns c =
     checks
     (let a = c .before .before .before .before .before .args in
-    check-shape (now (a .positions)) (now (a .channels)) (now (a .codes)) (failed (c .if1 .taken) (c .before .is-shaped .ensures)))
+    check-shape (a .kind) (now (a .positions)) (now (a .channels)) (now (a .codes)) (failed (c .if1 .taken) (c .before .is-shaped .ensures)))
 
 are-carried-requires : tie.Need-are-carried-requires
 are-carried-requires c κs =
@@ -26,7 +26,7 @@ returns-2 c =
     checks
     (let s = c .before .before in
     let a = s .before .before .before .before .before .args in
-    check-kinds (now (a .positions)) (now (a .channels)) (now (a .codes))
+    check-kinds (a .kind) (now (a .positions)) (now (a .channels)) (now (a .codes))
     (failed (c .if2 .taken) (c .before .are-carried .ensures))
     (passed (s .if1 .left) (s .before .is-shaped .ensures)))
 
@@ -36,7 +36,7 @@ returns-3 c =
     (let k = c .before .before in
     let s = k .before .before in
     let a = s .before .before .before .before .before .args in
-    check-positions (now (a .positions)) (now (a .channels)) (now (a .codes))
+    check-positions (a .kind) (now (a .positions)) (now (a .channels)) (now (a .codes))
     (failed (c .if3 .taken) (c .before .all-finite .ensures))
     (passed (k .if2 .left) (k .before .are-carried .ensures))
     (passed (s .if1 .left) (s .before .is-shaped .ensures)))
@@ -48,7 +48,7 @@ returns-4 c =
     let k = f .before .before in
     let s = k .before .before in
     let a = s .before .before .before .before .before .args in
-    check-channels (now (a .positions)) (now (a .channels)) (now (a .codes))
+    check-channels (a .kind) (now (a .positions)) (now (a .channels)) (now (a .codes))
     (failed (c .if4 .taken) (c .before .all-finite2 .ensures))
     (passed (f .if3 .left) (f .before .all-finite .ensures))
     (passed (k .if2 .left) (k .before .are-carried .ensures))
@@ -61,7 +61,7 @@ returns-5 c =
     let k = f .before .before in
     let s = k .before .before in
     let a = s .before .before .before .before .before .args in
-    check-fine (now (a .positions)) (now (a .channels)) (now (a .codes))
+    check-fine (a .kind) (now (a .positions)) (now (a .channels)) (now (a .codes))
     (passed (c .if4 .left) (c .before .all-finite2 .ensures))
     (passed (f .if3 .left) (f .before .all-finite .ensures))
     (passed (k .if2 .left) (k .before .are-carried .ensures))

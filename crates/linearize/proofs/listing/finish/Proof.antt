@@ -11,14 +11,14 @@ returns c =
     let at-test = at-positions .before .before in
     let a = at-test .before .before .before .args in
     let bad = at-test .if1 .taken in
-    (refused-answer _ _ _ bad, (zeroed _ (a .out-positions .now) _ bad (at-positions .zero-from .ensures), zeroed _ (a .out-channels .now) _ bad (at-channels .zero-from2 .ensures)))
+    (refused-answer _ _ _ bad, (zeroed _ (a .places .now) _ bad (at-positions .zero-from .ensures), zeroed _ (a .colours .now) _ bad (at-channels .zero-from2 .ensures)))
 
 returns-2 : tie.Need-returns-2
 returns-2 c =
     let at-test = c .before .before in
     let a = at-test .before .before .before .args in
     let good = at-test .if1 .left in
-    (done-answer _ _ _ good, (left _ (a .out-positions .now) good, left _ (a .out-channels .now) good))
+    (done-answer _ _ _ good, (left _ (a .places .now) good, left _ (a .colours .now) good))
 
 pub finish-spec : {M : Type 1} → statement M
 finish-spec =

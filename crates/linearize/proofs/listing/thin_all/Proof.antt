@@ -39,7 +39,7 @@ module _ (c : tie.After-emit) where
   ts = listOf (at-start .args .rows .now) (at-start .args .counts .now) (at-start .args .max)
 
   abbrev before : Run
-  before = run (starting p) (at-start .args .out-positions .now) (at-start .args .out-channels .now)
+  before = run (starting p) (at-start .args .places .now) (at-start .args .colours .now)
 
   abbrev after : Run
   after = run (c .emit .result) (c .emit .last .1 .1 .1 .0) (c .emit .last .1 .1 .1 .1 .0)
@@ -59,7 +59,7 @@ returns c =
     let a = at-start e .args in
     let w = written e in
     record {
-      ends = first-refused (g e) (exceeds (a .cutoff)) (a .room) (ts e) (a .out-positions .now) (a .out-channels .now) (p e) (head e) (after e) w (c .if1 .taken);
+      ends = first-refused (g e) (exceeds (a .cutoff)) (a .room) (ts e) (a .places .now) (a .colours .now) (p e) (head e) (after e) w (c .if1 .taken);
       few = omega (arith, w .tried);
       fitting = w .fitting (omega arith);
     }
@@ -80,7 +80,7 @@ returns-2 c =
     let k = at-rest .thin-points in
     let r = run (k .result) (k .last .1 .1 .1 .1 .1 .1 .1 .1 .1 .1 .0) (k .last .1 .1 .1 .1 .1 .1 .1 .1 .1 .1 .1 .0) in
     record {
-      ends = then-thinned (g e) (exceeds (a .cutoff)) (a .room) (ts e) (a .out-positions .now) (a .out-channels .now) (p e) (head e) (after e) r (written e) (at-test .if1 .left) (k .ensures .ends);
+      ends = then-thinned (g e) (exceeds (a .cutoff)) (a .room) (ts e) (a .places .now) (a .colours .now) (p e) (head e) (after e) r (written e) (at-test .if1 .left) (k .ensures .ends);
       few = k .ensures .few;
       fitting = k .ensures .fitting;
     }

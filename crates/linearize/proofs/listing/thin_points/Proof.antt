@@ -16,11 +16,11 @@ use Rattle.linearize.proofs.listing.thin_points.Statement.{statement}
 use Rattle.linearize.proofs.listing.thin_points.Tie as tie
 
 abbrev Inv-loop : tie.InvT-loop
-Inv-loop kind positions channels codes cutoff max room rows counts out-positions₀ out-channels₀ drawn₀ s₀ place₀ x₀ out-positions out-channels drawn s place x =
-    Going (colourOf (rampOf kind positions channels codes)) (exceeds cutoff) room rows counts max (run s₀ out-positions₀ out-channels₀) out-positions out-channels s place x × Carrying (rampOf kind positions channels codes) (x .pair) drawn
+Inv-loop kind positions channels codes cutoff max room rows counts places₀ colours₀ drawn₀ s₀ place₀ x₀ places colours drawn s place x =
+    Going (colourOf (rampOf kind positions channels codes)) (exceeds cutoff) room rows counts max (run s₀ places₀ colours₀) places colours s place x × Carrying (rampOf kind positions channels codes) (x .pair) drawn
 
 abbrev μ-loop : tie.MeasureT-loop
-μ-loop kind positions channels codes cutoff max room rows counts out-positions₀ out-channels₀ drawn₀ s₀ place₀ x₀ out-positions out-channels drawn s place x =
+μ-loop kind positions channels codes cutoff max room rows counts places₀ colours₀ drawn₀ s₀ place₀ x₀ places colours drawn s place x =
     length (listOf rows counts max) - pointsBefore counts place
 
 -- ---- the places, named once
@@ -47,7 +47,7 @@ loop-holds c =
     let a = at-start .args in
     let g = colourOf (rampIn (a .kind) (a .positions) (a .channels) (a .codes)) in
     let p = along-point _ (at-start .pre .1) _ _ (λ d l. absurd (omega (arith, l))) (c .evaluate-along .ensures) in (
-      started g (exceeds (a .cutoff)) (a .room) (a .rows .now) (a .counts .now) (a .max) (at-start .pre .0 .0) (a .start) (a .out-positions .now) (a .out-channels .now) (at-place .next-place .result) (c .evaluate-along .result) (at-start .pre .0 .1) (at-place .next-place .ensures) (p .0 ∙ at-number .point-at .ensures) (p .1),
+      started g (exceeds (a .cutoff)) (a .room) (a .rows .now) (a .counts .now) (a .max) (at-start .pre .0 .0) (a .start) (a .places .now) (a .colours .now) (at-place .next-place .result) (c .evaluate-along .result) (at-start .pre .0 .1) (at-place .next-place .ensures) (p .0 ∙ at-number .point-at .ensures) (p .1),
       along-carries _ (at-start .pre .1) _ _ (λ d l. absurd (omega (arith, l))) (c .evaluate-along .ensures),
     )
 
@@ -73,7 +73,7 @@ returns c =
     let l = at-loop .loop in
     let g = colourOf (rampIn (a .kind) (a .positions) (a .channels) (a .codes)) in
     let p = along-point _ (at-start .pre .1) _ _ (l .inv .1) (at-point .evaluate-along2 .ensures) in
-    stopped g (exceeds (a .cutoff)) (a .room) (a .rows .now) (a .counts .now) (a .max) (at-start .pre .0 .0) _ (l .out-positions) (l .out-channels) (l .s) (l .place) (l .x) (l .inv .0) (at-place .before .if1 .taken) (at-place .next-place2 .result) (at-point .evaluate-along2 .result) (at-place .next-place2 .ensures) (p .0 ∙ at-number .point-at2 .ensures) (p .1) (at-step .step .last .1 .1 .1 .1 .1 .0) (at-step .step .last .1 .1 .1 .1 .1 .1 .0) (at-step .step .result) (at-step .step .ensures) (c .if2 .taken)
+    stopped g (exceeds (a .cutoff)) (a .room) (a .rows .now) (a .counts .now) (a .max) (at-start .pre .0 .0) _ (l .places) (l .colours) (l .s) (l .place) (l .x) (l .inv .0) (at-place .before .if1 .taken) (at-place .next-place2 .result) (at-point .evaluate-along2 .result) (at-place .next-place2 .ensures) (p .0 ∙ at-number .point-at2 .ensures) (p .1) (at-step .step .last .1 .1 .1 .1 .1 .0) (at-step .step .last .1 .1 .1 .1 .1 .1 .0) (at-step .step .result) (at-step .step .ensures) (c .if2 .taken)
 
 loop-less : tie.Need-loop-less Inv-loop μ-loop
 loop-less c =
@@ -99,7 +99,7 @@ loop-again c =
     let l = at-loop .loop in
     let g = colourOf (rampIn (a .kind) (a .positions) (a .channels) (a .codes)) in
     let p = along-point _ (at-start .pre .1) _ _ (l .inv .1) (at-point .evaluate-along2 .ensures) in (
-      next g (exceeds (a .cutoff)) (a .room) (a .rows .now) (a .counts .now) (a .max) (at-start .pre .0 .0) _ (l .out-positions) (l .out-channels) (l .s) (l .place) (l .x) (l .inv .0) (at-place .before .if1 .taken) (at-place .next-place2 .result) (at-point .evaluate-along2 .result) (at-place .next-place2 .ensures) (p .0 ∙ at-number .point-at2 .ensures) (p .1) (at-step .step .last .1 .1 .1 .1 .1 .0) (at-step .step .last .1 .1 .1 .1 .1 .1 .0) (at-step .step .result) (at-step .step .ensures) (c .if2 .left) (at-step .step .kept .1 .1 .1 .1 .1 .0) (at-step .step .kept .1 .1 .1 .1 .1 .1 .0),
+      next g (exceeds (a .cutoff)) (a .room) (a .rows .now) (a .counts .now) (a .max) (at-start .pre .0 .0) _ (l .places) (l .colours) (l .s) (l .place) (l .x) (l .inv .0) (at-place .before .if1 .taken) (at-place .next-place2 .result) (at-point .evaluate-along2 .result) (at-place .next-place2 .ensures) (p .0 ∙ at-number .point-at2 .ensures) (p .1) (at-step .step .last .1 .1 .1 .1 .1 .0) (at-step .step .last .1 .1 .1 .1 .1 .1 .0) (at-step .step .result) (at-step .step .ensures) (c .if2 .left) (at-step .step .kept .1 .1 .1 .1 .1 .0) (at-step .step .kept .1 .1 .1 .1 .1 .1 .0),
       along-carries _ (at-start .pre .1) _ _ (l .inv .1) (at-point .evaluate-along2 .ensures),
     )
 
@@ -122,7 +122,7 @@ returns-2 c =
     let a = at-start .args in
     let l = at-loop .loop in
     let g = colourOf (rampIn (a .kind) (a .positions) (a .channels) (a .codes)) in
-    ended g (exceeds (a .cutoff)) (a .room) (a .rows .now) (a .counts .now) (a .max) (at-start .pre .0 .0) _ (l .out-positions) (l .out-channels) (l .s) (l .place) (l .x) (l .inv .0) (λ h. absurd (omega (arith, h, at-test .if1 .left))) (at-emit .emit .last .1 .1 .1 .0) (at-emit .emit .last .1 .1 .1 .1 .0) (at-emit .emit .result) (at-emit .emit .ensures)
+    ended g (exceeds (a .cutoff)) (a .room) (a .rows .now) (a .counts .now) (a .max) (at-start .pre .0 .0) _ (l .places) (l .colours) (l .s) (l .place) (l .x) (l .inv .0) (λ h. absurd (omega (arith, h, at-test .if1 .left))) (at-emit .emit .last .1 .1 .1 .0) (at-emit .emit .last .1 .1 .1 .1 .0) (at-emit .emit .result) (at-emit .emit .ensures)
 
 pub thin-points-spec : {M : Type 1} → statement M
 thin-points-spec =

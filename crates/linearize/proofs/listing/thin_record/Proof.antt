@@ -20,7 +20,7 @@ returns c =
     let k = at-list .thin-all in
     let f = at-end .finish in
     let r = run (k .result) (k .last .1 .1 .1 .1 .1 .1 .1 .1 .1 .0) (k .last .1 .1 .1 .1 .1 .1 .1 .1 .1 .1 .0) in
-    made-list g (exceeds (a .cutoff)) (at-room .room-of .result) (listOf (a .rows .now) (a .counts .now) (a .max)) (a .out-positions .now) (a .out-channels .now) _ (at-room .room-of .ensures) r (k .ensures .ends)
+    made-list g (exceeds (a .cutoff)) (at-room .room-of .result) (listOf (a .rows .now) (a .counts .now) (a .max)) (a .places .now) (a .colours .now) _ (at-room .room-of .ensures) r (k .ensures .ends)
     (k .kept .1 .1 .1 .1 .1 .1 .1 .1 .1 .0) (k .kept .1 .1 .1 .1 .1 .1 .1 .1 .1 .1 .0)
     (f .last .1 .0) (f .last .1 .1 .0) (f .result) (f .ensures .0) (f .ensures .1 .0) (f .ensures .1 .1)
 

@@ -12,7 +12,7 @@ use lib.Ieee.{Float, nan}
 use Rattle.gradient.specs.Gimp.{along, gimpColour}
 use Rattle.blend.specs.Channels.{channelsOf, coloursOf}
 use Rattle.paint.proofs.gimp.Filling.{colours-next}
-use Rattle.paint.proofs.gimp.Hits.{found-here, Lies, shaded, hued-so, before-end, lies-on}
+use Rattle.paint.proofs.gimp.Hits.{found-here, Lies, shaded, costly-so, before-end, lies-on}
 use Rattle.paint.proofs.gimp.paint_held.Statement.{statement}
 use Rattle.paint.proofs.gimp.paint_held.Tie as tie
 
@@ -59,7 +59,7 @@ shade-requires c κs =
     let l = c .before .before .before in
     let held = l .before .before .before .before .before .before .before in
     let s = held .before .before .before .before .before .before in
-    (hued-so (now (s .args .positions)) (now (s .args .channels)) (now (s .args .codes)) (s .args .s) (held .hold .ensures) (s .pre .1 .1), refl)
+    (costly-so (now (s .args .positions)) (now (s .args .channels)) (now (s .args .codes)) (s .args .s) (held .hold .ensures) (s .pre .1 .1), refl)
 
 mul-put-colour : tie.Need-mul-put-colour Inv-loop μ-loop
 mul-put-colour c =

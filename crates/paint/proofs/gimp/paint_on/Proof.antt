@@ -65,37 +65,50 @@ there c =
     let s = c .before .before .before .before .before .before .before .before .before .before in
     found-here (now (s .args .positions)) _ (s .pre .0 .cut .least) (c .before .find-segment .ensures)
 
-mul-is-hued : tie.Need-mul-is-hued
-mul-is-hued c =
+-- so both of its codes are there
+codes-there : (c : tie.Joined2) → let s = c .before .before .before .before .before .before .before .before .before .before in 2 * c .before .find-segment .result + 1 < length (now (s .args .codes))
+codes-there c =
     let s = c .before .before .before .before .before .before .before .before .before .before in
-    record { fits = omega (arith, there c, s .pre .0 .cut .codes, s .good .1 .1 .0 .1) }
+    omega (arith, there c, s .pre .0 .cut .codes)
 
-add-is-hued : tie.Need-add-is-hued
-add-is-hued c =
+mul-is-costly : tie.Need-mul-is-costly
+mul-is-costly c =
     let s = c .before .before .before .before .before .before .before .before .before .before in
-    record { fits = omega (arith, there c, s .pre .0 .cut .codes, s .good .1 .1 .0 .1) }
+    record { fits = omega (arith, codes-there c, s .good .1 .1 .0 .1) }
 
-shared-slice-read-is-hued : tie.Need-shared-slice-read-is-hued
-shared-slice-read-is-hued c =
+shared-slice-read-is-costly : tie.Need-shared-slice-read-is-costly
+shared-slice-read-is-costly c = omega (arith, codes-there (c .before))
+
+mul-is-costly-2 : tie.Need-mul-is-costly-2
+mul-is-costly-2 c =
     let found = c .before in
     let s = found .before .before .before .before .before .before .before .before .before .before in
-    omega (arith, there found, s .pre .0 .cut .codes)
+    record { fits = omega (arith, codes-there found, s .good .1 .1 .0 .1) }
 
-paint-hued-requires : tie.Need-paint-hued-requires
-paint-hued-requires c κs =
+add-is-costly : tie.Need-add-is-costly
+add-is-costly c =
+    let found = c .before in
+    let s = found .before .before .before .before .before .before .before .before .before .before in
+    record { fits = omega (arith, codes-there found, s .good .1 .1 .0 .1) }
+
+shared-slice-read-is-costly-2 : tie.Need-shared-slice-read-is-costly-2
+shared-slice-read-is-costly-2 c = omega (arith, codes-there (c .before .before))
+
+paint-costly-requires : tie.Need-paint-costly-requires
+paint-costly-requires c κs =
     let test = c .before in
     let h = test .before in
-    let j = h .before .before in
+    let j = h .before .before .before in
     let s = j .before .before .before .before .before .before .before .before .before .before in
-    (s .pre .0, (starts j, sym (h .is-hued .ensures) ∙ test .if3 .taken))
+    (s .pre .0, (starts j, sym (h .is-costly .ensures) ∙ test .if3 .taken))
 
 paint-held-requires : tie.Need-paint-held-requires
 paint-held-requires c κs =
     let test = c .before in
     let h = test .before in
-    let j = h .before .before in
+    let j = h .before .before .before in
     let s = j .before .before .before .before .before .before .before .before .before .before in
-    (s .pre .0, (starts j, sym (h .is-hued .ensures) ∙ test .if3 .left))
+    (s .pre .0, (starts j, sym (h .is-costly .ensures) ∙ test .if3 .left))
 
 pub paint-on-spec : {M : Type 1} → statement M
 paint-on-spec =
@@ -111,11 +124,13 @@ paint-on-spec =
     returns
     find-segment-requires
     (λ c. search needs)
-    mul-is-hued
-    add-is-hued
-    shared-slice-read-is-hued
+    mul-is-costly
+    shared-slice-read-is-costly
+    mul-is-costly-2
+    add-is-costly
+    shared-slice-read-is-costly-2
     (λ c κs. search needs)
-    paint-hued-requires
+    paint-costly-requires
     (λ c. search needs)
     (λ c. search needs)
     paint-held-requires

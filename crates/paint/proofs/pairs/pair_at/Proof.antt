@@ -32,6 +32,10 @@ returns-6 : tie.Need-returns-6
 unfolding colourIn
 returns-6 c = c .colour-in3 .ensures
 
+returns-7 : tie.Need-returns-7
+unfolding colourIn
+returns-7 c = c .colour-in4 .ensures
+
 pub pair-at-spec : {M : Type 1} → statement M
 pair-at-spec =
     tie.close
@@ -52,9 +56,12 @@ pair-at-spec =
     (λ c κs. search needs)
     (λ c. search needs)
     (λ c κs. search needs)
+    (λ c. search needs)
+    (λ c κs. search needs)
     returns
     returns-2
     returns-3
     returns-4
     returns-5
-    returns-6)
+    returns-6
+    returns-7)

@@ -1,7 +1,7 @@
 -- `stops::pair_colour` meets its contract: by the kind. Assumes nothing.
 use denote.Ref.{now}
 use mathlib.Core.Path.{refl}
-use Rattle.stops.specs.declared.Kind.the-variants.{Linear, Smoothstep, Gimp}
+use Rattle.stops.specs.declared.Kind.the-variants.{Linear, Smoothstep, Gimp, GimpSaved}
 use Rattle.stops.specs.Pair.{pairOf}
 use Rattle.stops.proofs.Pairs.{by-kind, by-sharp, by-basis, by-catmull}
 use borrow.Author.Needs.{needs}
@@ -56,6 +56,9 @@ pair-colour-requires-5 c κs = search needs
 enum-told-6 : tie.Need-enum-told-6
 enum-told-6 c = search needs
 
+enum-told-7 : tie.Need-enum-told-7
+enum-told-7 c = search needs
+
 returns : tie.Need-returns
 unfolding pairOf
 returns c = let s = c .before .before .before .before in by-kind (now (s .args .channels)) (s .args .n) (s .args .k) (s .args .p) (s .args .q) (s .args .t) Linear (c .before .enum-told .given .1) (c .pair-colour .ensures)
@@ -77,6 +80,10 @@ returns-6 : tie.Need-returns-6
 unfolding pairOf
 returns-6 c = let s = c .before .before .before in by-kind (now (s .args .channels)) (s .args .n) (s .args .k) (s .args .p) (s .args .q) (s .args .t) Gimp (c .enum-told6 .given .1) refl
 
+returns-7 : tie.Need-returns-7
+unfolding pairOf
+returns-7 c = let s = c .before .before .before in by-kind (now (s .args .channels)) (s .args .n) (s .args .k) (s .args .p) (s .args .q) (s .args .t) GimpSaved (c .enum-told7 .given .1) refl
+
 pub pair-colour-spec : {M : Type 1} → statement M
 pair-colour-spec =
     tie.close
@@ -97,9 +104,11 @@ pair-colour-spec =
     right-of-requires-2
     pair-colour-requires-5
     enum-told-6
+    enum-told-7
     returns
     returns-2
     returns-3
     returns-4
     returns-5
-    returns-6)
+    returns-6
+    returns-7)

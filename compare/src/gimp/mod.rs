@@ -1,0 +1,9 @@
+//! GIMP files read and written.
+
+pub mod counts;
+pub mod files;
+pub mod gimp_texts;
+pub mod saved;
+pub mod texts;
+pub mod torn;
+pub mod written;

@@ -1,0 +1,4 @@
+//! The stored answers of the program replay.
+
+pub mod sample;
+pub mod sample_within;

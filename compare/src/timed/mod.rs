@@ -1,0 +1,5 @@
+//! Times and instructions.
+
+pub mod bench;
+pub mod count;
+pub mod ordinary;
