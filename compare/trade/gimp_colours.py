@@ -166,12 +166,17 @@ def hold(names, off, said):
     return off <= told
 
 
-if sys.argv[1] == '--make':
-    make(sys.argv[2])
-elif sys.argv[1] == '--near':
-    near(sys.argv[2], int(sys.argv[3]))
-else:
-    found = read(sys.argv[1])
-    far = compare(found, read(sys.argv[2]))
-    if len(sys.argv) > 3:
-        sys.exit(not hold(found, far, sys.argv[3]))
+def main():
+    if sys.argv[1] == '--make':
+        make(sys.argv[2])
+    elif sys.argv[1] == '--near':
+        near(sys.argv[2], int(sys.argv[3]))
+    else:
+        found = read(sys.argv[1])
+        off = compare(found, read(sys.argv[2]))
+        if len(sys.argv) > 3:
+            sys.exit(not hold(found, off, sys.argv[3]))
+
+
+if __name__ == '__main__':
+    main()
