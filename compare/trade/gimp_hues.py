@@ -4,6 +4,7 @@ gimp_hues.py --twins FILE LINE FOLDER: that segment alone as a file, and twins o
 and down, every f32 the same, for each order of GIMP's two hues that comes of it.
 gimp_hues.py --steps GIMPS FILE ..: GIMP's steps for segments by hue, in doubles, beside its own colours (gimp_colours.py has the
 form of that text): at how many points they differ, and how far the library's steps are off with GIMP's greys and without.
+gimp_hues.py --bound FILE ..: segments by hue whose two hues are nearer than rounding in f32 can tell, but are not equal in doubles.
 
 docs/HSV.md, 'Where GIMP paints otherwise', has what comes of it."""
 import math
@@ -13,7 +14,7 @@ from fractions import Fraction
 
 from gimp_colours import read
 
-GREY, PLAIN, RISING, INCREASING, DECREASING = 1e-4, 0, 1, 3, 4
+GREY, PLAIN, RISING, INCREASING, DECREASING, STEP = 1e-4, 0, 1, 3, 4, 5
 
 
 def single(x):
@@ -75,6 +76,21 @@ def show(path, wanted):
         print(f'{rule}: {float(left):.17g} and {float(right):.17g}, the left one less the right {float(left - right):.3g}')
     reach = sum(2 / gimps(end)[1] for end in doubles) * 2 ** -24 / 6
     print(f'how far rounding the channels to f32 can move that: {reach:.3g}')
+
+
+def bound(paths):
+    """A hue, in sixths, is off by at most (2/s + 13) 2^-24 in f32 (docs/HSV.md)."""
+    found = set()
+    for path in paths:
+        for line, words, codes in segments(path):
+            ends = [[float(x) for x in words[i:i + 3]] for i in (3, 7)]
+            (left, s, _), (right, z, _) = (there([single(x) for x in end], lambda x: x, 0) for end in ends)
+            apart = min(abs(left - right), 6 - abs(left - right))
+            is_one = ends[0] == ends[1] or gimps(ends[0]) == gimps(ends[1])
+            if codes[1] and codes[0] != STEP and s and z and not is_one and apart <= (2 / s + 2 / z + 26) * 2 ** -24:
+                print(f'{path}:{line}: {apart / 6:.2e} of a turn')
+                found.add(path)
+    print(f'{len(found)} of {len(paths)} files')
 
 
 def twins(path, wanted, folder):
@@ -187,6 +203,8 @@ def steps(seen, paths):
 
 if sys.argv[1] == '--twins':
     twins(sys.argv[2], int(sys.argv[3]), sys.argv[4])
+elif sys.argv[1] == '--bound':
+    bound(sys.argv[2:])
 elif sys.argv[1] == '--steps':
     steps(read(sys.argv[2]), sys.argv[3:])
 else:
