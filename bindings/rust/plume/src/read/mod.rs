@@ -3,6 +3,7 @@
 mod cpt;
 mod csv;
 mod gimp;
+mod hues;
 mod printed;
 mod stumble;
 mod text;
