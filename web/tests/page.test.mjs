@@ -184,18 +184,6 @@ test('kinds, thresholds and holds are steps of their own; a GIMP ramp can be tak
     assert.match(await browser.text('#ramp-label'), /^Ramp: linear, \d+ stops$/);
 });
 
-test('the swell profile is read in words, and inverted', async () => {
-    await page.load(DEPTHS);
-    const words = () => browser.text('#profile-words');
-    assert.equal(await words(), 'Height of 100, where the dark rises: starts at 95, falls to 6.7 at 1. The list has the same heights.');
-    await browser.click('#invert');
-    assert.equal(await words(), 'Height of 100, where the light rises: starts at 4.6, rises to 93 at 1. The list has the same heights.');
-    await browser.run(() => document.getElementById('reader').focus());
-    await browser.press(KEYS.home);
-    const read = await browser.run(() => document.getElementById('reader').getAttribute('aria-valuetext'));
-    assert.equal(read, '0: ramp #080d2b, list #080d2b, 0 off; height 5');
-});
-
 test('the profile is listened to; what is not saved is told', async () => {
     await page.load(DEPTHS);
     const isPlaying = () => browser.run(() => document.getElementById('listen').getAttribute('aria-pressed'));
