@@ -9,6 +9,9 @@ CODE = re.compile(r'^(?:impl (?P<owner>\w+)|(?P<end>\})|'
                   r' *(?:pub(?:\(\w+\))? )?(?:extern "C" )?(?P<kind>fn|const|static|struct|enum) (?P<name>\w+))', re.M)
 SPEC = re.compile(r'^(?: *(?:abbrev|unfoldable) pub | *pub (?:record|data) |pub )(?P<name>\S+)', re.M)
 
+# Where the body of a function begins, after its name, its parameters and its contract.
+BODY = re.compile(r'^ *(?:\{|.*\bfn .*\{|\).*\{)$', re.M)
+
 # An error of the checker: its place, the claim that it is in, and why.
 ERROR = re.compile(r'(\S+): error: `([^`]*)`: (.*)')
 # Why, where a fact does not hold. Any other reason is one of shape, but for what only follows from another error.
@@ -83,10 +86,10 @@ def replacements(edit):
     return found
 
 
-def made(edit, crate):
+def made(edit, crate, others=None):
     """The files of a crate that an edit changes, with their new text, and the items that it changes: none where the words
-    do not stand once, or not in code or specs."""
-    texts, changed = {}, []
+    do not stand once, or not in code or specs. The texts may have been changed by other edits already."""
+    texts, changed = dict(others or {}), []
     for file, old, new in replacements(edit):
         path = crate / file
         text = texts.get(file) or (path.read_text() if path.is_file() else '')
@@ -96,6 +99,17 @@ def made(edit, crate):
         changed += [item for item in items(file, text) if item.start <= last][-1:]
         texts[file] = text.replace(old, new)
     return texts, changed
+
+
+def is_in_bodies(edit, crate):
+    """Whether an edit changes bodies of functions alone, so that nothing which others are proved by is changed."""
+    for file, old, _ in replacements(edit):
+        text = (crate / file).read_text()
+        place = text.index(old)
+        item = [item for item in items(file, text) if item.start <= place][-1:]
+        if not item or not item[0].is_function or not BODY.search(text, item[0].start, place):
+            return False
+    return True
 
 
 # ---- what the checker says

@@ -169,7 +169,7 @@ static inline const char *colorgrad_message(uint32_t refusal)
     case COLORGRAD_FEW_LINES: return "the GIMP text has fewer segments than it counts";
     case COLORGRAD_NO_SEGMENT: return "the GIMP text has no segment";
     case COLORGRAD_TOO_MANY_SEGMENTS: return "the GIMP text counts more segments than there is room for";
-    case COLORGRAD_NOT_CARRIED: return "a segment is curved, or sinusoidal with its middle outside its ends";
+    case COLORGRAD_NOT_CARRIED: return "a segment is curved, which this call does not take, or curved or sinusoidal with its middle outside its ends";
     case COLORGRAD_NOT_BUILT: return "no sharp ramp can be built of so many colours on this domain";
     case COLORGRAD_TORN: return "the segments of the GIMP text do not run from 0 to 1, each joined to the next";
     case COLORGRAD_UNWRITABLE: return "a number of the list cannot be written, or it does not run from 0 to 1";

@@ -1,6 +1,6 @@
 #!/usr/bin/env node
-// replay.mjs: the stored answers of the published Rust, and the lists that keep their word, as ../README.md has their form, asked
-// of the library as WebAssembly. It prints what the program `replay` prints of these, and its status is 1 where that is not
+// replay.mjs: the stored answers of the published Rust, the lists that keep their word and the sheets, as ../README.md has their
+// form, asked of the library as WebAssembly. It prints what the program `replay` prints of these, and its status is 1 where that is not
 // how crates/replay/stdout begins.
 import { readFileSync } from 'node:fs';
 import { join } from 'node:path';
@@ -9,6 +9,8 @@ import { call, CELLS, copy, lend, MARKS, meanwhile, ROOT, ROWS } from './library
 const FOLDER = join(ROOT, 'crates/replay');
 const [RUBBISH, NAN, MOST_SEGMENTS, MOST_COLOURS] = [7.5, 0x7fc00000, 256, 256];
 const [SHORT_RECORD, SMALL_ROOM] = [1, 2];
+const [FACTOR, PRIME] = [1000003, 4294967291];
+const OF_LISTS = [7, 8, 9, 21];
 
 const stored = readFileSync(join(FOLDER, 'stdin'), 'latin1').trimEnd().split('\n').map(word => parseInt(word, 16));
 let next = 0;
@@ -114,6 +116,36 @@ function stale() {
     return listed(call('thin_within_told', ...of, threshold, hold, ...lent.record, ...lent.outputs, lent.told), lent);
 }
 
+/** What slices hold as one word: a polynomial in their bits, modulo a prime. */
+function sum(...slices) {
+    const items = slice => (slice instanceof Float32Array ? bitsOf(slice) : slice);
+    return slices.reduce((before, slice) => items(slice).reduce((sum, bits) => (sum * FACTOR + bits) % PRIME, before), 1);
+}
+
+/** A sheet opened, then edited so often as is stored: of each turn the answer, and what the ramp, the record and the list hold. */
+function sheets() {
+    const [kind, positions, channels, codes] = ramp();
+    const [rows, places] = words(2);
+    const record = [lend(Float32Array, rows, RUBBISH), lend(Uint8Array, CELLS), lend(Uint32Array, MARKS)];
+    const outputs = [lend(Float32Array, places, RUBBISH), lend(Float32Array, 4 * (ROWS + 1), RUBBISH)];
+    const told = lend(BigUint64Array, 3);
+    const lent = () => [kind, positions, channels, codes, BigInt(word())];
+    const turned = refusal => {
+        const [which, ...numbers] = words(5);
+        const due = refusal === 0 ? 0 : OF_LISTS.includes(refusal) ? 1 : 2;
+        const sums = [sum(positions, channels), sum(...record), sum(...outputs)];
+        return [which === due && same([refusal, ...numbersOf(told)], numbers), ...words(3).map((word, i) => word === sums[i])];
+    };
+    const [list, of, threshold] = [[word(), float()], lent(), float()];
+    const equal = turned(call('sheet_open_told', ...of, threshold, ...list, ...record, ...outputs, told));
+    for (let left = word(); left > 0; left--) {
+        const [of, threshold] = [lent(), float()];
+        const edit = [word(), BigInt(word()), float(), float(), float(), float(), float()];
+        equal.push(...turned(call('sheet_edit_told', ...of, ...edit, threshold, ...list, ...record, ...outputs, told)));
+    }
+    return equal;
+}
+
 /** As many records of one sort as the next word says. */
 function replayed(sort) {
     const equal = [];
@@ -121,6 +153,6 @@ function replayed(sort) {
     return `${sort.name} ${equal.length} equal ${equal.filter(Boolean).length}\n`;
 }
 
-const printed = [colours, lists, thinned, refreshed, texts, sharp, within, stale].map(replayed).join('');
+const printed = [colours, lists, thinned, refreshed, texts, sharp, within, stale, sheets].map(replayed).join('');
 process.stdout.write(printed);
 process.exit(readFileSync(join(FOLDER, 'stdout'), 'latin1').startsWith(printed) ? 0 : 1);

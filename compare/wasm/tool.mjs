@@ -2,7 +2,7 @@
 // tool.mjs [FILE ..]: the library as WebAssembly beside the tool, on inputs of the tool; examples/*.tsv where none is named.
 // Of each file three texts are compared, byte for byte: what ./flatten prints; what colorgrad_desk answers; and, where the
 // input is read, the same text put together here of tokens, a sampling, an edit and a list.
-import { execFileSync } from 'node:child_process';
+import { spawnSync } from 'node:child_process';
 import { readdirSync, readFileSync } from 'node:fs';
 import { join } from 'node:path';
 import { call, CELLS, copy, lend, MARKS, meanwhile, ROOT, ROWS } from './library.mjs';
@@ -63,7 +63,8 @@ function putTogether(input) {
 
 function differs(file) {
     const input = readFileSync(file);
-    const printed = execFileSync(join(ROOT, 'flatten'), [file], { encoding: 'utf8' });
+    // what is refused or unread ends with a status of its own
+    const printed = spawnSync(join(ROOT, 'flatten'), [file], { encoding: 'utf8' }).stdout;
     const answers = printed.startsWith('unread') ? [desk] : [desk, putTogether];
     const texts = answers.map(answer => [answer.name, meanwhile(() => answer(input))]);
     const wrong = texts.filter(([, text]) => text !== printed);

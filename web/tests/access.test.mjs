@@ -129,3 +129,15 @@ test('a stop is moved, told and taken back by keys alone', async () => {
     assert.equal(await words(), '0.4026, stop 3 of 6, #ff0000');
     assert.match(await page.status(), /^Undone: stop 3 moved to 0\.3926\./);
 });
+
+test('the swell profile is read in words, and inverted', async () => {
+    await page.load('examples/depths.tsv');
+    const words = () => browser.text('#profile-words');
+    assert.equal(await words(), 'Height of 100, where the dark rises: starts at 95, falls to 6.7 at 1. The list has the same heights.');
+    await browser.click('#invert');
+    assert.equal(await words(), 'Height of 100, where the light rises: starts at 4.6, rises to 93 at 1. The list has the same heights.');
+    await browser.run(() => document.getElementById('reader').focus());
+    await browser.press(KEYS.home);
+    const read = await browser.run(() => document.getElementById('reader').getAttribute('aria-valuetext'));
+    assert.equal(read, '0: ramp #080d2b, list #080d2b, 0 off; height 5');
+});

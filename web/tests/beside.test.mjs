@@ -20,8 +20,10 @@ const COUNT = Number(process.env.BESIDE ?? 200);
 /** What the page makes of a file: what is said of it, and its texts or why there is none. */
 function made(name, bytes) {
     const editor = new Editor();
+    let source;
     try {
-        editor.open(readFile(name, bytes));
+        source = readFile(name, bytes);
+        editor.open(source);
         if (editor.sheet.listRefusal) return { fault: editor.said().line };
     } catch (error) {
         if (!(error instanceof Fault)) throw error;
@@ -35,7 +37,7 @@ function made(name, bytes) {
             return [format, error];
         }
     });
-    return { line: editor.said().line, texts: new Map(texts), isEdited: /\nedit\t/.test(bytes) };
+    return { line: editor.said().line, texts: new Map(texts), isEdited: /\nedit\t/.test(bytes), onHues: source.notes.filter(isOnHues) };
 }
 
 /** What plume says of each file, as it says it of all at once, by the name. */
@@ -51,6 +53,9 @@ function saidBy(folder, names, format, out) {
     return said;
 }
 
+// other notes name a word of the command line, or a box to tick
+const isOnHues = note => note.includes('coloured by hue');
+
 // a list that is refused is told by plume as a refusal, and here as the state of the sheet
 const refusedList = words => /^The list is refused, (\d+): (.*)\. The ramp stands/.exec(words);
 
@@ -62,6 +67,7 @@ function check(name, ours, said, format, file) {
     const text = ours.texts.get(format);
     if (text instanceof Fault) return has(text.message.replace(/^r\d+: /, ''));
     has(ours.line);
+    assert.deepEqual(said.filter(isOnHues), ours.onHues.map(note => note.replace(/^r\d+\.txt/, '')), name);
     // after the edit of a file plume tells the evaluations of the last call, and the page those of a fresh flattening
     const compared = text => (format === 'bits' && ours.isEdited ? text.replace(/evaluations\t\d+/, '') : text);
     return assert.equal(compared(text), compared(readFileSync(file, 'utf8')), `${name}, ${format}`);
@@ -81,7 +87,8 @@ test(`${COUNT} files at random`, { skip: !existsSync(PLUME) && `plume is not at 
             for (const [name] of all) check(name, ours.get(name), theirs.get(`${name}.txt`), format, join(out, `${name}.${ending}`));
         }
         const read = [...ours.values()].filter(one => one.texts).length;
-        console.log(`${COUNT} files, ${read} read: each in ${Object.keys(FORMATS).length} formats as plume has it`);
+        const warned = [...ours.values()].filter(one => one.onHues?.length).length;
+        console.log(`${COUNT} files, ${read} read, ${warned} told of hues: each in ${Object.keys(FORMATS).length} formats as plume has it`);
     } finally {
         rmSync(folder, { recursive: true });
     }

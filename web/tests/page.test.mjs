@@ -137,6 +137,8 @@ test('files are dropped; one that cannot be read is told by its line, and the ra
     assert.match(await browser.text('#said'), /^2 stops in, 2 out/);
     await browser.press('z', KEYS.control);
     assert.equal(await browser.text('#title'), 'depths');
+    await drop('sky.ggr', 'GIMP Gradient\nName: sky\n1\n0 0.5 1 0.819999 0.82 0.82 1 1 0 0 1 0 1\n');
+    await browser.until(() => /sky\.ggr:4: coloured by hue, and one end is nearly grey/.test(document.getElementById('status').textContent));
 });
 
 test('depths that became one are told in words', async () => {
@@ -182,18 +184,6 @@ test('kinds, thresholds and holds are steps of their own; a GIMP ramp can be tak
     assert.match(await browser.text('#ramp-label'), /^Ramp: linear, \d+ stops$/);
 });
 
-test('the swell profile is read in words, and inverted', async () => {
-    await page.load(DEPTHS);
-    const words = () => browser.text('#profile-words');
-    assert.equal(await words(), 'Height of 100, where the dark rises: starts at 95, falls to 6.7 at 1. The list has the same heights.');
-    await browser.click('#invert');
-    assert.equal(await words(), 'Height of 100, where the light rises: starts at 4.6, rises to 93 at 1. The list has the same heights.');
-    await browser.run(() => document.getElementById('reader').focus());
-    await browser.press(KEYS.home);
-    const read = await browser.run(() => document.getElementById('reader').getAttribute('aria-valuetext'));
-    assert.equal(read, '0: ramp #080d2b, list #080d2b, 0 off; height 5');
-});
-
 test('the profile is listened to; what is not saved is told', async () => {
     await page.load(DEPTHS);
     const isPlaying = () => browser.run(() => document.getElementById('listen').getAttribute('aria-pressed'));
@@ -216,13 +206,15 @@ test('whatever is dropped and pressed, nothing goes wrong unsaid', async () => {
         const wrong = [];
         addEventListener('error', event => wrong.push(event.message));
         addEventListener('unhandledrejection', event => wrong.push(String(event.reason)));
-        const handle = document.getElementById('handle');
+        const [handle, ...said] = ['handle', 'status', 'alert'].map(id => document.getElementById(id));
         const press = key => handle.dispatchEvent(new KeyboardEvent('keydown', { key, bubbles: true, ctrlKey: key === 'z' }));
         for (const [i, text] of texts.entries()) {
             const dropped = new DataTransfer();
             dropped.items.add(new File([text], `r${i}.txt`));
+            for (const element of said) element.textContent = '';
             document.dispatchEvent(new DragEvent('drop', { dataTransfer: dropped, bubbles: true, cancelable: true }));
-            await new Promise(done => setTimeout(done));
+            // it is read some time after it was dropped
+            while (said.every(element => !element.textContent)) await new Promise(done => setTimeout(done));
             for (const key of ['n', 'ArrowRight', 'Insert', 'PageUp', 'Delete', 'End', 'ArrowLeft', 'z', 'z']) press(key);
             document.getElementById('sort').value = i % 2 ? 'published' : 'within';
             document.getElementById('sort').dispatchEvent(new Event('change'));

@@ -71,13 +71,22 @@ export class Files {
         return ['# table', '# COLOR_MODEL = RGB', ...lines, 'B black', ''].join('\n');
     }
 
+    /** Two colours: any; with a channel outside 0..1; one of them nearly grey; of nearly one hue, with six digits or with all. */
+    pair() {
+        const any = () => [this.random(), this.random() * this.one([1, 1, 1, 1, 2]), this.random(), this.random()];
+        const left = this.one([any, () => [0.5, 0.5 + this.random() / 5000, 0.5, 1]])();
+        const factor = this.one([0.5, 0.3, 1 + this.random() / 1e9]);
+        const right = this.one([any, any, () => left.map(x => Number(x.toFixed(6)) * factor)])();
+        const digits = this.one([x => x.toFixed(6), x => x.toFixed(6), x => x.toPrecision(17)]);
+        return [...left, ...right].map(digits);
+    }
+
     ggr() {
         const count = 1 + this.below(4);
         const at = Array.from({ length: count + 1 }, (_, i) => i / count);
         const segment = (x, i) => {
             const ends = [x, (x + at[i + 1]) / 2 + this.one([0, 0, 0.01]), at[i + 1]].map(t => t.toFixed(6));
-            const colors = Array.from({ length: 8 }, () => this.random().toFixed(6));
-            return [...ends, ...colors, this.one([0, 0, 2, 3, 4, 5]), this.one([0, 0, 1, 2])].join(' ');
+            return [...ends, ...this.pair(), this.one([0, 0, 2, 3, 4, 5]), this.one([0, 0, 1, 2])].join(' ');
         };
         return ['GIMP Gradient', 'Name: random', count, ...at.slice(0, -1).map(segment), ''].join('\n');
     }

@@ -48,7 +48,7 @@ pub enum Refusal {
     NoSegment = 14,
     /// 15: more segments counted than 256, or than there is room for.
     TooManySegments = 15,
-    /// 16: a valid segment that is curved, or sinusoidal with its middle outside its ends.
+    /// 16: a valid segment that is curved, where the call takes none, or curved or sinusoidal with its middle outside its ends.
     NotCarried = 16,
     /// 17: a sharp ramp of no colours or more than 256, or on a domain on which it cannot be built.
     NotBuilt = 17,

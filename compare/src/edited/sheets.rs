@@ -84,11 +84,17 @@ fn random_sheet(random: &mut Random, is_within: bool) -> Sheet {
 }
 
 /// The ramp that a sheet holds, where the slices have so many stops.
-fn lent(sheet: &Sheet) -> Option<Ramp> {
+pub fn lent(sheet: &Sheet) -> Option<Ramp> {
     let (positions, channels) = sheet.lengths();
     let fits =
         sheet.stops <= MOST_STOPS && sheet.ramp.positions.len() >= positions && sheet.ramp.channels.len() >= channels;
     fits.then(|| sheet.own())
+}
+
+/// Whether a stop more has room.
+pub fn has_room(sheet: &Sheet) -> bool {
+    let (positions, channels) = sheet.lengths();
+    positions < sheet.ramp.positions.len() && channels + 4 <= sheet.ramp.channels.len()
 }
 
 /// What a list's outputs hold past its stops is rubbish again, so that it is seen what a call writes.
@@ -114,9 +120,7 @@ fn edited(sheet: &mut Sheet, edit: &Sorted) -> (u32, bool) {
     let before = sheet.clone();
     let ramp = sheet.own();
     let got = ours::sheet_edit(sheet, edit);
-    let has_room =
-        ramp.positions.len() < before.ramp.positions.len() && ramp.channels.len() + 4 <= before.ramp.channels.len();
-    let number = if edit.sort == ADD && !has_room { 6 } else { edits::refusal(&ramp, edit) };
+    let number = if edit.sort == ADD && !has_room(&before) { 6 } else { edits::refusal(&ramp, edit) };
     if number != 0 {
         return (number, got == (number, [before.stops, 0, 0]) && is_same(sheet, &before));
     }
@@ -142,17 +146,17 @@ fn fresh(sheet: &Sheet, before: &Sheet, ramp: &Ramp, spent: usize, got: (u32, [u
 }
 
 /// A list in a room, or its refusal, and the record that it is made of.
-struct Due {
-    record: Record,
-    number: u32,
-    stops: usize,
-    evaluations: usize,
-    places: Vec<f32>,
-    colours: Vec<f32>,
+pub struct Due {
+    pub record: Record,
+    pub number: u32,
+    pub stops: usize,
+    pub evaluations: usize,
+    pub places: Vec<f32>,
+    pub colours: Vec<f32>,
 }
 
 /// By the Rust's colours, sampling and thinning.
-fn due(sheet: &Sheet, ramp: &Ramp) -> Due {
+pub fn due(sheet: &Sheet, ramp: &Ramp) -> Due {
     let (g, room) = (oracle::gradient(ramp), (sheet.places.len(), sheet.colours.len()));
     let (record, _) = oracle::record(&g, ramp.domain(), sheet.threshold);
     let mut list = oracle::thinned(&g, ramp.domain().1, sheet.threshold, &record);

@@ -1,5 +1,5 @@
 //! The stored answers that the program `replay` runs: all of them the Rust's, or document 01's refusals, but for the lists that
-//! keep their word, which `sample_within` works out.
+//! keep their word, which `sample_within` works out. `sample_sheets` has the sheets.
 //! A word is eight hexadecimal digits and a line end; README.md has the records.
 
 use crate::edited::edits::{self, changed, ADD, COLOUR, SORTS};
@@ -14,6 +14,7 @@ use crate::harness::random::Random;
 use crate::listed::lists::{early, emitted, random_record, random_threshold, MOST_POINTS};
 use crate::listed::many::{of_many, Spacing};
 use crate::painted::sharp;
+use crate::stored::sample_sheets;
 use crate::stored::sample_within;
 use std::collections::BTreeSet;
 use std::fmt::Write;
@@ -174,6 +175,11 @@ impl Words {
         self.ramp(ramp);
         self.float(threshold);
         self.word(room as u32);
+        self.edit(edit);
+    }
+
+    /// Whether or not the sort has a position and a colour.
+    pub fn edit(&mut self, edit: &Sorted) {
         self.word(edit.sort);
         self.size(edit.stop);
         self.float(edit.position);
@@ -208,11 +214,12 @@ pub fn run(options: &Options, folder: &Path) -> std::io::Result<()> {
     gimp(options, &mut words);
     built(options, &mut words);
     sample_within::run(options, &mut words);
+    sample_sheets::run(options, &mut words);
     std::fs::write(folder.join("stdin"), &words.text)?;
     std::fs::write(folder.join("stdout"), &words.printed)
 }
 
-fn items(ramp: &Ramp) -> usize {
+pub fn items(ramp: &Ramp) -> usize {
     if ramp.kind.is_gimp() {
         ramp.positions.len() / 3
     } else {

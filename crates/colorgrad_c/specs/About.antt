@@ -33,7 +33,7 @@ refusalTexts =
     ∷ "the GIMP text has fewer segments than it counts"
     ∷ "the GIMP text has no segment"
     ∷ "the GIMP text counts more segments than there is room for"
-    ∷ "a segment is curved, or sinusoidal with its middle outside its ends"
+    ∷ "a segment is curved, which this call does not take, or curved or sinusoidal with its middle outside its ends"
     ∷ "no sharp ramp can be built of so many colours on this domain"
     ∷ "the segments of the GIMP text do not run from 0 to 1, each joined to the next"
     ∷ "a number of the list cannot be written, or it does not run from 0 to 1"

@@ -89,7 +89,7 @@ pub extern "C" fn colorgrad_message_told(refusal: u32, out: &mut [u8]) -> usize
         the GIMP text has fewer segments than it counts\n\
         the GIMP text has no segment\n\
         the GIMP text counts more segments than there is room for\n\
-        a segment is curved, or sinusoidal with its middle outside its ends\n\
+        a segment is curved, which this call does not take, or curved or sinusoidal with its middle outside its ends\n\
         no sharp ramp can be built of so many colours on this domain\n\
         the segments of the GIMP text do not run from 0 to 1, each joined to the next\n\
         a number of the list cannot be written, or it does not run from 0 to 1\n\

@@ -1,17 +1,12 @@
 -- The check of a refresh, and what a refresh that passes it may lean on. Assumes nothing.
-use mathlib.Core.Path.{_≡_, refl, sym, ap, _∙_}
-use mathlib.Core.List.{List}
-use Prim.Native.Nat.{ℕ, _*_, _≤_, _<_}
-use native.Mathlib.Omega.{arith}
-use lib.ListN.{length, take}
+use mathlib.Core.Path.{_≡_, ap, _∙_}
+use Prim.Native.Nat.{ℕ, _<_}
+use lib.ListN.{length}
 use lib.Ieee.{Float}
-use Rattle.refusals.specs.Limits.{mostStops}
-use Rattle.stops.specs.Lent.{Ramp, rampOf}
-use Rattle.stops.specs.Answers.{onFine}
+use Rattle.stops.specs.Lent.{Ramp}
 use Rattle.stops.specs.declared.Checked.{Checked}
 use Rattle.stops.specs.declared.Checked.the-variants as checked
 use Rattle.gradient.specs.Ramp.{checkOf}
-use Rattle.gradient.proofs.Valid.{valid}
 use Rattle.sampling.specs.Lent.{Held}
 use Rattle.sampling.specs.Constants.{cells}
 use Rattle.sampling.specs.Sampling.{andThen, marksOf, sampleCheck, heldCheck}
@@ -20,15 +15,10 @@ use Rattle.sampling.specs.Anew.{keptBy}
 use Rattle.sampling.proofs.Checks.{passes-both, ramp-fine}
 use Rattle.records.proofs.Passing.{sample-fine, marks-own}
 use Rattle.refresh.proofs.reach.Kept.{checked-kept}
-use Rattle.refresh.specs.editing.Edited.{stopsAfter, edited}
+use Rattle.refresh.specs.editing.Edited.{edited}
 use Rattle.refresh.specs.editing.Rules.{editCheck}
 use Rattle.refresh.specs.editing.Reached.{stretchOf, cellsKept, clearCell}
-use Rattle.refresh.specs.editing.Copied.{copyCheck, copyAnswer, Copies}
 use Rattle.refresh.specs.declared.editing.Edit.{Edit}
-use Rattle.refresh.specs.declared.editing.copy.Copied.{Copied}
-use Rattle.refresh.specs.declared.editing.copy.Copied.the-variants as copied
-use Rattle.refresh.proofs.editing.Splices.{written-is}
-use Rattle.refresh.proofs.editing.Copying.{copy-check, fits-are}
 use Rattle.refresh.specs.editing.Sound.{Sound}
 use Rattle.refresh.proofs.editing.EditSound.{edit-sound}
 use Rattle.refresh.specs.RefreshDesk.{refreshCheck}
@@ -56,54 +46,6 @@ module _ (ramp : Ramp) (e : Edit) (ok : Sound ramp e) where
   -- and has the same words
   pub same-marks : (asked : Float) → marksOf (edited ramp e) asked ≡ marksOf ramp asked
   same-marks asked = rw (ok .same-min, ok .same-max)
-
--- ---- the copy of the changed ramp, in arrays with room for one stop more
-module _ (ramp : Ramp) (e : Edit) (fine : checkOf ramp ≡ checked.Fine) (places colours places′ colours′ : List Float) (long : length places ≡ 2049) (wide : length colours ≡ 8196) (r : Copied)
-    (w : Copies (ramp .kind) (ramp .positions) (ramp .channels) e places colours places′ colours′ r) where
-  checked-by : copyCheck (ramp .kind) (ramp .positions) (ramp .channels) e places colours ≡ editCheck ramp e
-  unfolding mostStops
-  checked-by =
-      copy-check (ramp .kind) (ramp .positions) (ramp .channels) e places colours
-      (λ h.
-      let s = valid ramp (edit-sound ramp e fine h .stops) fine .sized in
-      fits-are _ _ _ _ (record { most = s .most; four = s .four; some = omega (arith, s .most); wide = omega (arith, s .most, s .four) }))
-
-  copied-refused : (c : Checked) (k n : ℕ) → copied.Refused n ≡ onFine c (copied.Stops k) copied.Refused → c ≡ checked.Refused n
-  copied-refused checked.Fine k n h = let z : _≡_ {A = ℕ} 0 1 = cc in absurd (omega arith)
-  copied-refused (checked.Refused m) k n h = let z : n ≡ m = cc in ap checked.Refused (sym z)
-
-  copied-done : (c : Checked) (k n : ℕ) → copied.Stops n ≡ onFine c (copied.Stops k) copied.Refused → (c ≡ checked.Fine) × (n ≡ k)
-  copied-done checked.Fine k n h = let z : n ≡ k = cc in (refl, z)
-  copied-done (checked.Refused m) k n h = let z : _≡_ {A = ℕ} 0 1 = cc in absurd (omega arith)
-
-  pub edit-refused : (n : ℕ) → r ≡ copied.Refused n → editCheck ramp e ≡ checked.Refused n
-  unfolding copyAnswer
-  edit-refused n is = copied-refused (editCheck ramp e) (stopsAfter (length (ramp .positions)) e) n (sym is ∙ w .answer ∙ rw checked-by)
-
-  -- what a copy that was made holds
-  pub record Holds (n : ℕ) : Type 0 where
-    pub edit-fine : editCheck ramp e ≡ checked.Fine
-    pub few : n ≤ 2048
-    pub positions-are : take n places′ ≡ edited ramp e .positions
-    pub channels-are : take (4 * n) colours′ ≡ edited ramp e .channels
-
-  pub copy-holds : (n : ℕ) → r ≡ copied.Stops n → Holds n
-  unfolding mostStops copyAnswer
-  copy-holds n is =
-      let d = copied-done (editCheck ramp e) (stopsAfter (length (ramp .positions)) e) n (sym is ∙ w .answer ∙ rw checked-by) in
-      let ok = edit-sound ramp e fine (d .0) in
-      let most = valid (edited ramp e) (ok .stops) (ok .still-fine) .sized .most in
-      let many : length (edited ramp e .positions) ≡ n = ok .as-many ∙ sym (d .1) in
-      let four : length (edited ramp e .channels) ≡ 4 * n = ok .four ∙ ap (λ (m : ℕ). 4 * m) (sym (d .1)) in
-      record {
-        edit-fine = d .0;
-        few = omega (arith, most, many);
-        positions-are = ap (take n) (w .written ∙ rw (checked-by, d .0)) ∙ written-is places (edited ramp e .positions) n many (omega (arith, most, many, long));
-        channels-are = ap (take (4 * n)) (w .coloured ∙ rw (checked-by, d .0)) ∙ written-is colours (edited ramp e .channels) (4 * n) four (omega (arith, most, many, wide));
-      }
-
-  pub copy-is : (n : ℕ) → Holds n → rampOf (ramp .kind) (take n places′) (take (4 * n) colours′) (ramp .codes) ≡ edited ramp e
-  copy-is n h = rw (h .positions-are, h .channels-are)
 
 -- ---- what a check that is passed tells
 module _ (ramp : Ramp) (e : Edit) (asked : Float) (was : Held) (h : refreshCheck ramp e asked was ≡ checked.Fine) where

@@ -26,8 +26,8 @@ use Rattle.refresh.proofs.EditChecks.{thin-fine, own-words, allowed, sa
 use Rattle.refresh.proofs.RefreshAnswers.{edited-held, renewed-thins, words-stay}
 
 -- the refreshed record may be thinned, with the changed ramp: it has the lengths and the words that it had
-thins : (ramp : Ramp) (e : Edit) (asked : Float) (was : Held) → refreshCheck ramp e asked was ≡ checked.Fine → thinCheck (edited ramp e) asked (renewed ramp e asked was) ≡ checked.Fine
-thins ramp e asked was h =
+pub renewed-passes : (ramp : Ramp) (e : Edit) (asked : Float) (was : Held) → refreshCheck ramp e asked was ≡ checked.Fine → thinCheck (edited ramp e) asked (renewed ramp e asked was) ≡ checked.Fine
+renewed-passes ramp e asked was h =
     let before = ready ramp asked was (thin-fine ramp e asked was h) in
     let after = renewed-thins ramp e asked was h in
     let words = words-stay ramp e asked was in
@@ -52,7 +52,7 @@ module _ (ramp : Ramp) (e : Edit) (asked : Float) (held : Change Held) (all : He
       let g = colourOf (edited ramp e) in
       let ts = pointsIn (edited ramp e) (renewed ramp e asked (held .entry)) in
       let new : held .exit ≡ renewed ramp e asked (held .entry) = first .left ∙ rw h in
-      let fine = thins ramp e asked (held .entry) h in
+      let fine = renewed-passes ramp e asked (held .entry) h in
       record {
         answer =
             both .told .answer

@@ -1,13 +1,17 @@
-// Runs the answers that `compare/` stored, and counts those that are equal here: the published Rust's, and of what the Rust has
-// not got those that were worked out from document 02, and from the rule of lists that keep their word.
+// Runs the answers that `compare/` stored, and counts those that are equal here: the published Rust's, of sheets those of a fresh
+// flattening after each edit, and of what the Rust has not got those that were worked out from document 02, and from the rule of
+// lists that keep their word.
 mod bands;
 mod colours;
 mod edits;
 mod held;
 mod lists;
 mod ramps;
+mod sheets;
 mod steps;
+mod sums;
 mod texts;
+mod turns;
 mod verdicts;
 mod words;
 mod written;
@@ -49,6 +53,9 @@ fn next(sort: u32, before: Tally) -> Tally {
     if sort == ramps::WRITTEN {
         return written::run(before);
     }
+    if sort == ramps::SHEETS {
+        return sheets::run(before);
+    }
     ramps::run(sort, before)
 }
 
@@ -72,6 +79,7 @@ fn main() {
     print(b"sharp ", records(ramps::BANDS));
     print(b"within ", records(ramps::WITHIN));
     print(b"stale ", records(ramps::STALE));
+    print(b"sheets ", records(ramps::SHEETS));
     print(b"waves ", records(ramps::COLOURS));
     print(b"written ", records(ramps::WRITTEN));
     print(b"verdicts ", records(ramps::VERDICTS));

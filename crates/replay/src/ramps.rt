@@ -30,6 +30,8 @@ pub const WITHIN: u32 = 10;
 
 pub const STALE: u32 = 11;
 
+pub const SHEETS: u32 = 12;
+
 // One more than a ramp may have, 2,048 stops or 256 segments, so that the refusal of it is stored too.
 const MOST_POSITIONS: usize = 2049;
 
@@ -37,7 +39,7 @@ const MOST_CHANNELS: usize = 4 * 2049;
 
 const MOST_CODES: usize = 2 * 257;
 
-fn kind_of(code: u32) -> Kind {
+pub fn kind_of(code: u32) -> Kind {
     match code {
         0 => Kind::Linear,
         1 => Kind::Smoothstep,

@@ -53,12 +53,17 @@ pub fn colour() -> Rgba {
     }
 }
 
-// Whether x is the float that a word stands for; one NaN stands for all.
-pub fn is_word(x: f32, bits: u32) -> bool {
+// The word that stands for x; one NaN stands for all.
+pub fn bits(x: f32) -> u32 {
     if x != x {
-        return bits == 2143289344;
+        return 2143289344;
     }
-    f32::to_bits(x) == bits
+    f32::to_bits(x)
+}
+
+// Whether x is the float that a word stands for.
+pub fn is_word(x: f32, word: u32) -> bool {
+    bits(x) == word
 }
 
 fn put(out: &mut [f32], i: usize, x: f32) {
@@ -146,7 +151,7 @@ pub fn are_words(xs: &[f32], n: u32) -> bool {
     all
 }
 
-fn wide(x: u8) -> u32 {
+pub fn wide(x: u8) -> u32 {
     x as u32
 }
 

@@ -18,18 +18,17 @@ use Rattle.gradient.proofs.Valid.{valid}
 use Rattle.sampling.specs.Lent.{Held}
 use Rattle.sampling.proofs.Checks.{passes-both}
 use Rattle.records.specs.Fitness.{thinCheck}
-use Rattle.records.proofs.Passing.{thin-passes}
 use Rattle.linearize.specs.Lent.{Output}
-use Rattle.linearize.proofs.Checks.{ready, ready-counts}
-use Rattle.refresh.specs.editing.Edited.{positionsAfter, channelsAfter, stopOf, goneOf, stopsAfter, edited}
+use Rattle.refresh.specs.editing.Edited.{positionsAfter, channelsAfter, stopOf, goneOf, stopsAfter}
 use Rattle.refresh.specs.editing.Rules.{editCheck}
 use Rattle.refresh.specs.editing.Sound.{Sound}
 use Rattle.refresh.specs.RefreshDesk.{refreshCheck, renewed, newEvaluations, refreshAnswer, refreshHeld, Refreshes}
 use Rattle.refresh.specs.declared.editing.Edit.{Edit}
 use Rattle.sampling.specs.declared.Sampled.{Sampled}
 use Rattle.sampling.specs.declared.Sampled.the-variants as refreshed
-use Rattle.refresh.proofs.EditChecks.{thin-fine, own-words, allowed, same-marks}
-use Rattle.refresh.proofs.RefreshAnswers.{edited-held, renewed-thins, words-stay, new-most}
+use Rattle.refresh.proofs.EditChecks.{allowed}
+use Rattle.refresh.proofs.ThenThinned.{renewed-passes}
+use Rattle.refresh.proofs.RefreshAnswers.{new-most}
 use Rattle.refresh.proofs.editing.Copying.{stop-there}
 use Rattle.refresh.proofs.editing.Splices.{written-is}
 use Rattle.sheet.specs.Room.{positionsFor, channelsFor, stopsFit, firstOf, rewritten}
@@ -40,17 +39,6 @@ use Rattle.sheet.specs.declared.SheetAnswer.{SheetAnswer}
 use Rattle.sheet.specs.declared.SheetAnswer.the-variants.{Refused}
 use Rattle.sheet.proofs.Rooms.{Fit, fit-is, fitted-fits}
 use Rattle.sheet.proofs.Lists.{listed-is, output-is}
-
--- a refreshed record may be thinned, with the changed ramp: it has the lengths and the words that it had
-pub renewed-passes : (ramp : Ramp) (e : Edit) (asked : Float) (was : Held) → refreshCheck ramp e asked was ≡ checked.Fine → thinCheck (edited ramp e) asked (renewed ramp e asked was) ≡ checked.Fine
-renewed-passes ramp e asked was h =
-    let before = ready ramp asked was (thin-fine ramp e asked was h) in
-    let after = renewed-thins ramp e asked was h in
-    let words = words-stay ramp e asked was in
-    thin-passes (edited ramp e) asked (renewed ramp e asked was)
-    (rw (after .long ∙ sym (before .long), after .many ∙ sym (before .many), words) (edited-held ramp e asked was h))
-    (ready-counts _ _ after)
-    (words ∙ own-words ramp e asked was h ∙ sym (same-marks ramp e (allowed ramp e asked was h) asked))
 
 -- ---- the answer of a refresh, back to its check
 refreshed-refused : (c : Checked) (k n : ℕ) → refreshed.Refused n ≡ onFine c (refreshed.Done k) refreshed.Refused → c ≡ checked.Refused n

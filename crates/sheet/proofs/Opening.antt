@@ -1,5 +1,5 @@
 -- The answers of `open`, from what the functions within promise. Assumes nothing.
-use mathlib.Core.Path.{_≡_, refl, sym, ap, _∙_}
+use mathlib.Core.Path.{_≡_, sym, ap, _∙_}
 use mathlib.Core.Bool.{true, false}
 use Prim.Native.Nat.{ℕ}
 use native.Mathlib.Omega.{arith}
@@ -11,17 +11,13 @@ use Rattle.stops.specs.Answers.{onFine}
 use Rattle.stops.specs.declared.Checked.{Checked}
 use Rattle.stops.specs.declared.Checked.the-variants as checked
 use Rattle.sampling.specs.Lent.{Held}
-use Rattle.sampling.specs.Sampling.{heldCheck, marksOf, fresh, freshEvaluations, sampleAnswer, sampleHeld}
+use Rattle.sampling.specs.Sampling.{heldCheck, fresh, freshEvaluations, sampleAnswer, sampleHeld}
 use Rattle.sampling.specs.Promises.{Samples}
 use Rattle.sampling.specs.declared.Sampled.{Sampled}
 use Rattle.sampling.specs.declared.Sampled.the-variants as sampled
 use Rattle.sampling.proofs.Answers.{Fresh, fresh-is, fresh-bound}
-use Rattle.sampling.proofs.Checks.{record-lengths}
-use Rattle.records.specs.Fitness.{thinCheck}
-use Rattle.records.proofs.Passing.{thin-passes}
 use Rattle.linearize.specs.Lent.{Output}
-use Rattle.linearize.proofs.Checks.{ready-counts}
-use Rattle.linearize.proofs.Records.{fresh-ready}
+use Rattle.linearize.proofs.Records.{fresh-thins}
 use Rattle.sheet.specs.Room.{positionsFor, channelsFor, stopsFit, firstOf}
 use Rattle.sheet.specs.Promises.{openCheck, Opens}
 use Rattle.sheet.specs.inner.Making.{ListsBy}
@@ -29,21 +25,6 @@ use Rattle.sheet.specs.declared.ListSort.{ListSort}
 use Rattle.sheet.specs.declared.SheetAnswer.{SheetAnswer}
 use Rattle.sheet.specs.declared.SheetAnswer.the-variants.{Refused}
 use Rattle.sheet.proofs.Lists.{listed-is, output-is}
-
--- what a sampling leaves has the lengths that it had, and may be thinned
-module _ (ramp : Ramp) (asked : Float) (was : Held) (h : heldCheck ramp was ≡ checked.Fine) where
-  fresh-words : fresh ramp asked .marks ≡ marksOf ramp asked
-  unfolding fresh
-  fresh-words = refl
-
-  pub fresh-held : heldCheck ramp (fresh ramp asked) ≡ checked.Fine
-  fresh-held =
-      let r = fresh-ready ramp asked (fresh ramp asked) refl in
-      let l = record-lengths ramp _ _ _ h in
-      rw (r .long ∙ sym (l .long), r .many ∙ sym (l .many), ap length fresh-words ∙ sym (l .three)) h
-
-  pub fresh-thins : thinCheck ramp asked (fresh ramp asked) ≡ checked.Fine
-  fresh-thins = thin-passes ramp asked (fresh ramp asked) fresh-held (ready-counts _ _ (fresh-ready ramp asked (fresh ramp asked) refl)) fresh-words
 
 module _ (room : Ramp) (n : ℕ) (asked : Float) (sort : ListSort) where
   pub open-misshapen : (was : Held) (out : Output) → stopsFit (room .kind) n (length (room .positions)) (length (room .channels)) ≡ false → Opens room n asked sort (change was was) (change out out) (Refused misshapen)

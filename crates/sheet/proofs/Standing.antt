@@ -17,6 +17,7 @@ use Rattle.sampling.specs.Sampling.{heldCheck, fresh, freshEvaluations}
 use Rattle.linearize.specs.Desk.{listedOf, unlessRefused, pointsIn, room}
 use Rattle.linearize.specs.declared.Listed.{Listed}
 use Rattle.linearize.specs.declared.Listed.the-variants as listed
+use Rattle.linearize.proofs.Records.{fresh-held}
 use Rattle.refresh.specs.editing.Edited.{stopsAfter, edited}
 use Rattle.refresh.specs.editing.Rules.{editAllowed}
 use Rattle.refresh.specs.RefreshDesk.{refreshCheck, renewed, newEvaluations}
@@ -33,7 +34,6 @@ use Rattle.sheet.specs.Through.{Sheet, Turn, listedNow, refusalNow, Open
 use Rattle.sheet.specs.declared.ListSort.{ListSort}
 use Rattle.sheet.specs.declared.SheetAnswer.{SheetAnswer}
 use Rattle.sheet.specs.declared.SheetAnswer.the-variants.{Done, Unlisted, Refused}
-use Rattle.sheet.proofs.Opening.{fresh-held}
 use Rattle.sheet.proofs.Editing.{edit-ok, edit-fine, first-written}
 use Rattle.sheet.proofs.Rewriting.{room-stays, list-stays}
 

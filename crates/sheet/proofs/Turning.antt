@@ -10,6 +10,7 @@ use Rattle.stops.specs.declared.Checked.the-variants as checked
 use Rattle.sampling.specs.Lent.{Held}
 use Rattle.sampling.specs.Sampling.{heldCheck, fresh}
 use Rattle.linearize.specs.Desk.{listedOf, pointsIn, room}
+use Rattle.linearize.proofs.Records.{fresh-held}
 use Rattle.refresh.specs.editing.Edited.{stopsAfter, edited}
 use Rattle.refresh.specs.RefreshDesk.{refreshCheck, renewed, newEvaluations}
 use Rattle.refresh.proofs.RefreshAnswers.{edited-held}
@@ -21,7 +22,6 @@ use Rattle.sheet.specs.Promises.{sheetCheck, editAnswer, madeEdit, madeR
 use Rattle.sheet.specs.Through.{Sheet, Turn, listedNow, refusalNow, Turned}
 use Rattle.sheet.specs.declared.ListSort.{ListSort}
 use Rattle.sheet.specs.declared.SheetAnswer.the-variants.{Refused}
-use Rattle.sheet.proofs.Opening.{fresh-held}
 use Rattle.sheet.proofs.Editing.{edit-ok, edit-fine, first-written}
 use Rattle.sheet.proofs.Rewriting.{room-stays, list-stays}
 use Rattle.sheet.proofs.Standing.{number-is, kept-is, stops-kept, refusal-kept, listed-kept, afterTurn, made-after, whole-fine, fitted-is, Standing}

@@ -8,11 +8,10 @@ use stops::Kind;
 use within::thin_within;
 ghost use mathlib.Core.Path.{_≡_};
 ghost use Rattle.stops.specs.Lent.{lentRamp};
-ghost use Rattle.sampling.specs.Lent.{lentHeld};
 ghost use Rattle.linearize.specs.Lent.{lentOutput};
 ghost use Rattle.sheet.specs.Answers.{sheetBy};
 ghost use Rattle.sheet.specs.Lists.{ThinsBy};
-ghost use Rattle.sheet.specs.inner.Making.{ListsBy};
+ghost use Rattle.sheet.specs.inner.Making.{readHeld, ListsBy};
 
 // The list of a record, of either sort.
 fn list_by(
@@ -28,7 +27,7 @@ fn list_by(
     places: &mut [f32],
     colours: &mut [f32],
 ) -> Listed
-    ensures { λ r. ⌜ ThinsBy sort (lentRamp kind positions channels codes) threshold (lentHeld rows counts marks .entry) (lentOutput places colours) r ⌝ }
+    ensures { λ r. ⌜ ThinsBy sort (lentRamp kind positions channels codes) threshold (readHeld rows counts marks) (lentOutput places colours) r ⌝ }
 {
     match sort {
         ListSort::Thinned => thin(
@@ -92,7 +91,7 @@ pub(crate) fn list(
     stops: usize,
     spent: usize,
 ) -> SheetAnswer
-    ensures { λ r. ⌜ ListsBy sort (lentRamp kind positions channels codes) threshold (lentHeld rows counts marks .entry) (lentOutput places colours) stops spent r ⌝ }
+    ensures { λ r. ⌜ ListsBy sort (lentRamp kind positions channels codes) threshold (readHeld rows counts marks) (lentOutput places colours) stops spent r ⌝ }
 {
     let made = list_by(
         kind,

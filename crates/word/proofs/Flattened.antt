@@ -5,38 +5,18 @@ use lib.Ieee.{Float}
 use Rattle.stops.specs.Lent.{Ramp, Change, change}
 use Rattle.stops.specs.declared.Checked.{Checked}
 use Rattle.stops.specs.declared.Checked.the-variants as checked
-use Rattle.gradient.specs.Ramp.{minOf, maxOf, colourOf}
 use Rattle.sampling.specs.Lent.{Held}
-use Rattle.sampling.specs.Cells.{rowsOf, countsOf}
-use Rattle.sampling.specs.Sampling.{heldCheck, farOf, fresh, freshEvaluations, sampleAnswer, sampleHeld}
+use Rattle.sampling.specs.Sampling.{heldCheck, fresh, freshEvaluations, sampleAnswer, sampleHeld}
 use Rattle.sampling.specs.Promises.{Samples}
 use Rattle.sampling.specs.declared.Sampled.{Sampled}
-use Rattle.sampling.proofs.Checks.{record-lengths}
-use Rattle.sampling.proofs.Filling.{rows-length, counts-length}
-use Rattle.records.specs.Fitness.{thinCheck}
-use Rattle.records.proofs.Passing.{thin-passes}
 use Rattle.linearize.specs.Lent.{Output}
 use Rattle.linearize.specs.Desk.{room}
 use Rattle.linearize.specs.declared.Listed.{Listed}
 use Rattle.linearize.proofs.Answers.{added}
-use Rattle.linearize.proofs.Checks.{ready-counts}
-use Rattle.linearize.proofs.Records.{sampled-ready}
+use Rattle.linearize.proofs.Records.{fresh-thins}
 use Rattle.within.specs.Lists.{keptOf, refusalWithin, evaluationsWithin, withinOutput, freshPoints, flattenWithinOutput, flattenWithinEvaluations}
 use Rattle.within.specs.Promises.{ThinsWithin, FlattensWithin}
 use Rattle.word.specs.Word.{SampledThenThinned}
-
--- what a sampling leaves may be thinned
-fresh-passes : (ramp : Ramp) (asked : Float) (was : Held) → heldCheck ramp was ≡ checked.Fine → thinCheck ramp asked (fresh ramp asked) ≡ checked.Fine
-unfolding fresh
-fresh-passes ramp asked was h =
-    let g = colourOf ramp in
-    let far = farOf asked in
-    let lo = minOf ramp in
-    let hi = maxOf ramp in
-    let l = record-lengths ramp _ _ _ h in
-    thin-passes ramp asked (fresh ramp asked)
-    (rw (rows-length g far lo hi ∙ sym (l .long), counts-length g far lo hi ∙ sym (l .many), sym (l .three)) h)
-    (ready-counts (rowsOf g far lo hi) (countsOf g far lo hi) (sampled-ready g far lo hi)) refl
 
 module _ (ramp : Ramp) (asked hold : Float) (held : Change Held) (all : Held) (thinned : Change Output) (out : Output) (s : Sampled) (l r : Listed)
     (first : Samples ramp asked held s)
@@ -53,7 +33,7 @@ module _ (ramp : Ramp) (asked hold : Float) (held : Change Held) (all : Held) (t
   by-check checked.Fine h =
       let ts = freshPoints ramp asked hold in
       let new : held .exit ≡ fresh ramp asked = first .left ∙ rw h in
-      let fine = fresh-passes ramp asked (held .entry) h in
+      let fine = fresh-thins ramp asked (held .entry) h in
       record {
         answer =
             both .told .answer

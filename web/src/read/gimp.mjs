@@ -2,6 +2,7 @@
 import { Refused } from '../fault.mjs';
 import { call, copy, lend, meanwhile } from '../library.mjs';
 import { GIMP, GIMP_SAVED } from '../ramp.mjs';
+import { notesOnHues } from './hues.mjs';
 
 const [MOST_SEGMENTS, MOST_TEXT, CURVED] = [256, 131072, 1];
 /** What a segment names in place of a colour of its own is GIMP's own first choice: black before white. */
@@ -18,7 +19,7 @@ export const readGimp = file => meanwhile(() => {
     const [line, n] = Array.from(told, Number);
     if (refusal) throw new Refused(refusal, { file: file.name, line });
     const ramp = { positions: positions.slice(0, 3 * n), channels: channels.slice(0, 8 * n), codes: codes.slice(0, 2 * n) };
-    return { ramp: { kind: kindOf(ramp.codes), ...ramp }, notes: [] };
+    return { ramp: { kind: kindOf(ramp.codes), ...ramp }, notes: notesOnHues(file, ramp) };
 });
 
 /** Codes are of blending and colouring, in turn; a curved segment is carried by the one kind alone. */

@@ -93,10 +93,13 @@ fn converted(source: &Source, options: &Options, target: &mut Target) -> Answer<
     let format = options.format();
     let keeps_kind = format == Format::Text && !matches!(source.ramp, Ramp::Gimp(_));
     let kept = if keeps_kind { Some(source.ramp.stops()) } else { source.ramp.as_list() };
-    let Some(stops) = kept.filter(|_| source.edit.is_none()) else {
-        let why = if source.edit.is_some() { "it is edited" } else { "it is not mixed linearly" };
-        output::say(&format!("{}: {why}, so it is flattened", source.file));
-        return listed(source, &[], options, target);
+    let stops = match kept.filter(|_| source.edit.is_none()) {
+        Some(stops) => stops,
+        None => {
+            let why = if source.edit.is_some() { "it is edited" } else { "it is not mixed linearly" };
+            output::say(&format!("{}: {why}, so it is flattened", source.file));
+            return listed(source, &[], options, target);
+        }
     };
     let kind = if keeps_kind { source.ramp.kind() } else { Kind::Linear };
     let (file, name, domain) = (source.file.as_str(), source.name.as_str(), options.domain);
@@ -129,8 +132,10 @@ fn pair(options: &Options) -> Answer<(Source, Option<Stops>)> {
         _ => return Err(Fault::usage("a ramp is to be named, and perhaps its list")),
     };
     let source = read::read(ramp, options.bytes)?;
-    let Some(list) = list else { return Ok((source, None)) };
-    let read = read::read(list, options.bytes)?;
+    let read = match list {
+        Some(list) => read::read(list, options.bytes)?,
+        None => return Ok((source, None)),
+    };
     let not_linear = || Fault::misused(&read.file, "a list is mixed linearly, and this is not");
     let stops = read.ramp.as_list().ok_or_else(not_linear)?;
     Ok((source, Some(stops)))

@@ -49,9 +49,8 @@ fn main() -> ExitCode {
 }
 
 fn run(words: &[String]) -> Answer<u8> {
-    let Some((first, rest)) = words.split_first() else {
-        return Err(Fault::usage("a command is to be named; see plume --help"));
-    };
+    let unnamed = || Fault::usage("a command is to be named; see plume --help");
+    let (first, rest) = words.split_first().ok_or_else(unnamed)?;
     match (first.as_str(), rest) {
         ("--version" | "-V", _) => output::print(format!("plume {}\n", version()).as_bytes()).map(|()| 0),
         ("--help" | "-h" | "help", []) => output::print(help::ALL.as_bytes()).map(|()| 0),

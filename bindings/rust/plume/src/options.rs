@@ -105,7 +105,7 @@ impl Options {
 /// `-` is standard input, and a minus before a digit a number.
 fn is_option(word: &str) -> bool {
     let after = word.strip_prefix('-').and_then(|rest| rest.chars().next());
-    after.is_some_and(|c| !c.is_ascii_digit() && c != '.')
+    after.map_or(false, |c| !c.is_ascii_digit() && c != '.')
 }
 
 fn long(word: &str) -> &str {

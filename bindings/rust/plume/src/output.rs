@@ -1,7 +1,7 @@
 //! Where answers go: standard output, a file, or a folder.
 
 use crate::fault::{Answer, Fault};
-use std::io::{IsTerminal, Write};
+use std::io::Write;
 use std::path::{Path, PathBuf};
 
 /// Says something to the person at the keyboard.
@@ -81,6 +81,12 @@ fn replace(path: &Path, bytes: &[u8]) -> std::io::Result<()> {
     put
 }
 
+/// Whether standard error is a terminal, by what Linux calls it. Rust itself tells it from 1.70 on, and Debian 12 has 1.63.
+fn is_terminal() -> bool {
+    let name = std::fs::read_link("/proc/self/fd/2").unwrap_or_default();
+    ["/dev/pts/", "/dev/tty", "/dev/console"].iter().any(|start| name.to_string_lossy().starts_with(start))
+}
+
 /// A line on a terminal that says how far many files are.
 pub struct Progress {
     all: usize,
@@ -89,7 +95,7 @@ pub struct Progress {
 
 impl Progress {
     pub fn new(all: usize) -> Progress {
-        Progress { all, is_shown: all > 1 && std::io::stderr().is_terminal() }
+        Progress { all, is_shown: all > 1 && is_terminal() }
     }
 
     pub fn at(&self, done: usize, file: &str) {

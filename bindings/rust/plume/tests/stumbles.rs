@@ -63,6 +63,66 @@ fn refusals_have_their_number_and_line() {
     check(b"GIMP Palette\n", 3, &["standard input:1: refused 11: "]);
 }
 
+/// A GIMP gradient of such segments: colours, blending and colouring.
+fn gimp(segments: &[&str]) -> String {
+    let place = |i: usize| i as f64 / segments.len() as f64;
+    let line = |(i, said): (usize, &&str)| {
+        format!("{} {} {} {said}\n", place(i), (place(i) + place(i + 1)) / 2.0, place(i + 1))
+    };
+    let lines: String = segments.iter().enumerate().map(line).collect();
+    format!("GIMP Gradient\nName: hues\n{}\n{lines}", segments.len())
+}
+
+#[test]
+fn what_gimp_paints_otherwise_is_told() {
+    let told = |segments: &[&str]| plume_of(&["check", "-"], gimp(segments).as_bytes()).ends(0, &[]).said.clone();
+    let grey = "0.819999 0.82 0.82 1 1 0 0 1 0 1";
+    let wood = "0.78 0.4914 0.2028 1 0.903086 0.568944 0.234802 1 4 1";
+    let brushed = "0.49807 0.508364 0.477482 1 0.529458 0.539017 0.51034 1 0 1";
+    assert!(told(&[grey]).contains(
+        "standard input:4: coloured by hue, and one end is nearly grey: GIMP 2.10 takes that end for a grey, and paints \
+         other colours here\n"
+    ));
+    let one = "coloured by hue between colours of nearly one hue: GIMP 2.10";
+    assert!(told(&[wood]).contains(&format!("input:4: {one} hardly turns here, and this ramp goes once round\n")));
+    assert!(told(&[brushed]).contains(&format!("input:4: {one} goes once round here, and this ramp hardly turns\n")));
+    let outside = "coloured by hue, with a channel outside 0..1: GIMP 2.10 keeps it, and this ramp is clamped\n";
+    assert!(told(&["0 0 0 1 1.5 0 0.2 1 5 2"]).contains(&format!("input:4: {outside}")));
+    // the other way round the same two colours are in the other order
+    let back = "0.529458 0.539017 0.51034 1 0.49807 0.508364 0.477482 1 0 2";
+    assert!(told(&[back]).contains(&format!("{one} goes once round here")));
+    // GIMP's hues differ where no f32 does
+    let close = "0.5 0.25 0 1 0.5 0.25000000001 0 1 0 1";
+    assert!(told(&[close]).contains(&format!("{one} hardly turns here")));
+    // each sort is told once, at its first segment
+    let said = told(&["0 0 0 1 1 1 1 1 0 0", grey, wood, grey, grey]);
+    assert!(said.contains("input:5: coloured by hue, and one end") && said.contains("here (and 2 segments more)\n"));
+    assert!(said.contains("input:6: coloured by hue between") && !said.contains("input:7"));
+}
+
+#[test]
+fn what_gimp_paints_alike_is_not_told() {
+    for quiet in [
+        // equal hues go the full turn everywhere
+        "0.5 0.25 0 1 0.5 0.25 0 1 0 1",
+        "1 0 0 1 0.3 0 0 1 0 2",
+        // a grey, and a near-grey that is red already
+        "0.82 0.82 0.82 1 1 0 0.5 1 0 1",
+        "1 0.999999 0.999999 1 0.2 0 0.7 1 0 1",
+        // two near-greys stay greys
+        "0.819999 0.82 0.82 1 0.88 0.88 0.879999 1 0 1",
+        // in RGB; in a step, which shows the ends alone
+        "0 0 0 1 1.5 0 0.2 1 0 0",
+        "0.819999 0.82 0.82 1 1 0 0 1 0 0",
+        "0.819999 0.82 0.82 1 1 0 0 1 5 1",
+        // an end that names the foreground is black
+        "0.819999 0.82 0.82 1 1 0 0.5 1 0 1 1 0",
+    ] {
+        let ran = plume_of(&["check", "-"], gimp(&[quiet]).as_bytes());
+        assert!(!ran.ends(0, &[]).said.contains("by hue"), "{quiet}: {}", ran.said);
+    }
+}
+
 #[test]
 fn colour_tables_say_what_is_wrong() {
     check(b"0 0 0 0 1 255 255 255\n1 0 0 0 2 9 9 9\nB 0 0 0\n", 0, &[]);

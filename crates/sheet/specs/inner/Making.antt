@@ -6,8 +6,8 @@ use lib.ListN.{length, take}
 use lib.Seq.{sets}
 use lib.Ieee.{Float}
 use Rattle.refusals.specs.Limits.{mostStops}
-use Rattle.stops.specs.Lent.{Ramp, Change}
-use Rattle.sampling.specs.Lent.{Held}
+use Rattle.stops.specs.Lent.{Ramp, Change, Lent, old}
+use Rattle.sampling.specs.Lent.{Held, heldOf}
 use Rattle.linearize.specs.Lent.{Output}
 use Rattle.linearize.specs.Desk.{afterSpending}
 use Rattle.linearize.specs.declared.Listed.{Listed}
@@ -31,6 +31,10 @@ pub record Makes (ps cs : List Float) (n : ℕ) (e : Edit) (ps′ cs′ : List F
   pub positions : ps′ ≡ sets ps 0 (positionsAfter (take n ps) e)
   pub channels : cs′ ≡ sets cs 0 (channelsAfter (take (4 * n) cs) e)
   pub stops : r ≡ stopsAfter n e
+
+-- in an `ensures`, a record that is only read
+abbrev pub readHeld : Lent Float → Lent ℕ → Lent ℕ → Held
+readHeld rows counts marks = heldOf (old rows) (old counts) (old marks)
 
 -- the answer of a list that was made after so many evaluations
 pub record ListsBy (sort : ListSort) (ramp : Ramp) (asked : Float) (was : Held) (out : Change Output) (stops spent : ℕ) (r : SheetAnswer) : Type 0 where

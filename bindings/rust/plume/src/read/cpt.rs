@@ -60,7 +60,7 @@ pub fn read(file: &File) -> Answer<Source> {
 
 /// A line `# COLOR_MODEL = ..` says which numbers the colours are.
 fn model(file: &File, line: usize, comment: &str) -> Answer<()> {
-    let Some((key, value)) = comment.split_once('=') else { return Ok(()) };
+    let (key, value) = comment.split_once('=').unwrap_or_default();
     let value = value.trim().trim_start_matches('+');
     if key.trim() == "COLOR_MODEL" && !value.eq_ignore_ascii_case("rgb") {
         return file.unread(line, format!("expected colours of the model RGB; found {}", stumble::quoted(value)));

@@ -3,6 +3,7 @@
 mod cpt;
 mod csv;
 mod gimp;
+mod hues;
 mod printed;
 mod stumble;
 mod text;
@@ -57,7 +58,7 @@ pub fn read(named: &str, bytes: bool) -> Answer<Source> {
 }
 
 /// What the readers are given.
-struct File<'a> {
+pub struct File<'a> {
     file: &'a str,
     text: &'a [u8],
     bytes: bool,
@@ -141,7 +142,7 @@ fn sort_of(text: &[u8]) -> Sort {
     if text.starts_with(b"GIMP") {
         return Sort::Gimp;
     }
-    let said = |line: &&[u8]| !line.trim_ascii().is_empty() && !line.starts_with(b"#");
+    let said = |line: &&[u8]| !line.iter().all(u8::is_ascii_whitespace) && !line.starts_with(b"#");
     let first = text.split(|byte| *byte == b'\n').find(said).unwrap_or_default();
     let first = String::from_utf8_lossy(first).to_lowercase();
     let word = first.split(|c: char| c.is_whitespace() || c == ',' || c == ';').next().unwrap_or_default();

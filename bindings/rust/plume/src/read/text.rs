@@ -30,7 +30,10 @@ pub fn read(file: &File) -> Answer<Source> {
             }
         }
     }
-    let Some(kind) = kind else { return file.unread(1, "the file is empty; expected 'kind', a tab and its name") };
+    let kind = match kind {
+        Some(kind) => kind,
+        None => return file.unread(1, "the file is empty; expected 'kind', a tab and its name"),
+    };
     let notes = file.scaled(&mut rows, false);
     let ramp = file.checked(kind, &rows)?;
     let text = (!file.bytes).then(|| file.text.to_vec());

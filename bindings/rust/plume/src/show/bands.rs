@@ -53,7 +53,7 @@ fn columns(canvas: &mut Canvas, colors: &[Color], top: f32) {
     let width = (RIGHT - LEFT) / COLUMNS as f32;
     let mut from = 0;
     for i in 1..=colors.len() {
-        if colors.get(i).is_some_and(|color| color.to_rgba8() == colors[from].to_rgba8()) {
+        if colors.get(i).map(|color| color.to_rgba8()) == Some(colors[from].to_rgba8()) {
             continue;
         }
         let opacity = match colors[from].to_rgba8()[3] {

@@ -30,8 +30,8 @@ pub fn marks(canvas: &mut Canvas, apart: &Apart) {
 /// Faults in runs; a fault stands from one depth to another.
 fn runs(canvas: &Canvas, apart: &Apart, fault: impl Fn(usize) -> Option<usize>) -> Vec<Run> {
     let mut runs: Vec<Run> = Vec::new();
-    for last in 0..apart.depths.len() {
-        let Some(first) = fault(last) else { continue };
+    let found = (0..apart.depths.len()).filter_map(|last| Some((fault(last)?, last)));
+    for (first, last) in found {
         let (from, to) = (canvas.x(apart.depths[first].position), canvas.x(apart.depths[last].position));
         match runs.last_mut() {
             Some(run) if from - run.to < NEAR => (run.last, run.to) = (last, to),
@@ -68,7 +68,7 @@ pub fn table(canvas: &mut Canvas, apart: &Apart) {
     }
     canvas.y += 24.0;
     canvas.text(LEFT, canvas.y, "The marks, by the numbers of the stops (counted from 0)", "font-weight=\"600\"");
-    let rows = faults.len().div_ceil(COLUMNS).min(ROWS);
+    let rows = ((faults.len() + COLUMNS - 1) / COLUMNS).min(ROWS);
     for (i, words) in faults.iter().take(rows * COLUMNS).enumerate() {
         let (column, row) = (i / rows, i % rows);
         canvas.text(LEFT + 340.0 * column as f32, canvas.y + 18.0 * (row + 1) as f32, words, "font-size=\"12\"");

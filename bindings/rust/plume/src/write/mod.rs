@@ -45,7 +45,7 @@ impl Format {
 
     /// By the ending of a file.
     pub fn of_file(file: &str) -> Option<Format> {
-        let ends = |ending: &str| file.strip_suffix(ending).is_some_and(|rest| rest.ends_with('.'));
+        let ends = |ending: &str| file.strip_suffix(ending).map_or(false, |rest| rest.ends_with('.'));
         FORMATS.iter().find(|(.., ending)| ends(ending)).map(|(_, format, _)| *format)
     }
 
