@@ -55,7 +55,7 @@ async function typed(edits) {
     return spent;
 }
 
-const sorted = times => times.toSorted((x, y) => x - y);
+const sorted = times => [...times].sort((x, y) => x - y);
 const told = times => `median ${sorted(times)[times.length >> 1].toFixed(1)} ms, greatest ${Math.max(...times).toFixed(1)} ms`;
 
 async function measure(opened, kind) {
