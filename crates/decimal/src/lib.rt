@@ -9,6 +9,7 @@ ghost use Rattle.decimal.specs.Decimal.{mostDigits, readOf, unsignedOf, 
 ghost use Rattle.decimal.specs.inner.Steps.{RunsTo, DoublesTo, ScalesTo, DividesTo, BitsOf};
 
 pub mod long;
+mod near;
 mod shift;
 mod tally;
 mod wide;
