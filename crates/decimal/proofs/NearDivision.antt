@@ -9,8 +9,8 @@ use native.Mathlib.Omega.{arith}
 use lib.Pow.{pow-add, pow-pos, pow-mono}
 use lib.Ieee.{binary32, nearest, round, toBits}
 use lib.Ieee.Fits.{nearest-le}
-use Rattle.decimal.specs.inner.Steps.{BitsOf}
-use Rattle.decimal.specs.inner.Near.{twosOf, FirstForty, Halves}
+use Rattle.decimal.specs.inner.Steps.{FitsTo, BitsOf}
+use Rattle.decimal.specs.inner.Near.{twosOf, FirstForty}
 use Rattle.float.proofs.Fraction.{bits-are}
 use Rattle.float.proofs.Nearest.{stays, moves}
 use Rattle.decimal.proofs.Scale.{ten-le, unit-is}
@@ -63,7 +63,7 @@ module _ (num q E T m rest : ℕ) (under : q * E ≤ T) (over : T ≤ (q + 2) * 
   exact-rounds (inr l) = let g = up l in sym (moves m (rest * 2) q (omega arith)) ∙ moves m (exact * 2) T (omega arith)
 
 -- ---- by the first digits of a power of five
-module _ (d n z p num den up m rest : ℕ) (is : num ≡ d * 2 ^ z) (first : FirstForty n p) (by : Halves num p den up) (long : num ≡ m * den + rest) (less : rest < den) (some : 2 * m ≤ rest) where
+module _ (d n z p num den up m rest : ℕ) (is : num ≡ d * 2 ^ z) (first : FirstForty n p) (by : FitsTo num p den up) (long : num ≡ m * den + rest) (less : rest < den) (some : 2 * m ≤ rest) where
   abbrev E : ℕ
   E = 2 ^ twosOf n
 

@@ -6,7 +6,7 @@ ghost use lib.ListN.{length};
 ghost use lib.Ieee as Ieee;
 ghost use lib.Ieee.{binary32};
 ghost use Rattle.decimal.specs.Decimal.{mostDigits, readOf, unsignedOf, numberOf};
-ghost use Rattle.decimal.specs.inner.Steps.{RunsTo, DoublesTo, ScalesTo, DividesTo, BitsOf};
+ghost use Rattle.decimal.specs.inner.Steps.{RunsTo, DoublesTo, ScalesTo, FitsTo, DividesTo, BitsOf};
 
 pub mod long;
 mod near;
@@ -187,7 +187,7 @@ fn doublings(five: u64) -> u32
     zeros - 24
 }
 
-// A power of five doubled up times.
+// A divisor doubled up times.
 struct Divisor {
     den: u64,
     up: u64,
@@ -199,14 +199,25 @@ fn scaled(num: u64, five: u64) -> Divisor
     ensures { λ r. ⌜ ScalesTo num five (r .den) (r .up) ⌝ }
 {
     let up = doublings(five);
-    let den = five << up;
+    let by = fitted(num, five << up);
+    Divisor {
+        den: by.den,
+        up: up as u64 + by.up,
+    }
+}
+
+// den, or twice that where the quotient of num would have more than 24 digits.
+fn fitted(num: u64, den: u64) -> Divisor
+    requires { ⌜ (2 ^ 39 ≤ den) × (den < 2 ^ 63) ⌝ }
+    ensures { λ r. ⌜ FitsTo num den (r .den) (r .up) ⌝ }
+{
     if den <= num / 16777216 {
         return Divisor {
             den: den * 2,
-            up: up as u64 + 1,
+            up: 1,
         };
     }
-    Divisor { den, up: up as u64 }
+    Divisor { den, up: 0 }
 }
 
 // num divided by den in binary, to down places past the point.

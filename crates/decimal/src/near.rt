@@ -1,8 +1,9 @@
 // A number by a power of ten, to the nearest f32, told by the first 40 binary digits of the power of five in it: one division
 // of a word, wherever the digits that are left out cannot matter.
+use crate::fitted;
 use crate::rounded;
 ghost use Prim.Native.Nat.{_^_, _≤_, _<_};
-ghost use Rattle.decimal.specs.inner.Near.{FirstForty, NearOf, Halves};
+ghost use Rattle.decimal.specs.inner.Near.{FirstForty, NearOf};
 
 // The bits of the nearest f32 but for the sign's, or that they cannot be told so.
 pub(crate) enum Near {
@@ -21,7 +22,7 @@ pub(crate) fn near_magnitude(d: u64, down: u64) -> Near
         return Near::Unsure;
     }
     let num = d << zeros;
-    let by = halves(num, first_forty(down));
+    let by = fitted(num, first_forty(down));
     let den = by.den;
     let m = num / den;
     let rest = num % den;
@@ -35,26 +36,6 @@ pub(crate) fn near_magnitude(d: u64, down: u64) -> Near
     }
     let q = rounded(m, rest, den);
     Near::Bits(((188 + by.up - taken) * 8388608 + q) as u32)
-}
-
-// A divisor, once doubled or not.
-struct Half {
-    den: u64,
-    up: u64,
-}
-
-// first, or twice that where the quotient of num would have more than 24 digits.
-fn halves(num: u64, first: u64) -> Half
-    requires { ⌜ (2 ^ 63 ≤ num) × ((2 ^ 39 ≤ first) × (first < 2 ^ 40)) ⌝ }
-    ensures { λ r. ⌜ Halves num first (r .den) (r .up) ⌝ }
-{
-    if first <= num / 16777216 {
-        return Half {
-            den: first * 2,
-            up: 1,
-        };
-    }
-    Half { den: first, up: 0 }
 }
 
 // The first 40 binary digits of 5 ^ n; zeros follow where it has fewer. An array would be copied for each read, a match is not.

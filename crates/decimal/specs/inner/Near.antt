@@ -16,13 +16,6 @@ pub record FirstForty (n p : ℕ) : Type 0 where
   pub lo : 2 ^ 39 ≤ p
   pub hi : p < 2 ^ 40
 
--- den is first, doubled up times, once at most, and goes into num at least 2 ^ 23 and less than 2 ^ 24 times
-pub record Halves (num first den up : ℕ) : Type 0 where
-  pub is : den ≡ first * 2 ^ up
-  pub once : up ≤ 1
-  pub lo : 8388608 * den ≤ num
-  pub hi : num < 16777216 * den
-
 -- where bits are told, they are those of d / p rounded, but for the sign's
 abbrev pub NearOf : ℕ → ℕ → Near → Type 0
 NearOf d p r = (b : ℕ) → r ≡ Bits b → BitsOf d p b

@@ -8,7 +8,7 @@ use lib.Count.{leadingZeros}
 use lib.Ieee.Fits.{nearest-le}
 use Rattle.decimal.specs.declared.near.Near.{Near}
 use Rattle.decimal.specs.declared.near.Near.the-variants.{Bits, Unsure}
-use Rattle.decimal.specs.inner.Near.{twosOf, Halves, NearOf}
+use Rattle.decimal.specs.inner.Near.{NearOf}
 use Rattle.decimal.specs.inner.Steps.{BitsOf}
 use Rattle.float.proofs.Counted.{Shifted, shifted}
 use Rattle.decimal.proofs.NearDivision.{near-bits}
@@ -51,22 +51,25 @@ cast-num c = let h = up-to-top (c .before) in omega arith
 shl-num : tie.Need-shl-num
 shl-num c = up-to-top (c .before) .few
 
-halves-requires : tie.Need-halves-requires
-halves-requires c κs = let h = up-to-top (c .before .before) in let f = c .first-forty .ensures in (h .full, (f .lo, f .hi))
+fitted-requires : tie.Need-fitted-requires
+fitted-requires c κs = let f = c .first-forty .ensures in (f .lo, omega (arith, f .hi))
 
 -- the quotient has 24 digits
-module _ (c : tie.After-halves) where
+module _ (c : tie.After-fitted) where
   abbrev num : ℕ
   num = c .before .before .before .args .d * 2 ^ leadingZeros 64 (c .before .before .before .args .d) % 2 ^ 64
 
   abbrev den : ℕ
-  den = c .halves .result .den
+  den = c .fitted .result .den
+
+  goes : 8388608 * den ≤ num
+  goes = c .fitted .ensures .under (up-to-top (c .before .before .before) .full) (c .before .first-forty .ensures .hi)
 
   den-pos : 0 < den
-  den-pos = let h = c .halves .ensures .is in let f = c .before .first-forty .ensures .lo in let o = c .halves .ensures .hi in omega arith
+  den-pos = let h = c .fitted .ensures .above in omega arith
 
   den-few : den < 2 ^ 42
-  den-few = let h = up-to-top (c .before .before .before) .less in let l = c .halves .ensures .lo in omega arith
+  den-few = let h = up-to-top (c .before .before .before) .less in let l = goes in omega arith
 
   long : num ≡ num / den * den + num % den
   long = sym (div-add-mod' _ _)
@@ -75,10 +78,10 @@ module _ (c : tie.After-halves) where
   less = mod-lt _ den-pos
 
   lo : 8388608 ≤ num / den
-  lo = le-div-iff-mul-le den-pos .1 (c .halves .ensures .lo)
+  lo = le-div-iff-mul-le den-pos .1 goes
 
   hi : num / den < 16777216
-  hi = div-lt-iff-lt-mul den-pos .1 (c .halves .ensures .hi)
+  hi = div-lt-iff-lt-mul den-pos .1 (c .fitted .ensures .above)
 
 div-m : tie.Need-div-m
 div-m c = let h = den-pos c in omega arith
@@ -113,13 +116,13 @@ sub-t12 : tie.Need-sub-t12
 sub-t12 c = omega arith
 
 mul-t13 : tie.Need-mul-t13
-mul-t13 c = let o = c .before .before .before .before .halves .ensures .once in record { fits = omega arith }
+mul-t13 c = let o = c .before .before .before .before .fitted .ensures .once in record { fits = omega arith }
 
 add-t14 : tie.Need-add-t14
-add-t14 c = let o = c .before .before .before .before .halves .ensures .once in let h = tops (c .before) in record { fits = omega arith }
+add-t14 c = let o = c .before .before .before .before .fitted .ensures .once in let h = tops (c .before) in record { fits = omega arith }
 
 cast-t21 : tie.Need-cast-t21
-cast-t21 c = let o = c .before .before .before .before .halves .ensures .once in let h = tops (c .before) in record { fits = omega arith }
+cast-t21 c = let o = c .before .before .before .before .fitted .ensures .once in let h = tops (c .before) in record { fits = omega arith }
 
 returns : tie.Need-returns
 returns c = unsure _ _
@@ -139,11 +142,11 @@ returns-4 c =
     let a = x .before .before in
     let s = a .before .before .before in
     let z = leadingZeros 64 (s .args .d) in
-    let up = a .halves .result .up in
+    let up = a .fitted .result .up in
     let n = s .args .down in
-    let o = a .halves .ensures .once in
+    let o = a .fitted .ensures .once in
     told _ _ _
-    (near-bits (s .args .d) n z _ (num a) (den a) up (num a / den a) (num a % den a) (up-to-top s .is) (a .before .first-forty .ensures) (a .halves .ensures) (long a) (less a) (x .before .if2 .left)
+    (near-bits (s .args .d) n z _ (num a) (den a) up (num a / den a) (num a % den a) (up-to-top s .is) (a .before .first-forty .ensures) (a .fitted .ensures) (long a) (less a) (x .before .if2 .left)
     (elim (x .if3 .came) [ inl w ↦ inr (clear _ _ _ (w .0 .taken) (w .1 .left)) | inr w ↦ inl (w .left) ])
     (188 + up - (z + n + n * 4755 / 2048)) (omega arith) (lo a) (hi a) (omega arith) _ (c .before .rounded .ensures))
 
@@ -159,7 +162,7 @@ near-magnitude-spec =
     cast-num
     shl-num
     (λ c κs. search needs)
-    halves-requires
+    fitted-requires
     div-m
     rem-rest
     mul-if2
