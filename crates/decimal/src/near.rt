@@ -21,6 +21,9 @@ pub(crate) fn near_magnitude(d: u64, down: u64) -> Near
     if 188 < taken {
         return Near::Unsure;
     }
+    if down < 18 {
+        return Near::Unsure;
+    }
     let num = d << zeros;
     let by = fitted(num, first_forty(down));
     let den = by.den;
@@ -38,30 +41,13 @@ pub(crate) fn near_magnitude(d: u64, down: u64) -> Near
     Near::Bits(((188 + by.up - taken) * 8388608 + q) as u32)
 }
 
-// The first 40 binary digits of 5 ^ n; zeros follow where it has fewer. An array would be copied for each read, a match is not.
+// The first 40 binary digits of 5 ^ n. Up to 5 ^ 17 there are no more, and past 5 ^ 56 no normal number is left. An array would
+// be copied for each read; a match is one load.
 fn first_forty(n: u64) -> u64
-    requires { ⌜ n ≤ 64 ⌝ }
+    requires { ⌜ (18 ≤ n) × (n ≤ 56) ⌝ }
     ensures { λ r. ⌜ FirstForty n r ⌝ }
 {
     match n {
-        0 => 549755813888,
-        1 => 687194767360,
-        2 => 858993459200,
-        3 => 1073741824000,
-        4 => 671088640000,
-        5 => 838860800000,
-        6 => 1048576000000,
-        7 => 655360000000,
-        8 => 819200000000,
-        9 => 1024000000000,
-        10 => 640000000000,
-        11 => 800000000000,
-        12 => 1000000000000,
-        13 => 625000000000,
-        14 => 781250000000,
-        15 => 976562500000,
-        16 => 610351562500,
-        17 => 762939453125,
         18 => 953674316406,
         19 => 596046447753,
         20 => 745058059692,
@@ -100,14 +86,6 @@ fn first_forty(n: u64) -> u64
         53 => 573971850987,
         54 => 717464813734,
         55 => 896831017167,
-        56 => 560519385729,
-        57 => 700649232162,
-        58 => 875811540203,
-        59 => 1094764425253,
-        60 => 684227765783,
-        61 => 855284707229,
-        62 => 1069105884036,
-        63 => 668191177523,
-        _ => 835238971903,
+        _ => 560519385729,
     }
 }

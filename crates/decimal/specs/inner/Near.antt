@@ -5,7 +5,7 @@ use Rattle.decimal.specs.declared.near.Near.{Near}
 use Rattle.decimal.specs.declared.near.Near.the-variants.{Bits}
 use Rattle.decimal.specs.inner.Steps.{BitsOf}
 
--- 5 ^ n has one binary digit more, for n up to 64
+-- 5 ^ n has one binary digit more, for n up to 56
 abbrev pub twosOf : ℕ → ℕ
 twosOf n = n * 4755 / 2048
 

@@ -46,10 +46,14 @@ add-taken-2 : tie.Need-add-taken-2
 add-taken-2 c = let h = up-to-top c in omega arith
 
 cast-num : tie.Need-cast-num
-cast-num c = let h = up-to-top (c .before) in omega arith
+cast-num c = let h = up-to-top (c .before .before) in omega arith
 
 shl-num : tie.Need-shl-num
-shl-num c = up-to-top (c .before) .few
+shl-num c = up-to-top (c .before .before) .few
+
+-- past 5 ^ 56 the number is below the normal ones
+first-forty-requires : tie.Need-first-forty-requires
+first-forty-requires c κs = (c .if2 .left, omega arith)
 
 fitted-requires : tie.Need-fitted-requires
 fitted-requires c κs = let f = c .first-forty .ensures in (f .lo, omega (arith, f .hi))
@@ -57,19 +61,19 @@ fitted-requires c κs = let f = c .first-forty .ensures in (f .lo, omega (arith,
 -- the quotient has 24 digits
 module _ (c : tie.After-fitted) where
   abbrev num : ℕ
-  num = c .before .before .before .args .d * 2 ^ leadingZeros 64 (c .before .before .before .args .d) % 2 ^ 64
+  num = c .before .before .before .before .args .d * 2 ^ leadingZeros 64 (c .before .before .before .before .args .d) % 2 ^ 64
 
   abbrev den : ℕ
   den = c .fitted .result .den
 
   goes : 8388608 * den ≤ num
-  goes = c .fitted .ensures .under (up-to-top (c .before .before .before) .full) (c .before .first-forty .ensures .hi)
+  goes = c .fitted .ensures .under (up-to-top (c .before .before .before .before) .full) (c .before .first-forty .ensures .hi)
 
   den-pos : 0 < den
   den-pos = let h = c .fitted .ensures .above in omega arith
 
   den-few : den < 2 ^ 42
-  den-few = let h = up-to-top (c .before .before .before) .less in let l = goes in omega arith
+  den-few = let h = up-to-top (c .before .before .before .before) .less in let l = goes in omega arith
 
   long : num ≡ num / den * den + num % den
   long = sym (div-add-mod' _ _)
@@ -89,21 +93,21 @@ div-m c = let h = den-pos c in omega arith
 rem-rest : tie.Need-rem-rest
 rem-rest c = let h = den-pos c in omega arith
 
-mul-if2 : tie.Need-mul-if2
-mul-if2 c = let h = hi c in record { fits = omega arith }
+mul-if3 : tie.Need-mul-if3
+mul-if3 c = let h = hi c in record { fits = omega arith }
 
 -- twice the rest fits a word
-mul-if3 : tie.Need-mul-if3
-mul-if3 c = let h = less (c .before) in let d = den-few (c .before) in record { fits = omega arith }
-
 mul-if4 : tie.Need-mul-if4
-mul-if4 c = let h = less (c .before .before) in let d = den-few (c .before .before) in record { fits = omega arith }
+mul-if4 c = let h = less (c .before) in let d = den-few (c .before) in record { fits = omega arith }
 
-mul-if4-2 : tie.Need-mul-if4-2
-mul-if4-2 c = let h = hi (c .before .before) in record { fits = omega arith }
+mul-if5 : tie.Need-mul-if5
+mul-if5 c = let h = less (c .before .before) in let d = den-few (c .before .before) in record { fits = omega arith }
 
-add-if4 : tie.Need-add-if4
-add-if4 c = let h = hi (c .before .before) in record { fits = omega arith }
+mul-if5-2 : tie.Need-mul-if5-2
+mul-if5-2 c = let h = hi (c .before .before) in record { fits = omega arith }
+
+add-if5 : tie.Need-add-if5
+add-if5 c = let h = hi (c .before .before) in record { fits = omega arith }
 
 rounded-requires : tie.Need-rounded-requires
 rounded-requires c κs = let a = c .before .before in let d = den-few a in (hi a, (less a, omega arith))
@@ -133,21 +137,24 @@ returns-2 c = unsure _ _
 returns-3 : tie.Need-returns-3
 returns-3 c = unsure _ _
 
+returns-4 : tie.Need-returns-4
+returns-4 c = unsure _ _
+
 clear : (rest den m : ℕ) → den ≤ rest * 2 → 4 * m + 2 < rest * 2 - den → den + 2 + 4 * m < rest * 2
 clear rest den m h l = omega arith
 
-returns-4 : tie.Need-returns-4
-returns-4 c =
+returns-5 : tie.Need-returns-5
+returns-5 c =
     let x = c .before .before in
     let a = x .before .before in
-    let s = a .before .before .before in
+    let s = a .before .before .before .before in
     let z = leadingZeros 64 (s .args .d) in
     let up = a .fitted .result .up in
     let n = s .args .down in
     let o = a .fitted .ensures .once in
     told _ _ _
-    (near-bits (s .args .d) n z _ (num a) (den a) up (num a / den a) (num a % den a) (up-to-top s .is) (a .before .first-forty .ensures) (a .fitted .ensures) (long a) (less a) (x .before .if2 .left)
-    (elim (x .if3 .came) [ inl w ↦ inr (clear _ _ _ (w .0 .taken) (w .1 .left)) | inr w ↦ inl (w .left) ])
+    (near-bits (s .args .d) n z _ (num a) (den a) up (num a / den a) (num a % den a) (up-to-top s .is) (a .before .first-forty .ensures) (a .fitted .ensures) (long a) (less a) (x .before .if3 .left)
+    (elim (x .if4 .came) [ inl w ↦ inr (clear _ _ _ (w .0 .taken) (w .1 .left)) | inr w ↦ inl (w .left) ])
     (188 + up - (z + n + n * 4755 / 2048)) (omega arith) (lo a) (hi a) (omega arith) _ (c .before .rounded .ensures))
 
 pub near-magnitude-spec : {M : Type 1} → statement M
@@ -159,24 +166,25 @@ near-magnitude-spec =
     (λ c. search needs)
     add-taken-2
     returns
+    returns-2
     cast-num
     shl-num
-    (λ c κs. search needs)
+    first-forty-requires
     fitted-requires
     div-m
     rem-rest
-    mul-if2
-    returns-2
     mul-if3
-    mul-if4
-    (λ c. search needs)
-    mul-if4-2
-    add-if4
     returns-3
+    mul-if4
+    mul-if5
+    (λ c. search needs)
+    mul-if5-2
+    add-if5
+    returns-4
     rounded-requires
     (λ c. search needs)
     sub-t12
     mul-t13
     add-t14
     cast-t21
-    returns-4)
+    returns-5)
