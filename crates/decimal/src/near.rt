@@ -1,7 +1,7 @@
 // A number by a power of ten, to the nearest f32, told by the first 40 binary digits of the power of five in it: one division
 // of a word, wherever the digits that are left out cannot matter.
-use crate::fitted;
-use crate::rounded;
+use crate::quotient::fitted;
+use crate::quotient::rounded;
 ghost use Prim.Native.Nat.{_^_, _≤_, _<_};
 ghost use Rattle.decimal.specs.inner.Near.{FirstForty, NearOf};
 

@@ -1,7 +1,7 @@
 // A number times a power of ten, to the nearest f32: the point moved up or down.
-use crate::magnitude;
 use crate::near::Near;
 use crate::near::near_magnitude;
+use crate::quotient::magnitude;
 use crate::signed;
 use crate::wide::long_magnitude;
 ghost use mathlib.Core.Path.{_≡_};

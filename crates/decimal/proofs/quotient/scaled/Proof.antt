@@ -1,9 +1,9 @@
--- `decimal::scaled` meets its contract: five reaches 2 ^ 39, which is half of what num asks for at most. Assumes nothing.
+-- `decimal::quotient::scaled` meets its contract: five reaches 2 ^ 39, which is half of what num asks for at most. Assumes nothing.
 use native.Mathlib.Omega.{arith}
 use Rattle.decimal.proofs.Scale.{shifted-is, scaled-is}
 use borrow.Author.Needs.{needs}
-use Rattle.decimal.proofs.scaled.Statement.{statement}
-use Rattle.decimal.proofs.scaled.Tie as tie
+use Rattle.decimal.proofs.quotient.scaled.Statement.{statement}
+use Rattle.decimal.proofs.quotient.scaled.Tie as tie
 
 fitted-requires : tie.Need-fitted-requires
 fitted-requires c κs = let d = c .doublings .ensures in let e = shifted-is _ _ d in (omega (arith, d .lo), omega (arith, d .hi))

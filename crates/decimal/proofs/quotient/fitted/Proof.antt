@@ -1,10 +1,10 @@
--- `decimal::fitted` meets its contract: den is half of what num asks for at most. Assumes nothing.
+-- `decimal::quotient::fitted` meets its contract: den is half of what num asks for at most. Assumes nothing.
 use mathlib.Core.Path.{_≡_}
 use Prim.Native.Nat.{ℕ, _*_, _/_, _^_, _≤_, _<_}
 use native.Mathlib.Omega.{arith}
 use borrow.Author.Needs.{needs}
-use Rattle.decimal.proofs.fitted.Statement.{statement}
-use Rattle.decimal.proofs.fitted.Tie as tie
+use Rattle.decimal.proofs.quotient.fitted.Statement.{statement}
+use Rattle.decimal.proofs.quotient.fitted.Tie as tie
 
 returns : tie.Need-returns
 returns c = record { is = omega arith; once = omega arith; bound = omega arith; above = omega arith; under = λ h l. omega arith }
