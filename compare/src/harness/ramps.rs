@@ -86,6 +86,15 @@ impl Ramp {
             && (self.kind != Kind::Sharp || n % 2 == 0)
     }
 
+    /// Stops, of a GIMP ramp segments.
+    pub fn items(&self) -> usize {
+        if self.kind.is_gimp() {
+            self.positions.len() / 3
+        } else {
+            self.positions.len()
+        }
+    }
+
     pub fn stops(&self) -> Vec<(f32, [f32; 4])> {
         let colour = |c: &[f32]| [c[0], c[1], c[2], c[3]];
         self.positions.iter().zip(self.channels.chunks(4)).map(|(p, c)| (*p, colour(c))).collect()
