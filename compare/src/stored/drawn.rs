@@ -2,8 +2,9 @@
 
 use crate::harness::options::Options;
 use crate::harness::oracle::{Record, CELLS, MARKS};
-use crate::harness::ramps::{random_or_spoilt, Kind, Ramp};
+use crate::harness::ramps::{Kind, Ramp};
 use crate::harness::random::Random;
+use crate::harness::random_ramps::random_or_spoilt;
 use crate::listed::lists::random_record;
 use crate::listed::many::{of_many, Spacing};
 

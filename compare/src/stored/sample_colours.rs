@@ -2,8 +2,9 @@
 
 use crate::harness::limits;
 use crate::harness::options::Options;
-use crate::harness::ramps::{random_points, Kind, Ramp, KINDS};
+use crate::harness::ramps::{Kind, Ramp, KINDS};
 use crate::harness::random::Random;
+use crate::harness::random_ramps::random_points;
 use crate::stored::drawn::short;
 use crate::stored::words::Words;
 
