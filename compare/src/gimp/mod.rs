@@ -3,6 +3,7 @@
 pub mod counts;
 pub mod files;
 pub mod gimp_texts;
+pub mod numerals;
 pub mod saved;
 pub mod saved_rule;
 pub mod saved_texts;
