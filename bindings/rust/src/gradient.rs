@@ -5,27 +5,10 @@ use alloc::vec;
 use alloc::vec::Vec;
 
 use crate::color::flat;
-use crate::kinds::Parts;
+use crate::sealed::Sealed;
 use crate::slices;
 use crate::views::{self, GradientColors, InverseGradient};
 use crate::{Apart, Color, List, Record, Refusal, SharpGradient, Stops, Verdict};
-
-/// Only this crate has ramps: what a [`Gradient`] lends passed the library's check, so that no call on it can panic.
-pub(crate) mod sealed {
-    use super::{Box, Gradient};
-    use crate::kinds::Parts;
-
-    pub trait Sealed {
-        /// What an edit changes, of a ramp of stops that owns them.
-        fn parts_mut(&mut self) -> Option<&mut Parts> {
-            None
-        }
-
-        fn clone_boxed<'a>(&self) -> Box<dyn Gradient + 'a>
-        where
-            Self: 'a;
-    }
-}
 
 /// What every ramp can be asked.
 ///
@@ -57,7 +40,7 @@ pub(crate) mod sealed {
 ///     }
 /// }
 /// ```
-pub trait Gradient: sealed::Sealed {
+pub trait Gradient: Sealed {
     /// The ramp as slices, for the calls of [`slices`](crate::slices).
     fn as_slices(&self) -> slices::Ramp<'_>;
 
@@ -296,71 +279,3 @@ pub trait Gradient: sealed::Sealed {
         Ok(Apart::told(told, depths, &faults))
     }
 }
-
-impl<G: Gradient + ?Sized> sealed::Sealed for &G {
-    fn clone_boxed<'a>(&self) -> Box<dyn Gradient + 'a>
-    where
-        Self: 'a,
-    {
-        Box::new(*self)
-    }
-}
-
-impl<G: Gradient + ?Sized> Gradient for &G {
-    fn as_slices(&self) -> slices::Ramp<'_> {
-        (**self).as_slices()
-    }
-}
-
-impl<G: Gradient + ?Sized> sealed::Sealed for Box<G> {
-    fn parts_mut(&mut self) -> Option<&mut Parts> {
-        (**self).parts_mut()
-    }
-
-    fn clone_boxed<'a>(&self) -> Box<dyn Gradient + 'a>
-    where
-        Self: 'a,
-    {
-        (**self).clone_boxed()
-    }
-}
-
-impl<G: Gradient + ?Sized> Gradient for Box<G> {
-    fn as_slices(&self) -> slices::Ramp<'_> {
-        (**self).as_slices()
-    }
-}
-
-impl Clone for Box<dyn Gradient + '_> {
-    fn clone(&self) -> Self {
-        (**self).clone_boxed()
-    }
-}
-
-/// Makes a type that lends slices which passed the check a [`Gradient`]; of stops, it says where these are.
-macro_rules! is_gradient {
-    ($name:ty, $ramp:ident => $slices:expr $(, edited in $parts:tt)?) => {
-        impl $crate::gradient::sealed::Sealed for $name {
-            $(
-                fn parts_mut(&mut self) -> Option<&mut Parts> {
-                    Some(&mut self.$parts)
-                }
-            )?
-
-            fn clone_boxed<'a>(&self) -> alloc::boxed::Box<dyn $crate::Gradient + 'a>
-            where
-                Self: 'a,
-            {
-                alloc::boxed::Box::new(self.clone())
-            }
-        }
-
-        impl $crate::Gradient for $name {
-            fn as_slices(&self) -> $crate::slices::Ramp<'_> {
-                let $ramp = self;
-                $slices
-            }
-        }
-    };
-}
-pub(crate) use is_gradient;

@@ -6,7 +6,7 @@ use alloc::vec::Vec;
 use core::fmt;
 
 use crate::color::{flat, flat_mut};
-use crate::gradient::is_gradient;
+use crate::sealed::is_gradient;
 use crate::slices::{self, Kind, MOST_POINTS, MOST_WRITTEN};
 use crate::{Apart, Color, Gradient, LinearGradient, Refusal};
 
