@@ -92,17 +92,7 @@ pub trait Gradient: Sealed {
     }
 
     /// So many colours, evenly spaced over the domain, its ends among them; the first alone where one is asked for. They are
-    /// worked out as they are taken, from either end.
-    ///
-    /// ```
-    /// use guineaplume::{Color, Gradient, LinearGradient, Refusal};
-    ///
-    /// let ramp = LinearGradient::new(&[0.0, 1.0], &[Color::new(0., 0., 0., 1.), Color::new(1., 1., 1., 1.)])?;
-    /// let reds: Vec<f32> = ramp.colors(5).map(|color| color.r).collect();
-    /// assert_eq!(reds, [0.0, 0.25, 0.5, 0.75, 1.0]);
-    /// assert_eq!(ramp.colors(5).rev().next(), Some(ramp.at(1.0)));
-    /// # Ok::<(), Refusal>(())
-    /// ```
+    /// worked out as they are taken, from either end. An example is at [`GradientColors`].
     fn colors(&self, n: usize) -> GradientColors<'_> {
         GradientColors::new(self.as_slices(), n)
     }
@@ -140,7 +130,7 @@ pub trait Gradient: Sealed {
     }
 
     /// The ramp as a list of stops to be mixed linearly. A point is kept where its colour differs from the mix around it by
-    /// more than the threshold.
+    /// more than the threshold. An example is at [`List`].
     ///
     /// A band of colour that is narrower than half a cell, a 72nd of the domain, can lie between the points that are looked
     /// at: the list does not show it, whatever the threshold. [`flatten_within`](Gradient::flatten_within) makes one that does.
@@ -150,16 +140,6 @@ pub trait Gradient: Sealed {
     /// with channels below 2^127 in size, or a smoothstep or sharp one with channels up to a sixth of `f32::MAX`.
     /// [`Ordinary`](crate::Ordinary) has this call without a `Result`. 1 of a [`List`] with more than 2,048 stops, here and
     /// below.
-    ///
-    /// ```
-    /// use guineaplume::{Color, Gradient, LinearGradient, Refusal, DEFAULT_THRESHOLD};
-    ///
-    /// let colors = [Color::new(0.0, 0.0, 0.0, 1.0), Color::new(1.0, 1.0, 1.0, 1.0)];
-    /// let list = LinearGradient::new(&[0.0, 1.0], &colors)?.linearize(DEFAULT_THRESHOLD)?;
-    /// assert_eq!(list.positions(), [0.0, 1.0]);
-    /// assert_eq!(list.evaluations(), 215);
-    /// # Ok::<(), Refusal>(())
-    /// ```
     fn linearize(&self, threshold: f32) -> Result<List, Refusal> {
         self.flatten(threshold).map(|(_, list)| list)
     }
@@ -169,10 +149,7 @@ pub trait Gradient: Sealed {
     /// # Errors
     /// As [`linearize`](Gradient::linearize).
     fn flatten(&self, threshold: f32) -> Result<(Record, List), Refusal> {
-        let mut record = Record::empty();
-        let list = List::made(|out| self.as_slices().flatten(threshold, record.as_slices_mut(), out))?;
-        record.evaluations = list.evaluations();
-        Ok((record, list))
+        Record::made(|record, out| self.as_slices().flatten(threshold, record, out))
     }
 
     /// The sample record alone.
@@ -196,18 +173,7 @@ pub trait Gradient: Sealed {
     }
 
     /// The same stops one at a time, with room for none of them: a list's stops, or those before a faulty one and its refusal.
-    ///
-    /// ```
-    /// use guineaplume::{Color, Gradient, Refusal, SmoothstepGradient};
-    ///
-    /// let colors = [Color::new(0.0, 0.0, 0.0, 1.0), Color::new(1.0, 1.0, 1.0, 1.0)];
-    /// let ramp = SmoothstepGradient::new(&[0.0, 1.0], &colors)?;
-    /// let record = ramp.sample(0.007)?;
-    /// let list = ramp.thin(&record)?;
-    /// let stops: Vec<_> = ramp.stops_of(&record).collect::<Result<_, _>>()?;
-    /// assert!(list.stops().eq(stops));
-    /// # Ok::<(), Refusal>(())
-    /// ```
+    /// An example is at [`Stops`].
     fn stops_of<'a>(&'a self, record: &'a Record) -> Stops<'a> {
         Stops::new(self.as_slices(), record.threshold(), record.as_slices())
     }
@@ -235,10 +201,7 @@ pub trait Gradient: Sealed {
     /// # Ok::<(), Refusal>(())
     /// ```
     fn flatten_within(&self, threshold: f32, hold: f32) -> Result<(Record, List), Refusal> {
-        let mut record = Record::empty();
-        let list = List::made(|out| self.as_slices().flatten_within(threshold, hold, record.as_slices_mut(), out))?;
-        record.evaluations = list.evaluations();
-        Ok((record, list))
+        Record::made(|record, out| self.as_slices().flatten_within(threshold, hold, record, out))
     }
 
     /// The list of a record that keeps its word, at the record's threshold. At the ramp's own positions it is within the hold
