@@ -98,7 +98,21 @@ pub fn evaluate(
         return Point { colour, t, pair: 0 };
     }
     let place = near::find_place(positions, t, guess);
-    placed(kind, positions, channels, t, place)
+    told_at(placed(kind, positions, channels, t, place), t)
+}
+
+// A point, its t told anew. Handed on as it came, t is read with the four bytes beside it as eight, which waits for the store of
+// four that was just made: a tenth of a thinning.
+fn told_at(p: Point, t: f32) -> Point
+    requires { ⌜ p .t ≡ t ⌝ }
+    ensures { λ r. ⌜ r ≡ p ⌝ }
+{
+    let colour = p.colour;
+    Point {
+        colour,
+        t,
+        pair: p.pair,
+    }
 }
 
 // The point of a Catmull-Rom ramp at t, whose place is known. The pair `guess` is in hand, drawn, and becomes that of the place.
@@ -132,10 +146,10 @@ pub fn evaluate_along(
     ensures { λ r. ⌜ GoesAlong (lentRamp kind positions channels codes) t guess (old drawn) (new drawn) r ⌝ }
 {
     if !segments::is_catmull_rom(kind) {
-        return evaluate(kind, positions, channels, codes, t, guess);
+        return told_at(evaluate(kind, positions, channels, codes, t, guess), t);
     }
     let place = near::find_place(positions, t, guess);
-    drawn_at(positions, channels, t, place, guess, drawn)
+    told_at(drawn_at(positions, channels, t, place, guess, drawn), t)
 }
 
 // The end between cell i - 1 and cell i; past the last cell it is max.
