@@ -25,7 +25,8 @@ ghost use Rattle.sampling.specs.Segments.{placedPoint, pointNear, Draws,
 ghost use Rattle.sampling.specs.inner.Steps.{Carrying, Reaches, taskRamp, taskColours, taskEnd, taskFar, PointDrawn, CellCarried};
 ghost use Rattle.sampling.specs.Lent.{lentBody};
 ghost use Rattle.stops.specs.Lent.{lentRamp, old, new};
-ghost use Rattle.stops.specs.Pair.{between};
+ghost use Rattle.stops.specs.Pair.{between, colourIn};
+ghost use Rattle.stops.specs.declared.Place.the-variants.{Between};
 ghost use Rattle.stops.specs.declared.Checked.the-variants.{Fine};
 ghost use Rattle.gradient.specs.Ramp.{checkOf};
 
@@ -48,10 +49,18 @@ fn pair_at(kind: Kind, positions: &[f32], channels: &[f32], k: usize, t: f32) ->
             stops::right_of(channels, positions.len(), k, p.colour, q.colour),
             t,
         ),
-        Kind::CatmullRom => stops::colour_in(kind, positions, channels, t, Place::Between(k)),
-        Kind::Gimp => stops::colour_in(kind, positions, channels, t, Place::Between(k)),
-        Kind::GimpSaved => stops::colour_in(kind, positions, channels, t, Place::Between(k)),
+        Kind::CatmullRom => any_pair(kind, positions, channels, k, t),
+        Kind::Gimp => any_pair(kind, positions, channels, k, t),
+        Kind::GimpSaved => any_pair(kind, positions, channels, k, t),
     }
+}
+
+// The same, behind that call. Its slices are made anew: handed on as they came, they would be copied at each point of every
+// kind, and wait for both of their words.
+fn any_pair(kind: Kind, positions: &[f32], channels: &[f32], k: usize, t: f32) -> Rgba
+    ensures { λ r. ⌜ r ≡ colourIn kind (old positions) (old channels) t (Between k) ⌝ }
+{
+    stops::colour_in(kind, &positions[0..], &channels[0..], t, Place::Between(k))
 }
 
 // The point at t, whose place among the stops is known.
