@@ -6,11 +6,8 @@ use crate::Task;
 use crate::drawn::curve_of;
 use crate::drawn::follow;
 use crate::halving::row_into;
+use crate::pairs::pair_at;
 use blend::Rgba;
-use blend::basis;
-use blend::linear;
-use blend::sharp;
-use blend::smoothstep;
 use gradient::gimp;
 use stops::Kind;
 use stops::Place;
@@ -25,43 +22,8 @@ ghost use Rattle.sampling.specs.Segments.{placedPoint, pointNear, Draws,
 ghost use Rattle.sampling.specs.inner.Steps.{Carrying, Reaches, taskRamp, taskColours, taskEnd, taskFar, PointDrawn, CellCarried};
 ghost use Rattle.sampling.specs.Lent.{lentBody};
 ghost use Rattle.stops.specs.Lent.{lentRamp, old, new};
-ghost use Rattle.stops.specs.Pair.{between, colourIn};
-ghost use Rattle.stops.specs.declared.Place.the-variants.{Between};
 ghost use Rattle.stops.specs.declared.Checked.the-variants.{Fine};
 ghost use Rattle.gradient.specs.Ramp.{checkOf};
-
-// The colour between stop k - 1 and stop k. It is mixed here: behind the call that any place takes, the stops would go through
-// memory at each point.
-fn pair_at(kind: Kind, positions: &[f32], channels: &[f32], k: usize, t: f32) -> Rgba
-    ensures { λ r. ⌜ r ≡ between kind (old positions) (old channels) k t ⌝ }
-{
-    let lower = stops::less(k);
-    let p = stops::stop(positions, channels, lower);
-    let q = stops::stop(positions, channels, k);
-    match kind {
-        Kind::Linear => linear::pair_colour(p, q, t),
-        Kind::Smoothstep => smoothstep::pair_colour(p, q, t),
-        Kind::Sharp => sharp::pair_colour(lower, p, q, t),
-        Kind::Basis => basis::pair_colour(
-            stops::left_of(channels, k, p.colour, q.colour),
-            p,
-            q,
-            stops::right_of(channels, positions.len(), k, p.colour, q.colour),
-            t,
-        ),
-        Kind::CatmullRom => any_pair(kind, positions, channels, k, t),
-        Kind::Gimp => any_pair(kind, positions, channels, k, t),
-        Kind::GimpSaved => any_pair(kind, positions, channels, k, t),
-    }
-}
-
-// The same, behind that call. Its slices are made anew: handed on as they came, they would be copied at each point of every
-// kind, and wait for both of their words.
-fn any_pair(kind: Kind, positions: &[f32], channels: &[f32], k: usize, t: f32) -> Rgba
-    ensures { λ r. ⌜ r ≡ colourIn kind (old positions) (old channels) t (Between k) ⌝ }
-{
-    stops::colour_in(kind, &positions[0..], &channels[0..], t, Place::Between(k))
-}
 
 // The point at t, whose place among the stops is known.
 pub fn placed(kind: Kind, positions: &[f32], channels: &[f32], t: f32, place: Place) -> Point

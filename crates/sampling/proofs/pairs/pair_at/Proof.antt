@@ -5,8 +5,8 @@ use Rattle.stops.specs.Pair.{pairOf, colourIn}
 use Rattle.stops.specs.declared.Kind.the-variants.{Linear, Smoothstep}
 use Rattle.stops.proofs.Pairs.{by-kind, by-sharp, by-basis, by-pair}
 use borrow.Author.Needs.{needs}
-use Rattle.sampling.proofs.cells.pair_at.Statement.{statement}
-use Rattle.sampling.proofs.cells.pair_at.Tie as tie
+use Rattle.sampling.proofs.pairs.pair_at.Statement.{statement}
+use Rattle.sampling.proofs.pairs.pair_at.Tie as tie
 
 enum-told : tie.Need-enum-told
 enum-told c = search needs

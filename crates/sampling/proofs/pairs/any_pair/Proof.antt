@@ -10,8 +10,8 @@ use lib.Ieee.{Float}
 use Rattle.stops.specs.Pair.{colourIn}
 use Rattle.stops.specs.declared.Place.the-variants.{Between}
 use borrow.Author.Needs.{needs}
-use Rattle.sampling.proofs.cells.any_pair.Statement.{statement}
-use Rattle.sampling.proofs.cells.any_pair.Tie as tie
+use Rattle.sampling.proofs.pairs.any_pair.Statement.{statement}
+use Rattle.sampling.proofs.pairs.any_pair.Tie as tie
 
 whole : (l : List Float) → take (length l - 0) l ≡ l
 whole l = take-all (length l - 0) l (le-of-eq (sym (sub-zero (length l))))
