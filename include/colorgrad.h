@@ -163,7 +163,7 @@ static inline const char *colorgrad_message(uint32_t refusal)
     case COLORGRAD_NO_ROOM: return "the output has no room for all of it";
     case COLORGRAD_LIST_NOT_FINITE: return "a stop of the list would not be finite";
     case COLORGRAD_LIST_FALLING: return "a stop of the list would lie below the stop before it";
-    case COLORGRAD_NOT_A_TEXT: return "the GIMP text is too long or not ASCII";
+    case COLORGRAD_NOT_A_TEXT: return "the GIMP text is too long, or not ASCII where it must be, or its name is not UTF-8";
     case COLORGRAD_BAD_HEADER: return "line 1, 2 or 3 of the GIMP text is not as it must be";
     case COLORGRAD_BAD_SEGMENT: return "a segment of the GIMP text is not valid";
     case COLORGRAD_FEW_LINES: return "the GIMP text has fewer segments than it counts";

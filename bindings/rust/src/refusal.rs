@@ -36,7 +36,8 @@ pub enum Refusal {
     ListNotFinite = 8,
     /// 9: a stop of the list would lie below the stop before it.
     ListFalling = 9,
-    /// 10: a GIMP text of more than 65,536 bytes, or with a byte above 127.
+    /// 10: a GIMP text of more than 65,536 bytes, or with a byte above 127. Of one as GIMP saves it: more than 131,072 bytes, a
+    /// byte above 127 in line 1 or 3 or in a segment that is counted, or a name that is not UTF-8.
     NotAText = 10,
     /// 11: line 1, 2 or 3 of a GIMP text is not valid.
     BadHeader = 11,

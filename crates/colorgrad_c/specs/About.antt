@@ -27,7 +27,7 @@ refusalTexts =
     ∷ "the output has no room for all of it"
     ∷ "a stop of the list would not be finite"
     ∷ "a stop of the list would lie below the stop before it"
-    ∷ "the GIMP text is too long or not ASCII"
+    ∷ "the GIMP text is too long, or not ASCII where it must be, or its name is not UTF-8"
     ∷ "line 1, 2 or 3 of the GIMP text is not as it must be"
     ∷ "a segment of the GIMP text is not valid"
     ∷ "the GIMP text has fewer segments than it counts"

@@ -83,7 +83,7 @@ pub extern "C" fn colorgrad_message_told(refusal: u32, out: &mut [u8]) -> usize
         the output has no room for all of it\n\
         a stop of the list would not be finite\n\
         a stop of the list would lie below the stop before it\n\
-        the GIMP text is too long or not ASCII\n\
+        the GIMP text is too long, or not ASCII where it must be, or its name is not UTF-8\n\
         line 1, 2 or 3 of the GIMP text is not as it must be\n\
         a segment of the GIMP text is not valid\n\
         the GIMP text has fewer segments than it counts\n\

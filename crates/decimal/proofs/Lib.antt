@@ -12,6 +12,7 @@ pub mod LongGrammar
 pub mod LongPlace
 pub mod LongRuns
 pub mod Moves
+pub mod NearDivision
 pub mod Neighbours
 pub mod OneForm
 pub mod Parts

@@ -15,10 +15,10 @@ use Rattle.decimal.specs.declared.Token.the-variants.{Number}
 use Rattle.decimal.specs.Decimal.{isDigit, areDigits, valueAfter}
 use Rattle.decimal.specs.Long.{isMinus, pastSign, firstDigits, pastDigits, isMark, longNumber, withPower, afterDigits, afterWhole, unsignedLongOf, readLongOf}
 use Rattle.decimal.specs.Form.{Sign, none, Rest, nothing, point, Form, Power, unmoved, raised, lowered, LongForm}
-use Rattle.decimal.specs.inner.Counted.{isPoint}
+use Rattle.decimal.specs.inner.Counted.{Stops, isPoint}
 use Rattle.decimal.proofs.Significance.{few-of, few-digits}
 use Rattle.decimal.proofs.LongAfter.{no-point, a-point, long-is}
-use Rattle.decimal.proofs.LongPlace.{Stops, stops-end, stops-byte, first-run, past-run}
+use Rattle.decimal.proofs.LongPlace.{stops-end, stops-byte, first-run, past-run}
 use Rattle.decimal.proofs.OneForm.{begins, sign-off}
 
 -- ---- a mark

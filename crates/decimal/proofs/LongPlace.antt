@@ -10,7 +10,7 @@ use lib.ListN.{length, drop, getD, length-append}
 use borrow.Author.Tests.{eq-eqb, ne-eqb}
 use Rattle.decimal.specs.Decimal.{isDigit, areDigits}
 use Rattle.decimal.specs.Long.{isMinus, pastSign, firstDigits, pastDigits}
-use Rattle.decimal.specs.inner.Counted.{SignAt, DigitsTo, isPoint}
+use Rattle.decimal.specs.inner.Counted.{SignAt, DigitsTo, Passed, Stops, isPoint}
 use Rattle.decimal.proofs.Parts.{digit, both-digits, first-of, second-of}
 use Rattle.decimal.proofs.Place.{at-byte, at-end}
 
@@ -73,11 +73,6 @@ unfolding areDigits pastDigits
 past-run [] ys h = refl
 past-run (x ∷ xs) ys h = ap (λ (t : Bool). cond t (pastDigits (xs ++ ys)) (x ∷ (xs ++ ys))) (first-of (isDigit x) (areDigits xs) h) ∙ past-run xs ys (second-of (isDigit x) (areDigits xs) h)
 
--- no digit stands first
-pub record Stops (l : List ℕ) : Type 0 where
-  pub none : firstDigits l ≡ []
-  pub same : pastDigits l ≡ l
-
 pub stops-end : Stops []
 unfolding firstDigits pastDigits
 stops-end = record { none = refl; same = refl }
@@ -86,16 +81,22 @@ pub stops-byte : (b : ℕ) (bs : List ℕ) → isDigit b ≡ false → Stops (b 
 unfolding firstDigits pastDigits
 stops-byte b bs h = record { none = ap (λ (t : Bool). cond t (b ∷ firstDigits bs) []) h; same = ap (λ (t : Bool). cond t (pastDigits bs) (b ∷ bs)) h }
 
--- digits xs were passed from `from` on, up to i
-pub record Passed (s : List ℕ) (from : ℕ) (xs : List ℕ) (i : ℕ) : Type 0 where
-  pub is : drop from s ≡ xs ++ drop i s
-  pub all : areDigits xs ≡ true
-  pub at : i ≡ from + length xs
-  pub within : i ≤ length s
-
+-- ---- digits that were passed
 pub passed-none : (s : List ℕ) (from : ℕ) → from ≤ length s → Passed s from [] from
 unfolding areDigits
 passed-none s from h = record { is = refl; all = refl; at = omega arith; within = h }
+
+pub passed-join : (s : List ℕ) (from : ℕ) (xs : List ℕ) (i : ℕ) (ys : List ℕ) (j : ℕ) → Passed s from xs i → Passed s i ys j → Passed s from (xs ++ ys) j
+passed-join s from xs i ys j p q =
+    record {
+      is = p .is ∙ ap (λ (l : List ℕ). xs ++ l) (q .is) ∙ sym (append-assoc xs ys (drop j s));
+      all = both-digits xs ys (p .all) (q .all);
+      at = joined (length xs) (length ys) (p .at) (q .at) ∙ ap (λ (x : ℕ). from + x) (sym (length-append xs ys));
+      within = q .within;
+    }
+  where
+    joined : (m n : ℕ) → i ≡ from + m → j ≡ i + n → j ≡ from + (m + n)
+    joined m n e f = omega arith
 
 module _ (s : List ℕ) (from : ℕ) (xs : List ℕ) (i : ℕ) (p : Passed s from xs i) where
   pub passed-next : i < length s → 48 ≤ getD s i 0 → getD s i 0 ≤ 57 → Passed s from (xs ++ (getD s i 0 ∷ [])) (i + 1)

@@ -7,36 +7,30 @@ use native.Mathlib.Omega.{arith}
 use lib.ListN.{length, drop, getD}
 use Rattle.decimal.specs.Decimal.{valueAfter}
 use Rattle.decimal.specs.Long.{firstDigits}
-use Rattle.decimal.specs.inner.Counted.{Counts, CountsOn, CountsTo, CountsOne, Small, Saturates, TenTimes, PowerTo}
+use Rattle.decimal.specs.inner.Counted.{Counts, CountsOn, CountsTo, Passed, Stops, Counting, Small, Saturates, TenTimes, PowerTo}
 use Rattle.decimal.proofs.Counting.{value-more}
-use Rattle.decimal.proofs.LongPlace.{Stops, Passed, passed-none, passed-next, passed-are, passed-to}
+use Rattle.decimal.proofs.LongPlace.{passed-none, passed-join, passed-next, passed-are, passed-to}
 
 -- ---- digits that are counted
-pub record Counting (s : List ℕ) (from v₀ c₀ z₀ v c z i : ℕ) : Type 0 where
-  pub xs : List ℕ
-  pub run : Passed s from xs i
-  pub counts : CountsOn xs v₀ c₀ z₀ v c z
-  pub small : Small v c
-  pub zeros : z ≤ i
-
 pub counting-none : (s : List ℕ) (from v c z : ℕ) → from ≤ length s → z ≤ from → Small v c → Counting s from v c z v c z from
 counting-none s from v c z h l m = record { xs = []; run = passed-none s from h; counts = λ (ds : List ℕ) (k : Counts ds v c z). subst (λ (l : List ℕ). Counts l v c z) (sym (append-nil ds)) k; small = m; zeros = l }
 
-module _ (s : List ℕ) (from v₀ c₀ z₀ v c z i : ℕ) (h : Counting s from v₀ c₀ z₀ v c z i) where
-  pub counting-next : (v′ c′ z′ : ℕ) → i < length s → 48 ≤ getD s i 0 → getD s i 0 ≤ 57 → CountsOne (getD s i 0) v c z v′ c′ z′ → Counting s from v₀ c₀ z₀ v′ c′ z′ (i + 1)
-  counting-next v′ c′ z′ l a b o =
-      let one = getD s i 0 ∷ [] in
-      record {
-        xs = h .xs ++ one;
-        run = passed-next s from (h .xs) i (h .run) l a b;
-        counts = λ (ds : List ℕ) (k : Counts ds v₀ c₀ z₀). subst (λ (l : List ℕ). Counts l v′ c′ z′) (append-assoc ds (h .xs) one) (o .counts (ds ++ h .xs) (h .counts ds k));
-        small = o .small;
-        zeros = more z i z′ (h .zeros) (o .zeros);
-      }
-    where
-      more : (x y t : ℕ) → x ≤ y → t ≤ x + 1 → t ≤ y + 1
-      more x y t f g = omega arith
+pub counting-join : (s : List ℕ) (a v c z v′ c′ z′ i v″ c″ z″ j : ℕ) → Counting s a v c z v′ c′ z′ i → Counting s i v′ c′ z′ v″ c″ z″ j → Counting s a v c z v″ c″ z″ j
+counting-join s a v c z v′ c′ z′ i v″ c″ z″ j h g =
+    record {
+      xs = h .xs ++ g .xs;
+      run = passed-join s a (h .xs) i (g .xs) j (h .run) (g .run);
+      counts = λ (ds : List ℕ) (k : Counts ds v c z). subst (λ (l : List ℕ). Counts l v″ c″ z″) (append-assoc ds (h .xs) (g .xs)) (g .counts (ds ++ h .xs) (h .counts ds k));
+      small = g .small;
+      zeros = g .zeros;
+    }
 
+-- one more digit
+pub counting-one : (s : List ℕ) (i v c z v′ c′ z′ : ℕ) → i < length s → 48 ≤ getD s i 0 → getD s i 0 ≤ 57 → CountsOn (getD s i 0 ∷ []) v c z v′ c′ z′ → Small v′ c′ → z′ ≤ i + 1 → Counting s i v c z v′ c′ z′ (i + 1)
+counting-one s i v c z v′ c′ z′ l a b o m h =
+    record { xs = getD s i 0 ∷ []; run = passed-next s i [] i (passed-none s i (omega arith)) l a b; counts = o; small = m; zeros = h }
+
+module _ (s : List ℕ) (from v₀ c₀ z₀ v c z i : ℕ) (h : Counting s from v₀ c₀ z₀ v c z i) where
   pub counting-done : Stops (drop i s) → CountsTo s from v₀ c₀ z₀ v c z i
   counting-done t =
       record {

@@ -6,7 +6,7 @@ use native.Mathlib.Omega.{arith}
 use lib.Count.{leadingZeros, leading-top}
 use lib.Dec.{lit<}
 use lib.Pow.{pow-add, pow-mono, shl-lt}
-use Rattle.decimal.specs.inner.Steps.{DoublesTo, ScalesTo}
+use Rattle.decimal.specs.inner.Steps.{DoublesTo, ScalesTo, FitsTo}
 
 -- ---- powers keep order
 pub five-le : (n k : ℕ) → n ≤ k → 5 ^ n ≤ 5 ^ k
@@ -43,14 +43,25 @@ module _ (five : ℕ) (p : 0 < five) (h : five < 2 ^ 63) where
       let q : 2 ^ 39 ≤ five = le-trans (pow-mono {i = 39} {j = t .0} (omega arith)) (t .2) in
       record { lo = le-trans q (le-of-eq (sym (mul-one five))); hi = subst (λ (x : ℕ). x < 2 ^ 63) (sym (mul-one five)) h; few = omega arith }
 
--- ---- once more: num shows that nothing is cut off
-pub twice-it : (num five up : ℕ) → DoublesTo five up → num < 2 ^ 64 → five * 2 ^ up % 2 ^ 64 ≤ num / 16777216 → ScalesTo num five (five * 2 ^ up % 2 ^ 64 * 2) (up + 1)
-twice-it num five up r b l =
-    let lo = r .lo in
-    let hi = r .hi in
-    let x : five * 2 ^ up % 2 ^ 64 ≡ five * 2 ^ up = mod-eq-of-lt (lt-of-lt-of-le hi (pow-mono {i = 63} {j = 64} (omega arith))) in
-    let e : five * 2 ^ (up + 1) ≡ five * 2 ^ up * 2 = ap (λ (x : ℕ). five * x) (pow-add 2 up 1) ∙ sym (mul-assoc five (2 ^ up) 2) in
-    record { is = omega arith; some = omega arith; bound = omega arith; above = omega arith; few = omega arith }
+-- ---- so moved nothing is cut off
+module _ (five up : ℕ) (r : DoublesTo five up) where
+  pub shifted-is : five * 2 ^ up % 2 ^ 64 ≡ five * 2 ^ up
+  shifted-is = mod-eq-of-lt (lt-of-lt-of-le (r .hi) (pow-mono {i = 63} {j = 64} (omega arith)))
+
+  -- and once more, or not
+  pub scaled-is : (num den by : ℕ) → FitsTo num (five * 2 ^ up % 2 ^ 64) den by → ScalesTo num five den (up + by)
+  scaled-is num den by f =
+      let above = f .above in
+      record {
+        is = f .is ∙ ap (λ (x : ℕ). x * 2 ^ by) shifted-is ∙ mul-assoc five (2 ^ up) (2 ^ by) ∙ ap (λ (x : ℕ). five * x) (sym (pow-add 2 up by));
+        some = omega arith;
+        bound = f .bound;
+        above = f .above;
+        few = most up by (r .few) (f .once);
+      }
+    where
+      most : (x y : ℕ) → x ≤ 39 → y ≤ 1 → x + y ≤ 40
+      most x y h l = omega arith
 
 -- ---- tens are fives and twos
 pub ten-is : (k : ℕ) → 10 ^ k ≡ 5 ^ k * 2 ^ k

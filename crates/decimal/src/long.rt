@@ -8,51 +8,78 @@ ghost use mathlib.Core.Path.{_≡_};
 ghost use Prim.Native.Nat.{_^_, _≤_, _<_};
 ghost use lib.ListN.{length, drop};
 ghost use Rattle.decimal.specs.Long.{readLongOf, isMark};
-ghost use Rattle.decimal.specs.inner.Counted.{isPoint, SignAt, PowerTo, TenTimes, NumberIs, AfterIs};
+ghost use Rattle.decimal.specs.inner.Counted.{isPoint, SignAt, DecimalOf, PowerTo, TenTimes, NumberIs, AfterIs};
 
 // A power of ten from here on is beyond every number of digits that a slice can have.
 const HUGE: u64 = 10000000000000000000;
+
+// The most bytes of a short token: a sign, 18 digits and a point.
+const LONGEST_SHORT: usize = 20;
 
 // A token: an optional sign, digits with at most one point, and perhaps an exponent. Most are short, and are read as such.
 pub fn read_long(s: &[u8]) -> Token
     ensures { λ r. ⌜ r ≡ readLongOf (now (s .entry)) ⌝ }
 {
-    match read(s) {
+    // A slice that is passed on as it came is copied at once, and waits for both of its words; this one is made word by word.
+    let all = &s[0..];
+    if LONGEST_SHORT < all.len() {
+        return by_parts(all);
+    }
+    match read(all) {
         Token::Number(x) => Token::Number(x),
-        Token::NoNumber => by_parts(s),
+        Token::NoNumber => by_parts(all),
     }
 }
 
+// Each of its parts is read by one call, so that the compiler puts them all in here: a slice that is passed on is copied.
 fn by_parts(s: &[u8]) -> Token
     ensures { λ r. ⌜ r ≡ readLongOf (now (s .entry)) ⌝ }
+{
+    let d = digits_of(s);
+    with_power(s, d)
+}
+
+// The sign and the digits of a token, of which `places` stand after the point, and where they end.
+struct Decimal {
+    neg: bool,
+    value: u64,
+    count: u32,
+    zeros: usize,
+    all: usize,
+    places: usize,
+    end: usize,
+}
+
+fn digits_of(s: &[u8]) -> Decimal
+    ensures { λ r. ⌜ DecimalOf (now (s .entry)) (r .neg) (r .value) (r .count) (r .zeros) (r .all) (r .places) (r .end) ⌝ }
 {
     let sign = sign_at(s, 0);
     let from = sign.end;
     let whole = count_digits(s, from, 0, 0, 0);
     let at = whole.end;
     if !is_point(s, at) {
-        let d = Decimal {
+        return Decimal {
             neg: sign.minus,
             value: whole.value,
             count: whole.count,
             zeros: whole.zeros,
             all: at - from,
             places: 0,
+            end: at,
         };
-        return with_power(s, at, d);
     }
     let both = count_digits(s, at + 1, whole.value, whole.count, whole.zeros);
     let end = both.end;
     let places = end - (at + 1);
-    let d = Decimal {
+    Decimal {
         neg: sign.minus,
         value: both.value,
         count: both.count,
         zeros: both.zeros,
         all: at - from + places,
         places,
-    };
-    with_power(s, end, d)
+        end,
+    }
 }
 
 // Whether a minus stands there, and where what follows a sign begins.
@@ -100,21 +127,12 @@ fn is_point(s: &[u8], at: usize) -> bool
     s[at] == b'.'
 }
 
-// The digits of a token, of which `places` stand after the point.
-struct Decimal {
-    neg: bool,
-    value: u64,
-    count: u32,
-    zeros: usize,
-    all: usize,
-    places: usize,
-}
-
-// The digits, and what follows them from `at` on.
-fn with_power(s: &[u8], at: usize, d: Decimal) -> Token
-    requires { ⌜ (at ≤ length (now s)) × ((d .zeros < 2 ^ 63) × (d .places < 2 ^ 63)) ⌝ }
-    ensures { λ r. ⌜ AfterIs (d .neg) (d .value) (d .count) (d .zeros) (d .all) (d .places) (drop at (now (s .entry))) r ⌝ }
+// The digits, and what follows them.
+fn with_power(s: &[u8], d: Decimal) -> Token
+    requires { ⌜ (d .end ≤ length (now s)) × ((d .zeros < 2 ^ 63) × (d .places < 2 ^ 63)) ⌝ }
+    ensures { λ r. ⌜ AfterIs (d .neg) (d .value) (d .count) (d .zeros) (d .all) (d .places) (drop (d .end) (now (s .entry))) r ⌝ }
 {
+    let at = d.end;
     if at == s.len() {
         return number(d, 0, false);
     }

@@ -1,5 +1,7 @@
 // A number times a power of ten, to the nearest f32: the point moved up or down.
-use crate::magnitude;
+use crate::near::Near;
+use crate::near::near_magnitude;
+use crate::quotient::magnitude;
 use crate::signed;
 use crate::wide::long_magnitude;
 ghost use mathlib.Core.Path.{_≡_};
@@ -53,17 +55,11 @@ fn nearest_long(neg: bool, d: u64, up: u64, down: u64) -> f32
     signed(neg, tens_magnitude(d, by.up, by.down))
 }
 
-// Its bits but for the sign's. Few places down one word is enough for the division. 39 places up even 1 is beyond every f32,
-// and 65 down even 64 binary digits are nothing.
+// Its bits but for the sign's. 39 places up even 1 is beyond every f32, and 65 down even 64 binary digits are nothing.
 fn tens_magnitude(d: u64, up: u64, down: u64) -> u32
     requires { ⌜ (up ≡ 0) ⊎ (down ≡ 0) ⌝ }
     ensures { λ r. ⌜ BitsOf (d * 10 ^ up) (10 ^ down) r ⌝ }
 {
-    if up == 0 {
-        if down <= 27 {
-            return magnitude(d, down as usize, five_to(down));
-        }
-    }
     if d == 0 {
         return 0;
     }
@@ -73,7 +69,26 @@ fn tens_magnitude(d: u64, up: u64, down: u64) -> u32
     if 64 < down {
         return 0;
     }
+    if up == 0 {
+        return down_magnitude(d, down);
+    }
     long_magnitude(d, up, down)
+}
+
+// Most are told by one division. Of the others few places down take a division of one word.
+fn down_magnitude(d: u64, down: u64) -> u32
+    requires { ⌜ (0 < d) × (down ≤ 64) ⌝ }
+    ensures { λ r. ⌜ BitsOf d (10 ^ down) r ⌝ }
+{
+    match near_magnitude(d, down) {
+        Near::Bits(b) => b,
+        Near::Unsure => {
+            if down <= 27 {
+                return magnitude(d, down as usize, five_to(down));
+            }
+            long_magnitude(d, 0, down)
+        }
+    }
 }
 
 fn five_to(n: u64) -> u64

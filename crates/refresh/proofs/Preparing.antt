@@ -1,8 +1,10 @@
 -- What `check_and_copy` leaves, from what the check of the record and the copy of the ramp promise. Assumes nothing.
 use mathlib.Core.Path.{_≡_, refl, sym, ap, _∙_}
-use Prim.Native.Nat.{ℕ, _+_, _*_}
+use mathlib.Core.List.{List}
+use Prim.Native.Nat.{ℕ, _+_, _*_, _≤_}
+use native.Mathlib.Nat.{le-trans, le-of-eq, min-le-right}
 use native.Mathlib.Omega.{arith}
-use lib.ListN.{length, take}
+use lib.ListN.{length, take, length-take}
 use lib.Ieee.{Float}
 use Rattle.refusals.specs.Limits.{mostStops}
 use Rattle.stops.specs.Lent.{Ramp, Change}
@@ -40,6 +42,10 @@ copied-refused (checked.Refused m) k n h = ap checked.Refused (sym (same-number 
 copied-done : (c : Checked) (k n : ℕ) → copied.Stops n ≡ onFine c (copied.Stops k) copied.Refused → (c ≡ checked.Fine) × (n ≡ k)
 copied-done checked.Fine k n h = let z : n ≡ k = cc in (refl, z)
 copied-done (checked.Refused m) k n h = let z = no-stops m n (sym h) in absurd (omega arith)
+
+-- ---- a list of m that begins another is within it
+taken-within : (m : ℕ) (l k : List Float) → take m l ≡ k → length k ≡ m → m ≤ length l
+taken-within m l k is long = le-trans (le-of-eq (sym long ∙ ap length (sym is) ∙ length-take m l)) (min-le-right m (length l))
 
 module _ (ramp : Ramp) (e : Edit) (asked : Float) (held : Change Held) (copy : Change Output) where
   abbrev was : Held
@@ -89,7 +95,13 @@ module _ (ramp : Ramp) (e : Edit) (asked : Float) (held : Change Held) (copy : C
         ap (take n) (w .written ∙ rw (checked-by, d .0)) ∙ written-is (before .positions) (edited ramp e .positions) n many (omega (arith, most, many, long)) in
         let channels-are : take (4 * n) (after .channels) ≡ edited ramp e .channels =
         ap (take (4 * n)) (w .coloured ∙ rw (checked-by, d .0)) ∙ written-is (before .channels) (edited ramp e .channels) (4 * n) four (omega (arith, most, many, wide)) in
-        record { fine = by-edit ramp e asked was h (d .0); few = omega (arith, most, many); same = rw (positions-are, channels-are) }
+        record {
+          fine = by-edit ramp e asked was h (d .0);
+          few = omega (arith, most, many);
+          placed = taken-within n (after .positions) _ positions-are many;
+          coloured = taken-within (4 * n) (after .channels) _ channels-are four;
+          same = rw (positions-are, channels-are);
+        }
 
     pub prepares : Prepares ramp e asked held copy r
     prepares =

@@ -38,7 +38,7 @@ listNotFinite = 8
 abbrev pub listFalling : ℕ
 listFalling = 9
 
--- GIMP text too long, or a byte above 127 after the leading marks
+-- GIMP text too long, or a byte above 127 after the leading marks; as GIMP saves it, too long, a byte above 127 in line 1 or 3 or in a segment that is counted, or a second line, which has the name, that is not UTF-8
 abbrev pub notAText : ℕ
 notAText = 10
 
@@ -62,7 +62,7 @@ noSegment = 14
 abbrev pub tooManySegments : ℕ
 tooManySegments = 15
 
--- segment valid but curved, or sinusoidal with its middle outside its ends (its line)
+-- segment valid but curved; as GIMP saves it, curved with its middle outside its ends; of both, sinusoidal with its middle outside its ends (its line)
 abbrev pub notCarried : ℕ
 notCarried = 16
 

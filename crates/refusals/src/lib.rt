@@ -29,7 +29,7 @@ pub const LIST_NOT_FINITE: u8 = 8;
 // An emitted position is below the one before.
 pub const LIST_FALLING: u8 = 9;
 
-// A GIMP text is too long, or has a byte above 127 after the leading marks.
+// A GIMP text is too long, is not ASCII where it must be, or, as GIMP saves it, has a name that is not UTF-8.
 pub const NOT_A_TEXT: u8 = 10;
 
 // Line 1, 2 or 3 is invalid.
@@ -47,7 +47,7 @@ pub const NO_SEGMENT: u8 = 14;
 // The count is above 256, or above the lent room.
 pub const TOO_MANY_SEGMENTS: u8 = 15;
 
-// A segment is valid, and curved, or sinusoidal with its middle outside its ends.
+// A segment is valid, and curved, which `read` does not take, or curved or sinusoidal with its middle outside its ends.
 pub const NOT_CARRIED: u8 = 16;
 
 // A sharp ramp cannot be built of these colours on this domain.

@@ -5,11 +5,11 @@ use mathlib.Core.Bool.{Bool, true, false, cond}
 use mathlib.Core.List.{List, [], _∷_, _++_}
 use Prim.Native.Nat.{ℕ, _+_, _-_, _*_, _^_, _≤_, _<_}
 use lib.Dec.{eqb}
-use lib.ListN.{length, drop}
+use lib.ListN.{length, drop, getD}
 use lib.Ieee.{Float, binary32, round}
 use Rattle.decimal.specs.declared.Token.{Token}
-use Rattle.decimal.specs.Decimal.{valueAfter}
-use Rattle.decimal.specs.Long.{mostSignificant, isMinus, pastSign, firstDigits, pastDigits, fromFirst, fewCount, longNumber, afterDigits}
+use Rattle.decimal.specs.Decimal.{areDigits, valueAfter}
+use Rattle.decimal.specs.Long.{mostSignificant, isMinus, pastSign, firstDigits, pastDigits, fromFirst, fewCount, longNumber, afterDigits, readLongOf}
 
 -- a sign or none stands at `at`, and what follows it begins at `end`
 pub record SignAt (s : List ℕ) (at : ℕ) (minus : Bool) (end : ℕ) : Type 0 where
@@ -50,10 +50,50 @@ pub record CountsTo (s : List ℕ) (from v c z v′ c′ z′ end : ℕ) : Type 
   pub small : Small v′ c′
   pub zeros : z′ ≤ end
 
-pub record CountsOne (b v c z v′ c′ z′ : ℕ) : Type 0 where
-  pub counts : CountsOn (b ∷ []) v c z v′ c′ z′
+-- digits xs were passed from `from` on, up to i
+pub record Passed (s : List ℕ) (from : ℕ) (xs : List ℕ) (i : ℕ) : Type 0 where
+  pub is : drop from s ≡ xs ++ drop i s
+  pub all : areDigits xs ≡ true
+  pub at : i ≡ from + length xs
+  pub within : i ≤ length s
+
+-- no digit stands first
+pub record Stops (l : List ℕ) : Type 0 where
+  pub none : firstDigits l ≡ []
+  pub same : pastDigits l ≡ l
+
+-- those passed are counted
+pub record Counting (s : List ℕ) (from v c z v′ c′ z′ i : ℕ) : Type 0 where
+  pub xs : List ℕ
+  pub run : Passed s from xs i
+  pub counts : CountsOn xs v c z v′ c′ z′
   pub small : Small v′ c′
-  pub zeros : z′ ≤ z + 1
+  pub zeros : z′ ≤ i
+
+-- where none has counted yet, no zero stands at i
+abbrev pub NoZero : List ℕ → ℕ → ℕ → Type 0
+NoZero s i c = c ≡ 0 → i < length s → getD s i 0 ≡ 48 → ⊥
+
+-- zeros at the start, which change no count
+pub record ZerosTo (s : List ℕ) (from c end : ℕ) : Type 0 where
+  pub counts : (v z : ℕ) → z ≤ from → Small v c → Counting s from v c z v c z end
+  pub other : NoZero s end c
+
+-- the first digits that count: all that are there, or up to the 19th
+pub record FirstTo (s : List ℕ) (from v c z v′ c′ z′ end : ℕ) : Type 0 where
+  pub part : Counting s from v c z v′ c′ z′ end
+  pub stops : c′ < mostSignificant → Stops (drop end s)
+
+pub record MoreTo (s : List ℕ) (from v c z v′ c′ z′ end : ℕ) : Type 0 where
+  pub part : Counting s from v c z v′ c′ z′ end
+  pub stops : Stops (drop end s)
+
+-- 19 digits that count end at stop, or before them there is the end
+pub record StopIs (from end c stop : ℕ) : Type 0 where
+  pub above : from ≤ stop
+  pub within : stop ≤ end
+  pub few : from < stop → c + stop ≤ mostSignificant + from
+  pub all : stop < end → mostSignificant + from ≤ c + stop
 
 -- v is the power of ten e, or both are beyond every length of a slice
 abbrev pub huge : ℕ
@@ -87,6 +127,16 @@ NumberIs neg v c z n k power lower r =
 
 abbrev pub AfterIs : Bool → ℕ → ℕ → ℕ → ℕ → ℕ → List ℕ → Token → Type 0
 AfterIs neg v c z n k rest r = (ds : List ℕ) → Counts ds v c z → n ≡ length ds → r ≡ afterDigits neg ds k rest
+
+-- digits that are so counted, k of them after the point, stand in s up to `end`, and what s is read as is what they are with what follows them
+pub record DecimalOf (s : List ℕ) (neg : Bool) (v c z n k end : ℕ) : Type 0 where
+  pub ds : List ℕ
+  pub counts : Counts ds v c z
+  pub many : n ≡ length ds
+  pub is : afterDigits neg ds k (drop end s) ≡ readLongOf s
+  pub within : end ≤ length s
+  pub zeros : z ≤ end
+  pub places : k ≤ end
 
 -- whether a point stands first
 abbrev pub isPoint : List ℕ → Bool

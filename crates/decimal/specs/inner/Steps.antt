@@ -28,6 +28,14 @@ pub record DoublesTo (five up : ℕ) : Type 0 where
   pub hi : five * 2 ^ up < 2 ^ 63
   pub few : up ≤ 39
 
+-- den is first, or first doubled once, and num is less than 2 ^ 24 of it; a num of 64 digits is at least 2 ^ 23 of it, where first has 40
+pub record FitsTo (num first den up : ℕ) : Type 0 where
+  pub is : den ≡ first * 2 ^ up
+  pub once : up ≤ 1
+  pub bound : den < 2 ^ 63
+  pub above : num < 16777216 * den
+  pub under : 2 ^ 63 ≤ num → first < 2 ^ 40 → 8388608 * den ≤ num
+
 -- den is five doubled up times, and num is less than 2 ^ 24 of it
 pub record ScalesTo (num five den up : ℕ) : Type 0 where
   pub is : den ≡ five * 2 ^ up

@@ -1,7 +1,7 @@
 -- What `check_and_copy` promises to the two calls that refresh.
 use mathlib.Core.Path.{_≡_}
 use Prim.Native.Nat.{ℕ, _*_, _≤_}
-use lib.ListN.{take}
+use lib.ListN.{length, take}
 use lib.Ieee.{Float}
 use Rattle.refusals.specs.Limits.{mostStops}
 use Rattle.stops.specs.Lent.{Ramp, Change, rampOf}
@@ -15,10 +15,12 @@ use Rattle.refresh.specs.declared.editing.copy.Copied.{Copied}
 use Rattle.refresh.specs.declared.editing.copy.Copied.the-variants as copied
 
 module _ (ramp : Ramp) (e : Edit) (asked : Float) (held : Change Held) (copy : Change Output) where
-  -- the refresh may be made, and the copy's first n stops are the changed ramp
+  -- the refresh may be made, and the copy's first n stops, which are there, are the changed ramp
   pub record Prepared (n : ℕ) : Type 0 where
     pub fine : refreshCheck ramp e asked (held .entry) ≡ checked.Fine
     pub few : n ≤ mostStops
+    pub placed : n ≤ length (copy .exit .positions)
+    pub coloured : 4 * n ≤ length (copy .exit .channels)
     pub same : rampOf (ramp .kind) (take n (copy .exit .positions)) (take (4 * n) (copy .exit .channels)) (ramp .codes) ≡ edited ramp e
 
   pub record Prepares (r : Copied) : Type 0 where

@@ -1,72 +1,16 @@
--- `decimal::long::by_parts` meets its contract: its sign, its digits, and what follows them. Assumes nothing.
-use mathlib.Core.Path.{_≡_, refl, sym, ap, _∙_}
-use mathlib.Core.List.{List, [], _++_}
-use Prim.Native.Nat.{ℕ, _+_, _-_, _≤_, _<_}
+-- `decimal::long::by_parts` meets its contract: its digits, and what follows them. Assumes nothing.
+use mathlib.Core.Path.{_∙_}
+use Prim.Native.Nat.{_≤_, _<_}
 use native.Mathlib.Omega.{arith}
-use lib.ListN.{length, drop, length-append}
-use borrow.Author.Tests.{not-true, not-false}
-use Rattle.decimal.specs.Long.{firstDigits, afterDigits}
-use Rattle.decimal.proofs.Counting.{counts-nothing}
-use Rattle.decimal.proofs.LongAfter.{whole-only, point-there, with-point}
 use borrow.Author.Needs.{needs}
 use Rattle.decimal.proofs.long.by_parts.Statement.{statement}
 use Rattle.decimal.proofs.long.by_parts.Tie as tie
 
--- from `from` to `at` there are n
-passed : (from at n : ℕ) → at ≡ from + n → at - from ≡ n
-passed from at n e = omega arith
+with-power-requires : tie.Need-with-power-requires
+with-power-requires c κs = let d = c .digits-of .ensures in (d .within, (omega (arith, d .within, d .zeros), omega (arith, d .within, d .places)))
 
 returns : tie.Need-returns
-returns c =
-    let s = c .before .before .before .before .before .before .args .s .now in
-    let sign = c .before .before .before .before .sign-at in
-    let whole = c .before .before .before .count-digits in
-    let from = sign .result .end in
-    let at = whole .result .end in
-    c .with-power .ensures (firstDigits (drop from s)) (whole .ensures .counts [] counts-nothing) (passed from at _ (whole .ensures .run .many))
-    ∙ whole-only s _ from at (sign .ensures) (whole .ensures .run) (sym (c .before .before .is-point .ensures) ∙ not-true _ (c .before .if1 .taken))
-
-there : (c : tie.Else1) → c .before .before .count-digits .result .end < length (c .before .before .before .before .before .args .s .now)
-there c = point-there _ _ _ _ (c .before .before .before .sign-at .ensures) (c .before .before .count-digits .ensures .run) (sym (c .before .is-point .ensures) ∙ not-false _ (c .if1 .left))
-
-count-digits-requires-2 : tie.Need-count-digits-requires-2
-count-digits-requires-2 c κs = let h = there c in let w = c .before .before .count-digits .ensures in (omega arith, (omega (arith, w .zeros), w .small))
-
-added : {x y u v : ℕ} → x ≡ u → y ≡ v → x + y ≡ u + v
-added {x} {y} {u} {v} e f = omega arith
-
-returns-2 : tie.Need-returns-2
-returns-2 c =
-    let s = c .before .before .before .before .before .before .before .args .s .now in
-    let sign = c .before .before .before .before .before .sign-at in
-    let whole = c .before .before .before .before .count-digits in
-    let both = c .before .count-digits2 in
-    let from = sign .result .end in
-    let at = whole .result .end in
-    let end = both .result .end in
-    let xs = firstDigits (drop from s) in
-    let ys = firstDigits (drop (at + 1) s) in
-    let k : end - (at + 1) ≡ length ys = passed (at + 1) end (length ys) (both .ensures .run .many) in
-    let n : at - from + (end - (at + 1)) ≡ length (xs ++ ys) = added (passed from at (length xs) (whole .ensures .run .many)) k ∙ sym (length-append xs ys) in
-    c .with-power2 .ensures (xs ++ ys) (both .ensures .counts xs (whole .ensures .counts [] counts-nothing)) n
-    ∙ ap (λ (x : ℕ). afterDigits (sign .result .minus) (xs ++ ys) x (drop end s)) k
-    ∙ with-point s _ from at (sign .ensures) (whole .ensures .run) (sym (c .before .before .before .is-point .ensures) ∙ not-false _ (c .before .before .if1 .left)) end (both .ensures .run)
+returns c = let d = c .before .digits-of .ensures in c .with-power .ensures (d .ds) (d .counts) (d .many) ∙ d .is
 
 pub by-parts-spec : {M : Type 1} → statement M
-by-parts-spec =
-    tie.close
-    (tie.spec
-    (λ c κs. search needs)
-    (λ c κs. search needs)
-    (λ c κs. search needs)
-    (λ c. search needs)
-    (λ c κs. search needs)
-    returns
-    (λ c. search needs)
-    count-digits-requires-2
-    (λ c. search needs)
-    (λ c. search needs)
-    (λ c. search needs)
-    (λ c. search needs)
-    (λ c κs. search needs)
-    returns-2)
+by-parts-spec = tie.close (tie.spec (λ c κs. search needs) with-power-requires returns)

@@ -16,7 +16,7 @@ use Rattle.decimal.proofs.long.with_power.Tie as tie
 returns : tie.Need-returns
 returns c = λ ds w g. c .number .ensures ds 0 w g (inl refl) ∙ sym (after-end _ ds _ _ _ (c .before .before .before .pre .0) (c .before .if1 .taken))
 
-there : (c : tie.Else1) → c .before .before .args .at < length (c .before .before .args .s .now)
+there : (c : tie.Else1) → c .before .before .args .d .end < length (c .before .before .args .s .now)
 there c = let f = c .if1 .left in omega arith
 
 returns-2 : tie.Need-returns-2
@@ -38,9 +38,9 @@ returns-5 c = λ ds w g.
     let a = c .before .before .before .before .before .before .before .before .before .before .args in
     let s = a .s .now in
     let from = c .before .before .before .before .sign-at .result .end in
-    let e = power-digits (a .d .neg) ds (a .d .places) s (a .at) h m _ _ _ (c .before .before .before .before .sign-at .ensures) (p .ensures .run) (c .before .before .if3 .left) (c .before .if4 .left) in
+    let e = power-digits (a .d .neg) ds (a .d .places) s (a .d .end) h m _ _ _ (c .before .before .before .before .sign-at .ensures) (p .ensures .run) (c .before .before .if3 .left) (c .before .if4 .left) in
     c .number2 .ensures ds (valueAfter 0 (drop from s)) w g (subst (λ (l : List ℕ). Saturates (p .result .value) (valueAfter 0 l)) e (p .ensures .is))
-    ∙ sym (after-power (a .d .neg) ds (a .d .places) s (a .at) h m _ _ _ (c .before .before .before .before .sign-at .ensures) (p .ensures .run) (c .before .before .if3 .left) (c .before .if4 .left))
+    ∙ sym (after-power (a .d .neg) ds (a .d .places) s (a .d .end) h m _ _ _ (c .before .before .before .before .sign-at .ensures) (p .ensures .run) (c .before .before .if3 .left) (c .before .if4 .left))
 
 pub with-power-spec : {M : Type 1} → statement M
 with-power-spec =

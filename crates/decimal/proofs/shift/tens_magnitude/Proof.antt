@@ -1,4 +1,4 @@
--- `decimal::shift::tens_magnitude` meets its contract: few places down it is the short division's, far up it is beyond, far down nothing, and else the long division's. Assumes nothing.
+-- `decimal::shift::tens_magnitude` meets its contract: far up it is beyond, far down nothing, and else what the divisions give. Assumes nothing.
 use mathlib.Core.Path.{_≡_, sym, ap, _∙_, subst}
 use mathlib.Core.Logic.{_⊎_, inl, inr}
 use mathlib.Core.Bool.{Bool, cond}
@@ -42,18 +42,18 @@ plain : (d up down r : ℕ) → up ≡ 0 → BitsOf d (10 ^ down) r → BitsOf (
 plain d up down r e b = subst (λ (x : ℕ). BitsOf x (10 ^ down) r) (sym (mul-one d) ∙ ap (λ (x : ℕ). d * 10 ^ x) (sym e)) b
 
 returns : tie.Need-returns
-returns c = plain _ _ _ _ (c .before .before .before .if1 .taken) (c .magnitude .ensures)
+returns c = zero-bits _ _ _ (c .if1 .taken)
 
 returns-2 : tie.Need-returns-2
-returns-2 c = zero-bits _ _ _ (c .if3 .taken)
+returns-2 c = up-bits _ _ _ (omega arith) (c .if2 .taken) (c .before .before .pre)
 
 returns-3 : tie.Need-returns-3
-returns-3 c = up-bits _ _ _ (omega arith) (c .if4 .taken) (c .before .before .before .pre)
+returns-3 c = down-bits _ _ _ (omega arith) (c .if3 .taken) (c .before .before .before .pre)
 
 returns-4 : tie.Need-returns-4
-returns-4 c = down-bits _ _ _ (omega arith) (c .if5 .taken) (c .before .before .before .before .pre)
+returns-4 c = plain _ _ _ _ (c .before .if4 .taken) (c .down-magnitude .ensures)
 
 pub tens-magnitude-spec : {M : Type 1} → statement M
 tens-magnitude-spec =
     tie.close
-    (tie.spec (λ c κs. search needs) (λ c κs. search needs) returns returns-2 returns-3 returns-4 (λ c κs. search needs) (λ c. search needs))
+    (tie.spec returns returns-2 returns-3 (λ c κs. search needs) returns-4 (λ c κs. search needs) (λ c. search needs))

@@ -1,8 +1,8 @@
--- `decimal::rounded` meets its contract: the test says which of m and m + 1 is the nearest. Assumes nothing.
+-- `decimal::quotient::rounded` meets its contract: the test says which of m and m + 1 is the nearest. Assumes nothing.
 use Rattle.float.proofs.Nearest.{stays, moves}
 use borrow.Author.Needs.{needs}
-use Rattle.decimal.proofs.rounded.Statement.{statement}
-use Rattle.decimal.proofs.rounded.Tie as tie
+use Rattle.decimal.proofs.quotient.rounded.Statement.{statement}
+use Rattle.decimal.proofs.quotient.rounded.Tie as tie
 
 mul-if1 : tie.Need-mul-if1
 mul-if1 c = search needs

@@ -1,4 +1,4 @@
--- `decimal::magnitude` meets its contract: the division's parts are the bits' fields. Assumes nothing.
+-- `decimal::quotient::magnitude` meets its contract: the division's parts are the bits' fields. Assumes nothing.
 use mathlib.Core.Path.{_≡_, sym, ap, _∙_}
 use mathlib.Core.Bool.{cond}
 use Prim.Native.Nat.{ℕ, _+_, _-_, _*_, _%_, _^_, _≤_, compare}
@@ -12,8 +12,8 @@ use Rattle.float.proofs.Fraction.{bits-are, bits-zero}
 use Rattle.float.proofs.Counted.{Shifted, shifted}
 use Rattle.decimal.proofs.Scale.{five-le, ten-le, unit-is}
 use borrow.Author.Needs.{needs}
-use Rattle.decimal.proofs.magnitude.Statement.{statement}
-use Rattle.decimal.proofs.magnitude.Tie as tie
+use Rattle.decimal.proofs.quotient.magnitude.Statement.{statement}
+use Rattle.decimal.proofs.quotient.magnitude.Tie as tie
 
 returns : tie.Need-returns
 returns c =

@@ -1,12 +1,12 @@
--- `decimal::divided` meets its contract. The loop's invariant: num * 2 ^ down is m times den and the rest. Assumes nothing.
+-- `decimal::quotient::divided` meets its contract. The loop's invariant: num * 2 ^ down is m times den and the rest. Assumes nothing.
 use mathlib.Core.Path.{_≡_, sym, _∙_}
 use mathlib.Core.Logic.{⊎-elim}
 use Prim.Native.Nat.{_+_, _-_, _*_, _^_, _≤_, _<_}
 use native.Mathlib.Nat.{mul-one, div-add-mod', mod-lt, div-lt-iff-lt-mul}
 use native.Mathlib.Omega.{arith}
 use Rattle.decimal.proofs.Division.{flat, over, down-few}
-use Rattle.decimal.proofs.divided.Statement.{statement}
-use Rattle.decimal.proofs.divided.Tie as tie
+use Rattle.decimal.proofs.quotient.divided.Statement.{statement}
+use Rattle.decimal.proofs.quotient.divided.Tie as tie
 
 abbrev Inv-loop : tie.InvT-loop
 Inv-loop num den m₀ rest₀ down₀ m rest down = (num * 2 ^ down ≡ m * den + rest) × ((rest < den) × ((m < 16777216) × (down ≤ 24)))

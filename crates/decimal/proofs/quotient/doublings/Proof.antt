@@ -1,7 +1,7 @@
--- `decimal::doublings` meets its contract: a number with z leading zeros has 64 - z digits. Assumes nothing.
+-- `decimal::quotient::doublings` meets its contract: a number with z leading zeros has 64 - z digits. Assumes nothing.
 use Rattle.decimal.proofs.Scale.{reaches, has-reached}
-use Rattle.decimal.proofs.doublings.Statement.{statement}
-use Rattle.decimal.proofs.doublings.Tie as tie
+use Rattle.decimal.proofs.quotient.doublings.Statement.{statement}
+use Rattle.decimal.proofs.quotient.doublings.Tie as tie
 
 returns : tie.Need-returns
 returns c = has-reached _ (c .before .pre .0) (c .before .pre .1) (c .if1 .taken)
