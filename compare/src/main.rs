@@ -18,6 +18,7 @@ use edited::sheets;
 use edited::typing;
 use gimp::counts;
 use gimp::files;
+use gimp::numerals;
 use gimp::saved;
 use gimp::texts;
 use gimp::torn;
@@ -96,7 +97,7 @@ const COMPARISONS: [Comparison; 27] = [
     ("many", many::run, 4_000),
     ("promise", promised::run, 1_000_000),
     ("steps", steps::run, 20_000),
-    ("numerals", written::numbers, written::ALL),
+    ("numerals", numerals::numbers, numerals::ALL),
     ("written", written::lists, 100_000),
     ("judge", judge::run, 100_000),
     ("within", lists_within::run, 100_000),

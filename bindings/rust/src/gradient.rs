@@ -5,27 +5,10 @@ use alloc::vec;
 use alloc::vec::Vec;
 
 use crate::color::flat;
-use crate::kinds::Parts;
+use crate::sealed::Sealed;
 use crate::slices;
 use crate::views::{self, GradientColors, InverseGradient};
 use crate::{Apart, Color, List, Record, Refusal, SharpGradient, Stops, Verdict};
-
-/// Only this crate has ramps: what a [`Gradient`] lends passed the library's check, so that no call on it can panic.
-pub(crate) mod sealed {
-    use super::{Box, Gradient};
-    use crate::kinds::Parts;
-
-    pub trait Sealed {
-        /// What an edit changes, of a ramp of stops that owns them.
-        fn parts_mut(&mut self) -> Option<&mut Parts> {
-            None
-        }
-
-        fn clone_boxed<'a>(&self) -> Box<dyn Gradient + 'a>
-        where
-            Self: 'a;
-    }
-}
 
 /// What every ramp can be asked.
 ///
@@ -57,7 +40,7 @@ pub(crate) mod sealed {
 ///     }
 /// }
 /// ```
-pub trait Gradient: sealed::Sealed {
+pub trait Gradient: Sealed {
     /// The ramp as slices, for the calls of [`slices`](crate::slices).
     fn as_slices(&self) -> slices::Ramp<'_>;
 
@@ -109,17 +92,7 @@ pub trait Gradient: sealed::Sealed {
     }
 
     /// So many colours, evenly spaced over the domain, its ends among them; the first alone where one is asked for. They are
-    /// worked out as they are taken, from either end.
-    ///
-    /// ```
-    /// use guineaplume::{Color, Gradient, LinearGradient, Refusal};
-    ///
-    /// let ramp = LinearGradient::new(&[0.0, 1.0], &[Color::new(0., 0., 0., 1.), Color::new(1., 1., 1., 1.)])?;
-    /// let reds: Vec<f32> = ramp.colors(5).map(|color| color.r).collect();
-    /// assert_eq!(reds, [0.0, 0.25, 0.5, 0.75, 1.0]);
-    /// assert_eq!(ramp.colors(5).rev().next(), Some(ramp.at(1.0)));
-    /// # Ok::<(), Refusal>(())
-    /// ```
+    /// worked out as they are taken, from either end. An example is at [`GradientColors`].
     fn colors(&self, n: usize) -> GradientColors<'_> {
         GradientColors::new(self.as_slices(), n)
     }
@@ -157,7 +130,7 @@ pub trait Gradient: sealed::Sealed {
     }
 
     /// The ramp as a list of stops to be mixed linearly. A point is kept where its colour differs from the mix around it by
-    /// more than the threshold.
+    /// more than the threshold. An example is at [`List`].
     ///
     /// A band of colour that is narrower than half a cell, a 72nd of the domain, can lie between the points that are looked
     /// at: the list does not show it, whatever the threshold. [`flatten_within`](Gradient::flatten_within) makes one that does.
@@ -167,16 +140,6 @@ pub trait Gradient: sealed::Sealed {
     /// with channels below 2^127 in size, or a smoothstep or sharp one with channels up to a sixth of `f32::MAX`.
     /// [`Ordinary`](crate::Ordinary) has this call without a `Result`. 1 of a [`List`] with more than 2,048 stops, here and
     /// below.
-    ///
-    /// ```
-    /// use guineaplume::{Color, Gradient, LinearGradient, Refusal, DEFAULT_THRESHOLD};
-    ///
-    /// let colors = [Color::new(0.0, 0.0, 0.0, 1.0), Color::new(1.0, 1.0, 1.0, 1.0)];
-    /// let list = LinearGradient::new(&[0.0, 1.0], &colors)?.linearize(DEFAULT_THRESHOLD)?;
-    /// assert_eq!(list.positions(), [0.0, 1.0]);
-    /// assert_eq!(list.evaluations(), 215);
-    /// # Ok::<(), Refusal>(())
-    /// ```
     fn linearize(&self, threshold: f32) -> Result<List, Refusal> {
         self.flatten(threshold).map(|(_, list)| list)
     }
@@ -186,10 +149,7 @@ pub trait Gradient: sealed::Sealed {
     /// # Errors
     /// As [`linearize`](Gradient::linearize).
     fn flatten(&self, threshold: f32) -> Result<(Record, List), Refusal> {
-        let mut record = Record::empty();
-        let list = List::made(|out| self.as_slices().flatten(threshold, record.as_slices_mut(), out))?;
-        record.evaluations = list.evaluations();
-        Ok((record, list))
+        Record::made(|record, out| self.as_slices().flatten(threshold, record, out))
     }
 
     /// The sample record alone.
@@ -213,18 +173,7 @@ pub trait Gradient: sealed::Sealed {
     }
 
     /// The same stops one at a time, with room for none of them: a list's stops, or those before a faulty one and its refusal.
-    ///
-    /// ```
-    /// use guineaplume::{Color, Gradient, Refusal, SmoothstepGradient};
-    ///
-    /// let colors = [Color::new(0.0, 0.0, 0.0, 1.0), Color::new(1.0, 1.0, 1.0, 1.0)];
-    /// let ramp = SmoothstepGradient::new(&[0.0, 1.0], &colors)?;
-    /// let record = ramp.sample(0.007)?;
-    /// let list = ramp.thin(&record)?;
-    /// let stops: Vec<_> = ramp.stops_of(&record).collect::<Result<_, _>>()?;
-    /// assert!(list.stops().eq(stops));
-    /// # Ok::<(), Refusal>(())
-    /// ```
+    /// An example is at [`Stops`].
     fn stops_of<'a>(&'a self, record: &'a Record) -> Stops<'a> {
         Stops::new(self.as_slices(), record.threshold(), record.as_slices())
     }
@@ -252,10 +201,7 @@ pub trait Gradient: sealed::Sealed {
     /// # Ok::<(), Refusal>(())
     /// ```
     fn flatten_within(&self, threshold: f32, hold: f32) -> Result<(Record, List), Refusal> {
-        let mut record = Record::empty();
-        let list = List::made(|out| self.as_slices().flatten_within(threshold, hold, record.as_slices_mut(), out))?;
-        record.evaluations = list.evaluations();
-        Ok((record, list))
+        Record::made(|record, out| self.as_slices().flatten_within(threshold, hold, record, out))
     }
 
     /// The list of a record that keeps its word, at the record's threshold. At the ramp's own positions it is within the hold
@@ -296,71 +242,3 @@ pub trait Gradient: sealed::Sealed {
         Ok(Apart::told(told, depths, &faults))
     }
 }
-
-impl<G: Gradient + ?Sized> sealed::Sealed for &G {
-    fn clone_boxed<'a>(&self) -> Box<dyn Gradient + 'a>
-    where
-        Self: 'a,
-    {
-        Box::new(*self)
-    }
-}
-
-impl<G: Gradient + ?Sized> Gradient for &G {
-    fn as_slices(&self) -> slices::Ramp<'_> {
-        (**self).as_slices()
-    }
-}
-
-impl<G: Gradient + ?Sized> sealed::Sealed for Box<G> {
-    fn parts_mut(&mut self) -> Option<&mut Parts> {
-        (**self).parts_mut()
-    }
-
-    fn clone_boxed<'a>(&self) -> Box<dyn Gradient + 'a>
-    where
-        Self: 'a,
-    {
-        (**self).clone_boxed()
-    }
-}
-
-impl<G: Gradient + ?Sized> Gradient for Box<G> {
-    fn as_slices(&self) -> slices::Ramp<'_> {
-        (**self).as_slices()
-    }
-}
-
-impl Clone for Box<dyn Gradient + '_> {
-    fn clone(&self) -> Self {
-        (**self).clone_boxed()
-    }
-}
-
-/// Makes a type that lends slices which passed the check a [`Gradient`]; of stops, it says where these are.
-macro_rules! is_gradient {
-    ($name:ty, $ramp:ident => $slices:expr $(, edited in $parts:tt)?) => {
-        impl $crate::gradient::sealed::Sealed for $name {
-            $(
-                fn parts_mut(&mut self) -> Option<&mut Parts> {
-                    Some(&mut self.$parts)
-                }
-            )?
-
-            fn clone_boxed<'a>(&self) -> alloc::boxed::Box<dyn $crate::Gradient + 'a>
-            where
-                Self: 'a,
-            {
-                alloc::boxed::Box::new(self.clone())
-            }
-        }
-
-        impl $crate::Gradient for $name {
-            fn as_slices(&self) -> $crate::slices::Ramp<'_> {
-                let $ramp = self;
-                $slices
-            }
-        }
-    };
-}
-pub(crate) use is_gradient;

@@ -5,7 +5,7 @@ use alloc::vec;
 use alloc::vec::Vec;
 
 use crate::color::{flat, unflat};
-use crate::gradient::is_gradient;
+use crate::sealed::is_gradient;
 use crate::slices::{self, Kind, MOST_SEGMENTS};
 use crate::{Color, ParseGgrError, Refusal};
 

@@ -92,6 +92,8 @@ mod record;
 mod refresh;
 mod refusal;
 #[cfg(feature = "alloc")]
+mod sealed;
+#[cfg(feature = "alloc")]
 mod sheet;
 mod sheets;
 pub mod slices;

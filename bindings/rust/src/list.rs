@@ -6,11 +6,21 @@ use alloc::vec::Vec;
 use core::fmt;
 
 use crate::color::{flat, flat_mut};
-use crate::gradient::is_gradient;
+use crate::sealed::is_gradient;
 use crate::slices::{self, Kind, MOST_POINTS, MOST_WRITTEN};
 use crate::{Apart, Color, Gradient, LinearGradient, Refusal};
 
 /// Stops that stand for a ramp when they are mixed linearly: a ramp itself, whose colours can be asked.
+///
+/// ```
+/// use guineaplume::{Color, Gradient, LinearGradient, Refusal, DEFAULT_THRESHOLD};
+///
+/// let colors = [Color::new(0.0, 0.0, 0.0, 1.0), Color::new(1.0, 1.0, 1.0, 1.0)];
+/// let list = LinearGradient::new(&[0.0, 1.0], &colors)?.linearize(DEFAULT_THRESHOLD)?;
+/// assert_eq!(list.positions(), [0.0, 1.0]);
+/// assert_eq!(list.evaluations(), 215);
+/// # Ok::<(), Refusal>(())
+/// ```
 pub struct List {
     /// As many as there are stops, and room past them where a sheet holds the list.
     positions: Vec<f32>,

@@ -4,7 +4,7 @@ use alloc::vec;
 use alloc::vec::Vec;
 
 use crate::slices::{self, CELLS, MARKS, ROWS};
-use crate::Refusal;
+use crate::{List, Refusal};
 
 /// How finely each of 36 cells of a ramp's domain has to be cut, at one threshold.
 ///
@@ -39,6 +39,16 @@ impl Record {
     /// A record to be filled.
     pub(crate) fn empty() -> Record {
         Record { rows: vec![0.0; ROWS], counts: vec![1; CELLS], marks: vec![0; MARKS], evaluations: 0 }
+    }
+
+    /// The record that a call fills, and the list that it makes of it.
+    pub(crate) fn made(
+        call: impl FnOnce(slices::RecordMut<'_>, slices::StopsMut<'_>) -> Result<slices::Listed, Refusal>,
+    ) -> Result<(Record, List), Refusal> {
+        let mut record = Record::empty();
+        let list = List::made(|out| call(record.as_slices_mut(), out))?;
+        record.evaluations = list.evaluations();
+        Ok((record, list))
     }
 
     /// 128 numbers for each cell, of which its count says how many are used.

@@ -120,7 +120,7 @@ const MOST_WORDS: usize = 256;
 pub(crate) fn with_words<T>(write: impl Fn(&mut [u8]) -> usize, hand: impl FnOnce(&str) -> T) -> T {
     let mut room = [0; MOST_WORDS];
     let length = write(&mut room);
-    // the words are ASCII, and shorter than the room (`tests/refusals.rs`)
+    // the words are ASCII, and shorter than the room (`tests/refusals/main.rs`)
     hand(room.get(..length).and_then(|words| core::str::from_utf8(words).ok()).unwrap_or_default())
 }
 

@@ -74,6 +74,18 @@ impl Ramp<'_> {
 /// The stops of a list, one after the other; after a refusal, or the last, there is nothing more.
 ///
 /// It borrows the ramp and the record, so that neither changes between two steps.
+///
+/// ```
+/// use guineaplume::{Color, Gradient, Refusal, SmoothstepGradient};
+///
+/// let colors = [Color::new(0.0, 0.0, 0.0, 1.0), Color::new(1.0, 1.0, 1.0, 1.0)];
+/// let ramp = SmoothstepGradient::new(&[0.0, 1.0], &colors)?;
+/// let record = ramp.sample(0.007)?;
+/// let list = ramp.thin(&record)?;
+/// let stops: Vec<_> = ramp.stops_of(&record).collect::<Result<_, _>>()?;
+/// assert!(list.stops().eq(stops));
+/// # Ok::<(), Refusal>(())
+/// ```
 #[derive(Clone, Debug)]
 pub struct Stops<'a> {
     ramp: Ramp<'a>,

@@ -91,6 +91,16 @@ pub(crate) fn sharp(colors: GradientColors<'_>, domain: (f32, f32), softness: f3
 }
 
 /// So many colours of a ramp, evenly spaced over its domain ([`Gradient::colors`](crate::Gradient::colors)).
+///
+/// ```
+/// use guineaplume::{Color, Gradient, LinearGradient, Refusal};
+///
+/// let ramp = LinearGradient::new(&[0.0, 1.0], &[Color::new(0., 0., 0., 1.), Color::new(1., 1., 1., 1.)])?;
+/// let reds: Vec<f32> = ramp.colors(5).map(|color| color.r).collect();
+/// assert_eq!(reds, [0.0, 0.25, 0.5, 0.75, 1.0]);
+/// assert_eq!(ramp.colors(5).rev().next(), Some(ramp.at(1.0)));
+/// # Ok::<(), Refusal>(())
+/// ```
 #[derive(Clone, Debug)]
 #[must_use = "colours are worked out as they are taken"]
 pub struct GradientColors<'a> {

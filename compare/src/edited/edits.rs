@@ -5,8 +5,9 @@ use crate::edited::refresh::{due, is_kept, outside, reach, redone_by, stale, Red
 use crate::harness::options::Options;
 use crate::harness::oracle::{self, Record, CELLS};
 use crate::harness::ours::{self, Sorted};
-use crate::harness::ramps::{random_or_spoilt, Kind, Ramp, KINDS, MOST_STOPS};
+use crate::harness::ramps::{Kind, Ramp, KINDS, MOST_STOPS};
 use crate::harness::random::Random;
+use crate::harness::random_ramps::random_or_spoilt;
 use crate::harness::report::Tally;
 use crate::listed::lists::{early, random_record, random_threshold};
 

@@ -4,8 +4,9 @@
 use crate::harness::options::Options;
 use crate::harness::oracle::{self, Record, CELLS, MARKS, ROW};
 use crate::harness::ours::{self, Edit};
-use crate::harness::ramps::{random_or_spoilt, Kind, Ramp, KINDS};
+use crate::harness::ramps::{Kind, Ramp, KINDS};
 use crate::harness::random::Random;
+use crate::harness::random_ramps::random_or_spoilt;
 use crate::harness::report::Tally;
 use crate::listed::lists::{agrees, early, emitted, is_record, random_record, random_threshold, MOST_POINTS, RUBBISH};
 

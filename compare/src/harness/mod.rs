@@ -10,6 +10,7 @@ pub mod oracle;
 pub mod ours;
 pub mod ramps;
 pub mod random;
+pub mod random_ramps;
 pub mod refused;
 pub mod report;
 pub mod smallest;

@@ -4,8 +4,9 @@
 use crate::harness::options::Options;
 use crate::harness::oracle::{self, Record, CELLS};
 use crate::harness::ours;
-use crate::harness::ramps::{random_channels, random_positions, Ramp};
+use crate::harness::ramps::Ramp;
 use crate::harness::random::Random;
+use crate::harness::random_ramps::{random_channels, random_positions};
 use crate::harness::report::Tally;
 use crate::judged::lists_within::{any_ramp, colours};
 use crate::listed::lists::{early, random_threshold, MOST_POINTS};

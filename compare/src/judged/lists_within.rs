@@ -4,8 +4,9 @@
 use crate::harness::options::Options;
 use crate::harness::oracle::{self, Boxed, Record, CELLS, MARKS, ROW};
 use crate::harness::ours;
-use crate::harness::ramps::{random_or_spoilt, Ramp, KINDS};
+use crate::harness::ramps::{Ramp, KINDS};
 use crate::harness::random::Random;
+use crate::harness::random_ramps::random_or_spoilt;
 use crate::harness::report::{all_same, Tally};
 use crate::judged::within::{self, Asked, Within};
 use crate::listed::lists::{early, is_record, random_record, random_room, random_threshold, RUBBISH};

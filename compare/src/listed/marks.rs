@@ -4,8 +4,9 @@ use crate::edited::refresh::{changed, random_edit, refusal};
 use crate::harness::options::Options;
 use crate::harness::oracle::{self, Record, CELLS, MARKS};
 use crate::harness::ours::{self, Edit};
-use crate::harness::ramps::{random_or_spoilt, Kind, Ramp, KINDS};
+use crate::harness::ramps::{Kind, Ramp, KINDS};
 use crate::harness::random::Random;
+use crate::harness::random_ramps::random_or_spoilt;
 use crate::harness::report::Tally;
 use crate::listed::lists::{early, MOST_POINTS, RUBBISH};
 

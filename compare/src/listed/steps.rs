@@ -4,8 +4,9 @@
 use crate::harness::options::Options;
 use crate::harness::oracle::{self, List, Record, CELLS, MARKS, ROW};
 use crate::harness::ours::{self, Handed, PlainPlace, Told};
-use crate::harness::ramps::{random_or_spoilt, Kind, Ramp, KINDS};
+use crate::harness::ramps::{Kind, Ramp, KINDS};
 use crate::harness::random::Random;
+use crate::harness::random_ramps::random_or_spoilt;
 use crate::harness::report::{all_same, Tally};
 use crate::listed::lists::{early, emitted, random_record, random_threshold, MOST_POINTS, RUBBISH};
 

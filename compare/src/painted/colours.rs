@@ -4,8 +4,9 @@ use crate::harness::limits;
 use crate::harness::options::Options;
 use crate::harness::oracle;
 use crate::harness::ours;
-use crate::harness::ramps::{random_or_spoilt, random_points, Kind, Ramp, KINDS};
+use crate::harness::ramps::{Kind, Ramp, KINDS};
 use crate::harness::random::Random;
+use crate::harness::random_ramps::{random_or_spoilt, random_points};
 use crate::harness::refused;
 use crate::harness::report::{all_same, Tally};
 

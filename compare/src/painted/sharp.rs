@@ -3,8 +3,9 @@
 use crate::harness::options::Options;
 use crate::harness::oracle;
 use crate::harness::ours;
-use crate::harness::ramps::{random_points, Kind, Ramp};
+use crate::harness::ramps::{Kind, Ramp};
 use crate::harness::random::Random;
+use crate::harness::random_ramps::random_points;
 use crate::harness::report::{all_same, same, Tally};
 use std::panic::catch_unwind;
 

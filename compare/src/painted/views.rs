@@ -3,8 +3,9 @@
 
 use crate::harness::options::Options;
 use crate::harness::oracle::{self, Boxed};
-use crate::harness::ramps::{random_points, random_ramp, Kind, Ramp, KINDS};
+use crate::harness::ramps::{Kind, Ramp, KINDS};
 use crate::harness::random::Random;
+use crate::harness::random_ramps::{random_points, random_ramp};
 use crate::harness::report::{all_same, Tally};
 use crate::painted::sharp::{expected, Input};
 use guineaplume::{

@@ -10,7 +10,8 @@ use crate::harness::ramps::{Kind, Ramp, KINDS};
 use crate::harness::random::Random;
 use crate::judged::lists_within::random_hold;
 use crate::listed::lists::{early, random_threshold, MOST_POINTS, RUBBISH};
-use crate::stored::sample::{is_wanted, items, short, Words};
+use crate::stored::drawn::{is_wanted, short};
+use crate::stored::words::Words;
 use std::collections::BTreeMap;
 
 const SHEETS: u64 = 60;
@@ -170,7 +171,7 @@ fn turned(sheet: &mut Sheet, stops: usize, threshold: f32, edit: &Sorted) -> Tol
 /// A ramp taken into a sheet, with its record and its list. What lies past the ramp and past the list stays.
 fn made(sheet: &mut Sheet, ramp: &Ramp, spent: usize) -> Told {
     let due = due(sheet, ramp);
-    let stops = items(ramp);
+    let stops = ramp.items();
     sheet.stops = stops;
     sheet.ramp.positions[..ramp.positions.len()].copy_from_slice(&ramp.positions);
     sheet.ramp.channels[..ramp.channels.len()].copy_from_slice(&ramp.channels);

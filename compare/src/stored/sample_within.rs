@@ -8,7 +8,8 @@ use crate::harness::random::Random;
 use crate::judged::lists_within::{any_record, colours, list_of, random_hold, refused};
 use crate::judged::within::{Asked, Within};
 use crate::listed::lists::{early, random_threshold, RUBBISH};
-use crate::stored::sample::{few_points, is_wanted, short, Room, Words, LONG_LIST};
+use crate::stored::drawn::{few_points, is_wanted, short, LONG_LIST};
+use crate::stored::words::{Room, Words};
 
 /// Lists of each kind over a fresh record, and lists of other records.
 const FRESH: u64 = 8;

@@ -3,3 +3,4 @@
 pub mod bench;
 pub mod count;
 pub mod ordinary;
+pub mod tables;

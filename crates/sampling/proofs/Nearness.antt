@@ -51,6 +51,14 @@ module _ (kind : Kind) (ps cs : List Float) (t : Float) where
   placed-is Nowhere = (refl, refl)
   placed-is (Between k) = (refl, refl)
 
+pub near-t : (ramp : Ramp) (t : Float) (k : ℕ) → pointNear ramp t k .t ≡ t
+unfolding pointNear
+near-t ramp t k = go (isGimp (ramp .kind))
+  where
+    go : (g : Bool) → cond g (pointOf (gimpColour (ramp .positions) (ramp .channels) (ramp .codes) t) t 0) (placedPoint (ramp .kind) (ramp .positions) (ramp .channels) t (placeNear (ramp .positions) t k)) .t ≡ t
+    go true = refl
+    go false = placed-is (ramp .kind) (ramp .positions) (ramp .channels) t (placeNear (ramp .positions) t k) .0
+
 module _ (ramp : Ramp) (fine : checkOf ramp ≡ Fine) where
   near-is : (t : Float) (k : ℕ) → PointAt (colourOf ramp) t (pointNear ramp t k)
   unfolding pointNear colourOf

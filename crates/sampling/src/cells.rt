@@ -6,11 +6,8 @@ use crate::Task;
 use crate::drawn::curve_of;
 use crate::drawn::follow;
 use crate::halving::row_into;
+use crate::pairs::pair_at;
 use blend::Rgba;
-use blend::basis;
-use blend::linear;
-use blend::sharp;
-use blend::smoothstep;
 use gradient::gimp;
 use stops::Kind;
 use stops::Place;
@@ -25,34 +22,8 @@ ghost use Rattle.sampling.specs.Segments.{placedPoint, pointNear, Draws,
 ghost use Rattle.sampling.specs.inner.Steps.{Carrying, Reaches, taskRamp, taskColours, taskEnd, taskFar, PointDrawn, CellCarried};
 ghost use Rattle.sampling.specs.Lent.{lentBody};
 ghost use Rattle.stops.specs.Lent.{lentRamp, old, new};
-ghost use Rattle.stops.specs.Pair.{between};
 ghost use Rattle.stops.specs.declared.Checked.the-variants.{Fine};
 ghost use Rattle.gradient.specs.Ramp.{checkOf};
-
-// The colour between stop k - 1 and stop k. It is mixed here: behind the call that any place takes, the stops would go through
-// memory at each point.
-fn pair_at(kind: Kind, positions: &[f32], channels: &[f32], k: usize, t: f32) -> Rgba
-    ensures { λ r. ⌜ r ≡ between kind (old positions) (old channels) k t ⌝ }
-{
-    let lower = stops::less(k);
-    let p = stops::stop(positions, channels, lower);
-    let q = stops::stop(positions, channels, k);
-    match kind {
-        Kind::Linear => linear::pair_colour(p, q, t),
-        Kind::Smoothstep => smoothstep::pair_colour(p, q, t),
-        Kind::Sharp => sharp::pair_colour(lower, p, q, t),
-        Kind::Basis => basis::pair_colour(
-            stops::left_of(channels, k, p.colour, q.colour),
-            p,
-            q,
-            stops::right_of(channels, positions.len(), k, p.colour, q.colour),
-            t,
-        ),
-        Kind::CatmullRom => stops::colour_in(kind, positions, channels, t, Place::Between(k)),
-        Kind::Gimp => stops::colour_in(kind, positions, channels, t, Place::Between(k)),
-        Kind::GimpSaved => stops::colour_in(kind, positions, channels, t, Place::Between(k)),
-    }
-}
 
 // The point at t, whose place among the stops is known.
 pub fn placed(kind: Kind, positions: &[f32], channels: &[f32], t: f32, place: Place) -> Point
@@ -98,7 +69,21 @@ pub fn evaluate(
         return Point { colour, t, pair: 0 };
     }
     let place = near::find_place(positions, t, guess);
-    placed(kind, positions, channels, t, place)
+    told_at(placed(kind, positions, channels, t, place), t)
+}
+
+// A point, its t told anew. Handed on as it came, t is read with the four bytes beside it as eight, which waits for the store of
+// four that was just made: a tenth of a thinning.
+fn told_at(p: Point, t: f32) -> Point
+    requires { ⌜ p .t ≡ t ⌝ }
+    ensures { λ r. ⌜ r ≡ p ⌝ }
+{
+    let colour = p.colour;
+    Point {
+        colour,
+        t,
+        pair: p.pair,
+    }
 }
 
 // The point of a Catmull-Rom ramp at t, whose place is known. The pair `guess` is in hand, drawn, and becomes that of the place.
@@ -132,10 +117,10 @@ pub fn evaluate_along(
     ensures { λ r. ⌜ GoesAlong (lentRamp kind positions channels codes) t guess (old drawn) (new drawn) r ⌝ }
 {
     if !segments::is_catmull_rom(kind) {
-        return evaluate(kind, positions, channels, codes, t, guess);
+        return told_at(evaluate(kind, positions, channels, codes, t, guess), t);
     }
     let place = near::find_place(positions, t, guess);
-    drawn_at(positions, channels, t, place, guess, drawn)
+    told_at(drawn_at(positions, channels, t, place, guess, drawn), t)
 }
 
 // The end between cell i - 1 and cell i; past the last cell it is max.

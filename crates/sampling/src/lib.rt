@@ -17,6 +17,7 @@ pub mod cells;
 mod drawn;
 mod halving;
 mod marks;
+mod pairs;
 mod resampling;
 
 // The shape of a record, the depth of the halving, the thresholds, and how far a domain may reach.

@@ -16,12 +16,13 @@ pub(crate) struct Taken {
     pub(crate) above: usize,
 }
 
-// The next of them, if there is one, and how many are taken with it.
+// The next of them, if there is one, and how many are taken with it. The widest comes first: so no copy of it begins beside a
+// store, which it would wait for.
 pub(crate) struct Next {
-    pub(crate) some: bool,
+    pub(crate) with: Taken,
     pub(crate) t: f32,
     pub(crate) mark: u8,
-    pub(crate) with: Taken,
+    pub(crate) some: bool,
 }
 
 fn next_below(positions: &[f32], at: Taken) -> Next

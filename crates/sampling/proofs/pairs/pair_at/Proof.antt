@@ -5,8 +5,8 @@ use Rattle.stops.specs.Pair.{pairOf, colourIn}
 use Rattle.stops.specs.declared.Kind.the-variants.{Linear, Smoothstep}
 use Rattle.stops.proofs.Pairs.{by-kind, by-sharp, by-basis, by-pair}
 use borrow.Author.Needs.{needs}
-use Rattle.sampling.proofs.cells.pair_at.Statement.{statement}
-use Rattle.sampling.proofs.cells.pair_at.Tie as tie
+use Rattle.sampling.proofs.pairs.pair_at.Statement.{statement}
+use Rattle.sampling.proofs.pairs.pair_at.Tie as tie
 
 enum-told : tie.Need-enum-told
 enum-told c = search needs
@@ -43,15 +43,15 @@ returns-4 c =
 
 returns-5 : tie.Need-returns-5
 unfolding colourIn
-returns-5 c = c .colour-in .ensures
+returns-5 c = c .any-pair .ensures
 
 returns-6 : tie.Need-returns-6
 unfolding colourIn
-returns-6 c = c .colour-in2 .ensures
+returns-6 c = c .any-pair2 .ensures
 
 returns-7 : tie.Need-returns-7
 unfolding colourIn
-returns-7 c = c .colour-in3 .ensures
+returns-7 c = c .any-pair3 .ensures
 
 pub pair-at-spec : {M : Type 1} → statement M
 pair-at-spec =
