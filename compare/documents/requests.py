@@ -5,6 +5,8 @@ its own for the program `replay`, and with `--lines` the lines that the program 
 import random
 import sys
 
+sys.dont_write_bytecode = True
+
 from document import bits_of
 from requests_lists import KINDS, steps, verdicts, written
 from requests_segments import waves

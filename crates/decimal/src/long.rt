@@ -13,21 +13,23 @@ ghost use Rattle.decimal.specs.inner.Counted.{isPoint, SignAt, DecimalOf
 // A power of ten from here on is beyond every number of digits that a slice can have.
 const HUGE: u64 = 10000000000000000000;
 
-// The most bytes of a short token: a sign, 18 digits and a point.
-const LONGEST_SHORT: usize = 20;
+// The most bytes of a short token without a sign: 18 digits and a point. With one it may have 20, and is read by parts.
+const LONGEST_SHORT: usize = 19;
 
 // A token: an optional sign, digits with at most one point, and perhaps an exponent. Most are short, and are read as such.
 pub fn read_long(s: &[u8]) -> Token
     ensures { λ r. ⌜ r ≡ readLongOf (now (s .entry)) ⌝ }
 {
-    // A slice that is passed on as it came is copied at once, and waits for both of its words; this one is made word by word.
+    // The slice is made anew, and the answer told anew: a copy of either would wait for its stores.
     let all = &s[0..];
-    if LONGEST_SHORT < all.len() {
-        return by_parts(all);
+    if all.len() <= LONGEST_SHORT {
+        if let Token::Number(x) = read(all) {
+            return Token::Number(x);
+        }
     }
-    match read(all) {
+    match by_parts(all) {
         Token::Number(x) => Token::Number(x),
-        Token::NoNumber => by_parts(all),
+        Token::NoNumber => Token::NoNumber,
     }
 }
 

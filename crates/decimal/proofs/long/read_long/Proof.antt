@@ -8,17 +8,21 @@ use Rattle.decimal.proofs.long.read_long.Statement.{statement}
 use Rattle.decimal.proofs.long.read_long.Tie as tie
 
 returns : tie.Need-returns
-returns c = c .by-parts .ensures ∙ ap readLongOf (part-to-end (c .before .before .before .before .args .s .now) 0)
+returns c =
+    let a = c .before .before .before in
+    sym (same-number _ _ (sym (a .read .ensures) ∙ c .before .x .given .1)) ∙ ap readLongOf (part-to-end (a .before .before .before .before .args .s .now) 0)
 
 returns-2 : tie.Need-returns-2
 returns-2 c =
     let a = c .before .before .before in
-    sym (same-number _ _ (sym (a .read .ensures) ∙ c .before .x .given .1)) ∙ ap readLongOf (part-to-end (a .before .before .before .before .args .s .now) 0)
+    sym (c .before .x2 .given .1) ∙ a .by-parts .ensures ∙ ap readLongOf (part-to-end (a .before .before .before .before .args .s .now) 0)
 
 returns-3 : tie.Need-returns-3
-returns-3 c = c .by-parts2 .ensures ∙ ap readLongOf (part-to-end (c .before .before .before .before .before .before .before .args .s .now) 0)
+returns-3 c =
+    let a = c .before .before in
+    sym (c .enum-told2 .given .1) ∙ a .by-parts .ensures ∙ ap readLongOf (part-to-end (a .before .before .before .before .args .s .now) 0)
 
 pub read-long-spec : {M : Type 1} → statement M
 read-long-spec =
     tie.close
-    (tie.spec (λ c. search needs) (λ c. search needs) (λ c. search needs) (λ c κs. search needs) returns (λ c κs. search needs) (λ c. search needs) (λ c. search needs) (λ c κs. search needs) returns-2 returns-3)
+    (tie.spec (λ c. search needs) (λ c. search needs) (λ c. search needs) (λ c κs. search needs) (λ c. search needs) returns (λ c. search needs) (λ c κs. search needs) (λ c. search needs) (λ c. search needs) returns-2 returns-3)
