@@ -1,12 +1,10 @@
 -- The refusals, test by test; and what a call that is not refused was lent. Assumes nothing.
 use mathlib.Core.Path.{◌≡◌, refl, sym, ap, ap₂, ◌∙◌}
 use mathlib.Core.Bool.{Bool, true, false, not, cond, ◌&&◌, true≢false}
-use mathlib.Core.List.{List, [], ◌∷◌}
+use mathlib.Core.List.{List}
 use Prim.Native.Nat.{ℕ, ◌-◌, ◌≤◌, ◌<◌}
 use native.Mathlib.Omega.{arith}
 use borrow.Author.Tests.{not-true, lt-ltb, le-ltb, ltb-false}
-use types.Run.{OneOf, miss}
-use denote.Enum.Declared.{tag_of}
 use lib.Dec.{ltb}
 use lib.ListN.{length}
 use lib.Ieee.{Float, lt}
@@ -25,7 +23,6 @@ use Rattle.judge.specs.Verdicts.{ramp_check, shape_verdict}
 use Rattle.judge.specs.inner.Steps.{Sound}
 use Rattle.judge.specs.declared.Verdict.{Verdict}
 use Rattle.judge.specs.declared.Verdict.TheVariants.{Yes, WrongLength, BadStop, WrongFirst, WrongLast, TooFar, Refused}
-use Rattle.judge.specs.contracts.Verdict.{the_type}
 use Rattle.judge.proofs.Failing.{from_start, all_pass}
 use Rattle.judge.proofs.Shaping.{shape_sound}
 use Rattle.apart.specs.Checks.{is_yes, good_list, good_depth, first_bad_depth, good_depths, good_step, asked_check, given_check, lent_check, apart_check}
@@ -91,14 +88,14 @@ module _ (lo hi : Float) (ds : List Float) (step : Float) where
       asked_fine n h = simp (good, n, h)
 
 -- ---- before them 22
-not_yes : (v : Verdict) → OneOf (1 ∷ 2 ∷ 3 ∷ 4 ∷ 5 ∷ 6 ∷ []) (tag_of the_type v) → is_yes v ≡ false
-not_yes Yes o = absurd (miss (1 ∷ 2 ∷ 3 ∷ 4 ∷ 5 ∷ 6 ∷ []) 0 tt o)
-not_yes WrongLength o = refl
-not_yes (BadStop stop) o = refl
-not_yes WrongFirst o = refl
-not_yes WrongLast o = refl
-not_yes (TooFar row index t) o = refl
-not_yes (Refused n) o = refl
+not_yes : (v : Verdict) → (v ≡ Yes → ⊥) → is_yes v ≡ false
+not_yes Yes never = absurd (never refl)
+not_yes WrongLength never = refl
+not_yes (BadStop stop) never = refl
+not_yes WrongFirst never = refl
+not_yes WrongLast never = refl
+not_yes (TooFar row index t) never = refl
+not_yes (Refused n) never = refl
 
 is_yes_lem : (v : Verdict) → is_yes v ≡ true → v ≡ Yes
 is_yes_lem Yes h = refl
@@ -110,9 +107,9 @@ is_yes_lem (TooFar row index t) h = absurd (true≢false (sym h))
 is_yes_lem (Refused n) h = absurd (true≢false (sym h))
 
 module _ (lo hi : Float) (offer : Offer) (ds : List Float) (step : Float) {v : Verdict} (e : v ≡ shape_verdict lo hi offer Yes) where
-  pub bad_list_lem : OneOf (1 ∷ 2 ∷ 3 ∷ 4 ∷ 5 ∷ 6 ∷ []) (tag_of the_type v) → checked.Refused bad_list ≡ given_check lo hi offer ds step
+  pub bad_list_lem : (v ≡ Yes → ⊥) → checked.Refused bad_list ≡ given_check lo hi offer ds step
   unfolding given_check
-  bad_list_lem o = simp (ap is_yes (sym e) ∙ not_yes v o)
+  bad_list_lem never = simp (ap is_yes (sym e) ∙ not_yes v never)
 
   pub list_fine : v ≡ Yes → {r : Checked} → r ≡ asked_check lo hi ds step → r ≡ given_check lo hi offer ds step
   unfolding given_check

@@ -1,6 +1,6 @@
 -- What is wrong at one depth, test by test; and the bytes and counts, depth by depth. Assumes nothing.
-use mathlib.Core.Path.{◌≡◌, refl, sym, ap, ap₂, ◌∙◌}
-use mathlib.Core.Bool.{Bool, true, false, not, ◌&&◌, true≢false}
+use mathlib.Core.Path.{◌≡◌, refl, ap, ap₂, ◌∙◌}
+use mathlib.Core.Bool.{Bool, false, not, ◌&&◌}
 use mathlib.Core.List.{List, [], ◌∷◌, ◌++◌}
 use Prim.Native.Nat.{ℕ, zero, suc, ◌+◌, ◌-◌, ◌≤◌, ◌<◌}
 use native.Mathlib.Omega.{arith}
@@ -41,14 +41,6 @@ pub seen-is : (ramp : Ramp) (offer : Offer) (t : Float) {x y : Rgba} → x ≡ a
 seen-is ramp offer t a b = rw (a, b ∙ offered_any offer t)
 
 -- ---- a fault, test by test
-pub merged_not : (told kept : Bool) → not told ≡ true → false ≡ (told && not kept)
-merged_not true kept h = absurd (true≢false (sym h))
-merged_not false kept h = refl
-
-pub merged_told : (told kept : Bool) → not told ≡ false → not kept ≡ (told && not kept)
-merged_told true kept h = refl
-merged_told false kept h = absurd (true≢false h)
-
 pub first_fault : (i : ℕ) (ramp list : Bool) {near n : Bool} → n ≡ near → i ≡ 0
     → ◌≡◌ {A = Fault} (record { moved = not n; close = false; merged = false }) (fault_by i near ramp list)
 unfolding fault_by

@@ -1,6 +1,5 @@
 // What a list, depths and a step must be, once the ramp is fine.
 ghost use Rattle.std.specs.Prelude.{◌≡◌};
-ghost use Rattle.stops.specs.Lent.{old};
 ghost use Rattle.judge.specs.Lists.{lent_offer};
 ghost use Rattle.apart.specs.Checks.{good_depth, first_bad_depth, asked_check, given_check};
 
@@ -10,7 +9,7 @@ use stops::{Checked, item, less};
 
 // Depth i is finite, within the domain, and not below the one before it; the first is compared with itself.
 fn is_good(min: f32, max: f32, depths: &[f32], i: usize) -> bool
-    ensures { result ≡ good_depth min max (old depths) i }
+    ensures { result ≡ good_depth min max depths.now i }
 {
     let d = item(depths, i);
     if !float::is_finite(d) {
@@ -30,7 +29,7 @@ fn is_good(min: f32, max: f32, depths: &[f32], i: usize) -> bool
 
 // The first depth that is not, and the number of depths where all are.
 fn first_bad(min: f32, max: f32, depths: &[f32]) -> usize
-    ensures { result ≡ first_bad_depth min max (old depths) }
+    ensures { result ≡ first_bad_depth min max depths.now }
 {
     let mut i = 0;
     while i < depths.len() {
@@ -44,7 +43,7 @@ fn first_bad(min: f32, max: f32, depths: &[f32]) -> usize
 
 // 23 of the depths, then 24 of the step.
 fn check_asked(min: f32, max: f32, depths: &[f32], step: f32) -> Checked
-    ensures { result ≡ asked_check min max (old depths) step }
+    ensures { result ≡ asked_check min max depths.now step }
 {
     let n = depths.len();
     if n == 0 {
@@ -71,7 +70,7 @@ pub(crate) fn check_given(
     depths: &[f32],
     step: f32,
 ) -> Checked
-    ensures { result ≡ given_check min max (lent_offer places colours) (old depths) step }
+    ensures { result ≡ given_check min max (lent_offer places colours) depths.now step }
 {
     let shape = judge::check_list(min, max, places, colours);
     match shape {

@@ -1,7 +1,9 @@
 // Which depths became one in a list of stops, whoever made it: for each depth whether its colour moved, whether the ramp itself
 // holds it too close to the one before, and whether the list merged the two. One byte is written for each depth.
+#![tactic(auto)]
+
 ghost use Rattle.std.specs.Prelude.{◌≡◌, ◌≤◌, length};
-ghost use Rattle.stops.specs.Lent.{old, new, lent_ramp};
+ghost use Rattle.stops.specs.Lent.{lent_ramp};
 ghost use Rattle.judge.specs.Lists.{lent_offer};
 ghost use Rattle.apart.specs.Checks.{lent_check};
 ghost use Rattle.apart.specs.inner.Steps.{any_seen, AnyTells};
@@ -29,7 +31,7 @@ fn check_lent(
     depths: &[f32],
     step: f32,
 ) -> Checked
-    ensures { result ≡ lent_check (lent_ramp kind positions channels codes) (lent_offer places colours) (old depths) step }
+    ensures { result ≡ lent_check (lent_ramp kind positions channels codes) (lent_offer places colours) depths.now step }
 {
     match sampling::check_sample(
         kind,
@@ -81,7 +83,7 @@ fn tell(
     faults: &mut [u8],
 ) -> Tally
     requires { length depths.now ≤ length faults.old }
-    ensures { AnyTells (lent_ramp kind positions channels codes) threshold step (lent_offer places colours) (old depths) (old faults) (new faults) result }
+    ensures { AnyTells (lent_ramp kind positions channels codes) threshold step (lent_offer places colours) depths.now faults.old faults.new result }
 {
     let first = stops::item(depths, 0);
     let mut before = see(kind, positions, channels, codes, places, colours, first);
@@ -116,7 +118,7 @@ pub fn apart(
     colours: &[f32],
     faults: &mut [u8],
 ) -> Apart
-    ensures { TellsApart (lent_ramp kind positions channels codes) threshold step (lent_offer places colours) (old depths) (old faults) (new faults) result }
+    ensures { TellsApart (lent_ramp kind positions channels codes) threshold step (lent_offer places colours) depths.now faults.old faults.new result }
 {
     match check_lent(
         kind, positions, channels, codes, places, colours, depths, step,

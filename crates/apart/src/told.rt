@@ -3,7 +3,7 @@ use blend::Rgba;
 
 // How many depths moved, how many the ramp itself holds too close to the one before, how many the list merged with the one
 // before, and the first merged one, which is the number of depths where there is none; or the number of the refusal.
-#[derive(Drop)]
+#[derive(Clone, Copy)]
 pub enum Apart {
     Told {
         moved: usize,
@@ -15,14 +15,14 @@ pub enum Apart {
 }
 
 // The ramp's colour and the list's at one depth.
-#[derive(Drop)]
+#[derive(Clone, Copy)]
 pub(crate) struct Seen {
     pub(crate) ramp: Rgba,
     pub(crate) list: Rgba,
 }
 
 // What is wrong at one depth.
-#[derive(Drop)]
+#[derive(Clone, Copy)]
 pub(crate) struct Fault {
     pub(crate) moved: bool,
     pub(crate) close: bool,
@@ -30,7 +30,7 @@ pub(crate) struct Fault {
 }
 
 // How many of each among the first depths, and the first merged one of them.
-#[derive(Drop)]
+#[derive(Clone, Copy)]
 pub(crate) struct Tally {
     pub(crate) moved: usize,
     pub(crate) close: usize,

@@ -1,7 +1,7 @@
 -- How far off a mix a + x·(b - a) of channels from 0 to 1 may be, with x = (t - p) / (q - p) and t from p to q: 102 parts in 2 ^ 28 of 1 (`mix_off`), which is about 6.4 in 2 ^ 24. Assumes nothing.
 use mathlib.Core.Path.{◌≡◌, refl, sym, subst}
 use mathlib.Core.Logic.{inl, inr}
-use Prim.Native.Nat.{ℕ, ◌+◌, ◌-◌, ◌*◌, ◌^◌, ◌≤◌, ◌<◌}
+use Prim.Native.Nat.{ℕ, ◌+◌, ◌*◌, ◌^◌, ◌≤◌, ◌<◌}
 use native.Mathlib.Omega.{arith}
 use lib.Dec.{T, lit<, lit≤}
 use lib.Pow.{pow_pos}

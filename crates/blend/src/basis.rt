@@ -6,7 +6,7 @@ ghost use Rattle.blend.specs.Pair.{basis_pair};
 use super::{Rgba, Stop, utils};
 
 // What each of four values counts, six times over.
-#[derive(Drop)]
+#[derive(Clone, Copy)]
 pub struct Weights {
     pub w0: f32,
     pub w1: f32,

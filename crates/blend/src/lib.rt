@@ -1,4 +1,6 @@
 // What lies between two stops: their colours mixed, by each kind of ramp.
+#![tactic(auto)]
+
 pub mod basis;
 pub mod catmull_rom;
 pub mod linear;
@@ -7,7 +9,7 @@ pub mod smoothstep;
 pub mod utils;
 
 #[repr(C)]
-#[derive(Drop)]
+#[derive(Clone, Copy)]
 pub struct Rgba {
     pub r: f32,
     pub g: f32,
@@ -15,7 +17,7 @@ pub struct Rgba {
     pub a: f32,
 }
 
-#[derive(Drop)]
+#[derive(Clone, Copy)]
 pub struct Stop {
     pub position: f32,
     pub colour: Rgba,

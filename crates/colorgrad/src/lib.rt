@@ -2,6 +2,8 @@
 // code of its own. A ramp is lent as slices, and every call answers for any slices at all.
 
 // Making a ramp: sharp bands, and a GIMP text's segments and name, by document 01's rules or as GIMP saves it.
+#![tactic(auto)]
+
 pub use ggr::{name, name_saved, read, read_saved};
 pub use sharp_ramp::build;
 

@@ -1,7 +1,7 @@
 -- A list judged, and the depths that became one in it, for a kind given by its code.
 use Rattle.std.specs.Prelude.{◌≡◌, List, [], ◌∷◌, ℕ, Float}
 use Rattle.refusals.specs.Refusals.{misshapen}
-use Rattle.stops.specs.Lent.{Lent, old, new}
+use Rattle.stops.specs.Lent.{LentMut}
 use Rattle.stops.specs.declared.Kind.{Kind}
 use Rattle.judge.specs.Lists.{Offer}
 use Rattle.judge.specs.Promises.{Judges}
@@ -30,8 +30,8 @@ apart_told (apart.Told moved close merged first) = moved ∷ close ∷ merged �
 apart_told (apart.Refused n) = 0 ∷ 0 ∷ 0 ∷ 0 ∷ []
 
 -- the promise of `apart`, of a ramp of any kind and lent bytes; a code that names no kind is 1 and changes nothing
-abbrev pub CodedTellsApart : CodedRamp → Float → Float → Offer → List Float → Lent ℕ → Reply (List ℕ) → Type 0
+abbrev pub CodedTellsApart : CodedRamp → Float → Float → Offer → List Float → LentMut ℕ → Reply (List ℕ) → Type 0
 CodedTellsApart by asked step offer ds bytes =
-    Tells by.code (λ (kind : Kind). TellsApart (by.ramp kind) asked step offer ds (old bytes) (new bytes))
-    (λ (a : Apart). (a ≡ apart.Refused misshapen) × (new bytes ≡ old bytes))
+    Tells by.code (λ (kind : Kind). TellsApart (by.ramp kind) asked step offer ds bytes.entry.now bytes.exit.now)
+    (λ (a : Apart). (a ≡ apart.Refused misshapen) × (bytes.exit.now ≡ bytes.entry.now))
     number_of_apart apart_told

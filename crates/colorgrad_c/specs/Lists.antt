@@ -1,9 +1,9 @@
 -- The calls on records and lists, for a kind given by its code.
 use Rattle.std.specs.Prelude.{◌≡◌, List, ℕ, Float}
 use Rattle.refusals.specs.Refusals.{misshapen}
-use Rattle.stops.specs.Lent.{Lent, old, new, Change, change}
+use Rattle.stops.specs.Lent.{Lent, LentMut, Change, change}
 use Rattle.stops.specs.declared.Kind.{Kind}
-use Rattle.sampling.specs.Lent.{Held, lent_held}
+use Rattle.sampling.specs.Lent.{Held, lent_held, shared_held}
 use Rattle.linearize.specs.Lent.{Output, lent_output}
 use Rattle.sampling.specs.Promises.{Samples}
 use Rattle.sampling.specs.Sampling.{number_of_sampled}
@@ -24,9 +24,14 @@ pub record Lendings : Type 0 where
   pub list : Change Output
   pub told : Change (List ℕ)
 
-abbrev pub lent : Lent Float → Lent ℕ → Lent ℕ → Lent Float → Lent Float → Lent ℕ → Lendings
+abbrev pub lent : LentMut Float → LentMut ℕ → LentMut ℕ → LentMut Float → LentMut Float → LentMut ℕ → Lendings
 lent rows counts marks places colours told =
-    record { held = lent_held rows counts marks; list = lent_output places colours; told = change (old told) (new told) }
+    record { held = lent_held rows counts marks; list = lent_output places colours; told = change told.entry.now told.exit.now }
+
+-- where the record is only read
+abbrev pub lent_beside : Lent Float → Lent ℕ → Lent ℕ → LentMut Float → LentMut Float → LentMut ℕ → Lendings
+lent_beside rows counts marks places colours told =
+    record { held = shared_held rows counts marks; list = lent_output places colours; told = change told.entry.now told.exit.now }
 
 -- the promises of `linearize` and `within`, of a ramp of any kind; a code that names no kind is 1 and changes nothing
 module _ (by : CodedRamp) (asked : Float) (held : Change Held) where

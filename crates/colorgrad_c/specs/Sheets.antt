@@ -1,7 +1,7 @@
 -- The calls on a sheet, for a kind given by its code.
 use Rattle.std.specs.Prelude.{◌≡◌, ℕ, Float}
 use Rattle.refusals.specs.Refusals.{misshapen}
-use Rattle.stops.specs.Lent.{Ramp, Lent, Change}
+use Rattle.stops.specs.Lent.{Ramp, Lent, LentMut, Change}
 use Rattle.stops.specs.declared.Kind.{Kind}
 use Rattle.refresh.specs.declared.editing.Edit.{Edit}
 use Rattle.sheet.specs.Room.{lent_room}
@@ -19,7 +19,7 @@ pub record CodedRoom : Type 0 where
   pub code : ℕ
   pub room : Kind → Change Ramp
 
-abbrev pub room_by : ℕ → Lent Float → Lent Float → Lent ℕ → CodedRoom
+abbrev pub room_by : ℕ → LentMut Float → LentMut Float → Lent ℕ → CodedRoom
 room_by code ps cs ks = record { code = code; room = λ kind. lent_room kind ps cs ks }
 
 -- the promises of `open` and `edit`, of a ramp of any kind; a code that names no kind is 1 and changes nothing

@@ -1,6 +1,5 @@
 // What the library says of itself: its version, and what each refusal and each verdict means, in one line of plain words.
 ghost use Rattle.std.specs.Prelude.{◌≡◌, cond, [], ltb, length, get_or};
-ghost use Rattle.stops.specs.Lent.{old, new};
 ghost use Rattle.text.specs.Text.{lines};
 ghost use Rattle.colorgrad_c.specs.plain.Name.{named};
 ghost use Rattle.colorgrad_c.specs.About.{version, message_of, verdict_message_of};
@@ -39,7 +38,7 @@ fn text_number(n: u32, most: usize) -> usize
 
 // Line k, counted from 0; empty past the last.
 fn line(texts: &[u8], k: usize) -> &[u8]
-    ensures { result.now ≡ get_or (lines (old texts)) k [] }
+    ensures { result.now ≡ get_or (lines texts.now) k [] }
 {
     let mut at = 0;
     let mut i = 0;
@@ -55,8 +54,8 @@ fn line(texts: &[u8], k: usize) -> &[u8]
 
 // The length of line k. Its bytes are written where the output has room for all of them; else it stays as it is.
 fn write_line(texts: &[u8], k: usize, out: &mut [u8]) -> usize
-    ensures value { result ≡ length (get_or (lines (old texts)) k []) }
-    ensures out_value { new out ≡ named (get_or (lines (old texts)) k []) (old out) }
+    ensures value { result ≡ length (get_or (lines texts.now) k []) }
+    ensures out_value { out.new ≡ named (get_or (lines texts.now) k []) out.old }
 {
     write_name(line(texts, k), out)
 }
@@ -66,7 +65,7 @@ fn write_line(texts: &[u8], k: usize, out: &mut [u8]) -> usize
 #[unsafe(no_mangle)]
 pub extern "C" fn colorgrad_message_told(refusal: u32, out: &mut [u8]) -> usize
     ensures value { result ≡ length (message_of refusal) }
-    ensures out_value { new out ≡ named (message_of refusal) (old out) }
+    ensures out_value { out.new ≡ named (message_of refusal) out.old }
 {
     let k = text_number(refusal, REFUSALS);
     write_line(
@@ -104,8 +103,8 @@ pub extern "C" fn colorgrad_message_told(refusal: u32, out: &mut [u8]) -> usize
 // The same of a verdict.
 #[unsafe(no_mangle)]
 pub extern "C" fn colorgrad_verdict_message_told(verdict: u32, out: &mut [u8]) -> usize
-    ensures value { result ≡ length (verdictMessageOf verdict) }
-    ensures out_value { new out ≡ named (verdictMessageOf verdict) (old out) }
+    ensures value { result ≡ length (verdict_message_of verdict) }
+    ensures out_value { out.new ≡ named (verdict_message_of verdict) out.old }
 {
     let k = text_number(verdict, VERDICTS);
     write_line(

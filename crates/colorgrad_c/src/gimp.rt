@@ -1,6 +1,5 @@
 // GIMP texts: their segments, and their name.
 ghost use Rattle.std.specs.Prelude.{◌≡◌, [], ◌∷◌, length};
-ghost use Rattle.stops.specs.Lent.{old, new};
 ghost use Rattle.segment.specs.declared.Rules.TheVariants.{Published, Saved};
 ghost use Rattle.segment.specs.Store.{lent_store};
 ghost use Rattle.ggr.specs.File.{name_of, number_of_answer, line_of_answer, segments_of_answer};
@@ -17,7 +16,7 @@ use ggr::Answer;
 // The refusal; tells its line, 0 if none, and how many segments were read.
 fn tell_read(answer: Answer, told: &mut [usize]) -> u32
     ensures value { result ≡ number_of_answer answer }
-    ensures told_value { new told ≡ telling (line_of_answer answer ∷ segments_of_answer answer ∷ []) (old told) }
+    ensures told_value { told.new ≡ telling (line_of_answer answer ∷ segments_of_answer answer ∷ []) told.old }
 {
     match answer {
         Answer::Read(segments) => {
@@ -48,7 +47,7 @@ pub extern "C" fn colorgrad_read_told(
     codes: &mut [u8],
     told: &mut [usize],
 ) -> u32
-    ensures { ShowsRead Published (rgba_of r g b a) (rgba_of br bg bb ba) (old text) (lent_store positions channels codes) (reply result told) }
+    ensures { ShowsRead Published (rgba_of r g b a) (rgba_of br bg bb ba) text.now (lent_store positions channels codes) (reply result told) }
 {
     let foreground = Rgba { r, g, b, a };
     let background = Rgba {
@@ -78,7 +77,7 @@ pub extern "C" fn colorgrad_read_saved_told(
     codes: &mut [u8],
     told: &mut [usize],
 ) -> u32
-    ensures { ShowsRead Saved (rgba_of r g b a) (rgba_of br bg bb ba) (old text) (lent_store positions channels codes) (reply result told) }
+    ensures { ShowsRead Saved (rgba_of r g b a) (rgba_of br bg bb ba) text.now (lent_store positions channels codes) (reply result told) }
 {
     let foreground = Rgba { r, g, b, a };
     let background = Rgba {
@@ -94,8 +93,8 @@ pub extern "C" fn colorgrad_read_saved_told(
 // The length of the name. Its bytes are written where the output has room for all of them; else it stays as it is.
 #[unsafe(no_mangle)]
 pub extern "C" fn colorgrad_name(text: &[u8], out: &mut [u8]) -> usize
-    ensures value { result ≡ length (name_of Published (old text)) }
-    ensures out_value { new out ≡ named (name_of Published (old text)) (old out) }
+    ensures value { result ≡ length (name_of Published text.now) }
+    ensures out_value { out.new ≡ named (name_of Published text.now) out.old }
 {
     write_name(ggr::name(text), out)
 }
@@ -103,8 +102,8 @@ pub extern "C" fn colorgrad_name(text: &[u8], out: &mut [u8]) -> usize
 // The same of a file as GIMP saves it.
 #[unsafe(no_mangle)]
 pub extern "C" fn colorgrad_name_saved(text: &[u8], out: &mut [u8]) -> usize
-    ensures value { result ≡ length (name_of Saved (old text)) }
-    ensures out_value { new out ≡ named (name_of Saved (old text)) (old out) }
+    ensures value { result ≡ length (name_of Saved text.now) }
+    ensures out_value { out.new ≡ named (name_of Saved text.now) out.old }
 {
     write_name(ggr::name_saved(text), out)
 }

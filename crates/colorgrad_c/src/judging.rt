@@ -1,6 +1,5 @@
 // A list that was made elsewhere: whether it shows the ramp, and which depths became one in it.
 ghost use Rattle.std.specs.Prelude.{◌≡◌};
-ghost use Rattle.stops.specs.Lent.{old, new};
 ghost use Rattle.judge.specs.Lists.{lent_offer};
 ghost use Rattle.apart.specs.Answers.{number_of_apart};
 ghost use Rattle.colorgrad_c.specs.plain.Telling.{telling, reply, replies};
@@ -42,7 +41,7 @@ pub extern "C" fn colorgrad_judge_told(
 // The refusal; tells how many depths moved, are close, are merged, and the first merged one; 0 where it is refused.
 fn tell_apart(apart: Apart, told: &mut [usize]) -> u32
     ensures value { result ≡ number_of_apart apart }
-    ensures told_value { new told ≡ telling (apart_told apart) (old told) }
+    ensures told_value { told.new ≡ telling (apart_told apart) told.old }
 {
     match apart {
         Apart::Told {
@@ -76,7 +75,7 @@ pub extern "C" fn colorgrad_apart_told(
     faults: &mut [u8],
     told: &mut [usize],
 ) -> u32
-    ensures { CodedTellsApart (ramp_by kind positions channels codes) threshold step (lent_offer places colours) (old depths) faults (reply result told) }
+    ensures { CodedTellsApart (ramp_by kind positions channels codes) threshold step (lent_offer places colours) depths.now faults (reply result told) }
 {
     let Coded::Of(known) = kinds::kind_of(kind) else {
         return tell_apart(Apart::Refused(MISSHAPEN), told);

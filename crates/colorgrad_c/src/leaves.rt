@@ -1,6 +1,5 @@
 // The leaves that a host compares by themselves: the square root, a cutoff, a threshold, a hold, and a token as a number.
 ghost use Rattle.std.specs.Prelude.{◌≡◌};
-ghost use Rattle.stops.specs.Lent.{old, new};
 ghost use Rattle.sqrt.specs.Root.{root_of};
 ghost use Rattle.sqrt.specs.Cutoff.{IsCutoff};
 ghost use Rattle.decimal.specs.Decimal.{read_of};
@@ -16,7 +15,7 @@ use linearize::Sampler;
 
 fn tell_token(token: Token, value: &mut [f32]) -> u32
     ensures value { result ≡ is_number token }
-    ensures value_value { new value ≡ telling (value_told token) (old value) }
+    ensures value_value { value.new ≡ telling (value_told token) value.old }
 {
     match token {
         Token::Number(x) => {
@@ -65,8 +64,8 @@ pub extern "C" fn colorgrad_hold(asked: f32, threshold: f32) -> f32
 // 1 where the token is a number, else 0; tells the number, 0 if none.
 #[unsafe(no_mangle)]
 pub extern "C" fn colorgrad_token_told(text: &[u8], value: &mut [f32]) -> u32
-    ensures value { result ≡ is_number (read_of (old text)) }
-    ensures value_value { new value ≡ telling (value_told (read_of (old text))) (old value) }
+    ensures value { result ≡ is_number (read_of text.now) }
+    ensures value_value { value.new ≡ telling (value_told (read_of text.now)) value.old }
 {
     tell_token(decimal::read(text), value)
 }
@@ -74,8 +73,8 @@ pub extern "C" fn colorgrad_token_told(text: &[u8], value: &mut [f32]) -> u32
 // The same of a long token.
 #[unsafe(no_mangle)]
 pub extern "C" fn colorgrad_long_token_told(text: &[u8], value: &mut [f32]) -> u32
-    ensures value { result ≡ is_number (read_long_of (old text)) }
-    ensures value_value { new value ≡ telling (value_told (read_long_of (old text))) (old value) }
+    ensures value { result ≡ is_number (read_long_of text.now) }
+    ensures value_value { value.new ≡ telling (value_told (read_long_of text.now)) value.old }
 {
     tell_token(decimal::read_long(text), value)
 }

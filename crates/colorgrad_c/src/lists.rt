@@ -1,9 +1,9 @@
 // Sampling a ramp into a record, thinning a record to a list of stops, and both at once; the same of lists that keep their word.
-ghost use Rattle.sampling.specs.Lent.{lent_held};
+ghost use Rattle.sampling.specs.Lent.{lent_held, shared_held};
 ghost use Rattle.linearize.specs.Lent.{lent_output};
 ghost use Rattle.colorgrad_c.specs.plain.Telling.{reply};
 ghost use Rattle.colorgrad_c.specs.plain.Kinds.{ramp_by};
-ghost use Rattle.colorgrad_c.specs.Lists.{CodedSamples, CodedThins, CodedFlattens, CodedThinsWithin, CodedFlattensWithin, lent};
+ghost use Rattle.colorgrad_c.specs.Lists.{CodedSamples, CodedThins, CodedFlattens, CodedThinsWithin, CodedFlattensWithin, lent, lent_beside};
 
 use crate::plain::kinds;
 use crate::plain::kinds::Coded;
@@ -50,7 +50,7 @@ pub extern "C" fn colorgrad_thin_told(
     colours: &mut [f32],
     told: &mut [usize],
 ) -> u32
-    ensures { CodedThins (ramp_by kind positions channels codes) threshold (lent_held rows counts marks) (lent_output places colours) (reply result told) }
+    ensures { CodedThins (ramp_by kind positions channels codes) threshold (shared_held rows counts marks) (lent_output places colours) (reply result told) }
 {
     let Coded::Of(known) = kinds::kind_of(kind) else {
         return tell_listed(Listed::Refused(MISSHAPEN), told);
@@ -103,7 +103,7 @@ pub extern "C" fn colorgrad_thin_within_told(
     colours: &mut [f32],
     told: &mut [usize],
 ) -> u32
-    ensures { CodedThinsWithin (ramp_by kind positions channels codes) threshold hold (lent rows counts marks places colours told) result }
+    ensures { CodedThinsWithin (ramp_by kind positions channels codes) threshold hold (lent_beside rows counts marks places colours told) result }
 {
     let Coded::Of(known) = kinds::kind_of(kind) else {
         return tell_listed(Listed::Refused(MISSHAPEN), told);

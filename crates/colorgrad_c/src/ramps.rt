@@ -1,5 +1,5 @@
 // A ramp's check, its domain, its colour at t, its colours at many points, and a sharp ramp built.
-ghost use Rattle.stops.specs.Lent.{old, new, change};
+ghost use Rattle.stops.specs.Lent.{change};
 ghost use Rattle.linearize.specs.Lent.{lent_output};
 ghost use Rattle.colorgrad_c.specs.plain.Telling.{reply};
 ghost use Rattle.colorgrad_c.specs.plain.Kinds.{ramp_by};
@@ -76,7 +76,7 @@ pub extern "C" fn colorgrad_paint(
     ts: &[f32],
     out: &mut [f32],
 ) -> u32
-    ensures { CodedPaints (ramp_by kind positions channels codes) (old ts) (change (old out) (new out)) result }
+    ensures { CodedPaints (ramp_by kind positions channels codes) ts.now (change out.old out.new) result }
 {
     let Coded::Of(known) = kinds::kind_of(kind) else {
         return MISSHAPEN as u32;
@@ -95,7 +95,7 @@ pub extern "C" fn colorgrad_sharp_told(
     channels: &mut [f32],
     told: &mut [usize],
 ) -> u32
-    ensures { ShowsBuilt (old colours) min max softness (lent_output positions channels) (reply result told) }
+    ensures { ShowsBuilt colours.now min max softness (lent_output positions channels) (reply result told) }
 {
     let built = sharp_ramp::build(colours, min, max, softness, positions, channels);
     tell_built(built, told)

@@ -1,5 +1,5 @@
 // A list handed out one stop at a time.
-ghost use Rattle.sampling.specs.Lent.{lent_held};
+ghost use Rattle.sampling.specs.Lent.{shared_held};
 ghost use Rattle.colorgrad_c.specs.plain.Telling.{replies};
 ghost use Rattle.colorgrad_c.specs.plain.Kinds.{ramp_by};
 ghost use Rattle.colorgrad_c.specs.Steps.{CodedHandsOut};
@@ -27,7 +27,7 @@ pub extern "C" fn colorgrad_next_stop_told(
     told: &mut [usize],
     stop: &mut [f32],
 ) -> u32
-    ensures { CodedHandsOut (ramp_by kind positions channels codes) threshold (lent_held rows counts marks) state row index (replies result told stop) }
+    ensures { CodedHandsOut (ramp_by kind positions channels codes) threshold (shared_held rows counts marks) state row index (replies result told stop) }
 {
     let place = place_from(state, row, index);
     let Coded::Of(known) = kinds::kind_of(kind) else {

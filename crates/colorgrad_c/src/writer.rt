@@ -1,6 +1,6 @@
 // Lists as GIMP texts, and numbers as they are written there.
 ghost use Rattle.std.specs.Prelude.{◌≡◌, [], ◌∷◌, length};
-ghost use Rattle.stops.specs.Lent.{old, new, change};
+ghost use Rattle.stops.specs.Lent.{change};
 ghost use Rattle.numerals.specs.Written.{text_of};
 ghost use Rattle.ggr_writing.specs.File.{number_of_write_answer, bytes_of_write_answer};
 ghost use Rattle.colorgrad_c.specs.plain.Telling.{telling, reply};
@@ -13,7 +13,7 @@ use ggr_writing::WriteAnswer;
 
 fn tell_written(answer: WriteAnswer, told: &mut [usize]) -> u32
     ensures value { result ≡ number_of_write_answer answer }
-    ensures told_value { new told ≡ telling (bytes_of_write_answer answer ∷ []) (old told) }
+    ensures told_value { told.new ≡ telling (bytes_of_write_answer answer ∷ []) told.old }
 {
     match answer {
         WriteAnswer::Written(bytes) => {
@@ -35,7 +35,7 @@ pub extern "C" fn colorgrad_write_ggr_told(
     text: &mut [u8],
     told: &mut [usize],
 ) -> u32
-    ensures { ShowsWritten (old positions) (old channels) (change (old text) (new text)) (reply result told) }
+    ensures { ShowsWritten positions.now channels.now (change text.old text.new) (reply result told) }
 {
     let answer = ggr_writing::write(positions, channels, text);
     tell_written(answer, told)
@@ -46,7 +46,7 @@ pub extern "C" fn colorgrad_write_ggr_told(
 #[unsafe(no_mangle)]
 pub extern "C" fn colorgrad_numeral(x: f32, out: &mut [u8]) -> usize
     ensures value { result ≡ length (text_of x) }
-    ensures out_value { new out ≡ named (text_of x) (old out) }
+    ensures out_value { out.new ≡ named (text_of x) out.old }
 {
     let t = numerals::write(x);
     let bytes = t.bytes;

@@ -1,5 +1,7 @@
 // The factor of a curved segment of a GIMP gradient: 0 at its left end, 1/2 at its middle, 1 at its right end, by sums, products
 // and quotients alone.
+#![tactic(auto)]
+
 ghost use Rattle.std.specs.Prelude.{◌≡◌, ◌/◌, ◌^◌, ◌≤◌, ◌<◌, T};
 ghost use Rattle.std.specs.Float.Ieee.{lt, le};
 ghost use Rattle.float.specs.F32.{f0, f1};

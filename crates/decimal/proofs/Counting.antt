@@ -3,7 +3,7 @@ use mathlib.Core.Path.{◌≡◌, refl, sym, ap, ◌∙◌, subst}
 use mathlib.Core.Bool.{Bool, true, false, cond, ◌&&◌, and_assoc, and-false}
 use mathlib.Core.List.{List, [], ◌∷◌, ◌++◌}
 use Prim.Native.Nat.{ℕ, zero, suc, ◌+◌, ◌-◌, ◌*◌, ◌^◌, ◌≤◌, ◌<◌}
-use native.Mathlib.Nat.{le_of_eq, lt_irrefl, lt_of_not-le}
+use native.Mathlib.Nat.{lt_irrefl, lt_of_not-le}
 use native.Mathlib.Decide.{dec_le}
 use native.Mathlib.Omega.{arith}
 use lib.Dec.{eqb}
@@ -12,7 +12,7 @@ use lib.Pow.{pow-add}
 use borrow.Author.Tests.{eq-eqb, ne_eqb, eqb-true}
 use Rattle.decimal.specs.Decimal.{value_after}
 use Rattle.decimal.specs.Long.{most_significant, from_first, are_zeros, few_count}
-use Rattle.decimal.specs.inner.Counted.{Kept, Counts}
+use Rattle.decimal.specs.inner.Counted.{Counts}
 use Rattle.decimal.proofs.Parts.{value_split}
 
 -- ---- lists

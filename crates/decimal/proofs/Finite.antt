@@ -5,7 +5,7 @@ use native.Mathlib.Omega.{arith}
 use mathlib.Core.Path.{◌≡◌, refl}
 use mathlib.Core.Bool.{Bool, true, false, cond, ◌&&◌}
 use mathlib.Core.List.{List, [], ◌∷◌, ◌++◌}
-use lib.ListN.{length, drop}
+use lib.ListN.{length}
 use lib.Dec.{T, leb, ltb, eqb}
 use lib.Ieee.{Float, Format, nan, inf, fin, binary32, low, emax, prec, units, odd, round, le}
 use lib.Ieee.Scale.{finite}

@@ -14,7 +14,7 @@ use borrow.Author.Tests.{le-leb, eqb-true}
 use Rattle.decimal.specs.declared.Token.TheVariants.{Number}
 use Rattle.decimal.specs.Decimal.{is_digit, are_digits, value_after}
 use Rattle.decimal.specs.Long.{is_minus, past_sign, first_digits, past_digits, is_mark, long_number, with_power, after_digits, after_whole, unsigned_long_of, read_long_of}
-use Rattle.decimal.specs.Form.{Sign, none, Rest, nothing, point, Form, Power, unmoved, raised, lowered, LongForm}
+use Rattle.decimal.specs.Form.{Sign, Rest, nothing, point, Form, Power, unmoved, raised, lowered, LongForm}
 use Rattle.decimal.specs.inner.Counted.{Stops, is_point}
 use Rattle.decimal.proofs.Significance.{few_of, few_digits}
 use Rattle.decimal.proofs.LongAfter.{no_point, a_point, long_is}

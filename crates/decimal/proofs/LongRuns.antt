@@ -1,12 +1,11 @@
 -- What holds at the heads of the two loops of a long token, which pass its digits and those of its power. Assumes nothing.
-use mathlib.Core.Path.{◌≡◌, refl, sym, ap, ◌∙◌, subst}
+use mathlib.Core.Path.{refl, sym, subst}
 use mathlib.Core.Logic.{inl}
 use mathlib.Core.List.{List, [], ◌∷◌, ◌++◌, append-nil, append_assoc}
 use Prim.Native.Nat.{ℕ, ◌+◌, ◌≤◌, ◌<◌}
 use native.Mathlib.Omega.{arith}
 use lib.ListN.{length, drop, get_or}
 use Rattle.decimal.specs.Decimal.{value_after}
-use Rattle.decimal.specs.Long.{first_digits}
 use Rattle.decimal.specs.inner.Counted.{Counts, CountsOn, CountsTo, Passed, Stops, Counting, Small, Saturates, TenTimes, PowerTo}
 use Rattle.decimal.proofs.Counting.{value_more}
 use Rattle.decimal.proofs.LongPlace.{passed_none, passed_join, passed_next, passed_are, passed_to}

@@ -1,14 +1,13 @@
 -- The point moved: by as many places up and down nothing changes; a number of 64 binary digits is beyond every f32, or nothing, when it is moved far. Assumes nothing.
-use mathlib.Core.Path.{◌≡◌, refl, sym, ap, ◌∙◌, subst}
-use mathlib.Core.Logic.{◌⊎◌, inl, inr}
+use mathlib.Core.Path.{◌≡◌, sym, ap, ◌∙◌}
+use mathlib.Core.Logic.{inl, inr}
 use mathlib.Core.Bool.{Bool}
-use Prim.Native.Nat.{ℕ, zero, suc, ◌+◌, ◌-◌, ◌*◌, ◌^◌, ◌≤◌, ◌<◌, zero-le}
-use native.Mathlib.Nat.{le_trans, le_of_eq, le_of_lt, lt_of_not-le, one-mul, mul_assoc, mul_comm, mul_right_comm, zero-mul, mul-le-mul_left, mul-le-mul_right}
-use native.Mathlib.Decide.{dec_le, ℕ_discrete}
+use Prim.Native.Nat.{ℕ, zero, suc, ◌+◌, ◌*◌, ◌^◌, ◌≤◌, ◌<◌, zero-le}
+use native.Mathlib.Nat.{le_trans, le_of_eq, le_of_lt, one-mul, mul_assoc, mul_comm, mul_right_comm, zero-mul, mul-le-mul_right}
 use native.Mathlib.Omega.{arith}
 use lib.Dec.{lit≤}
 use lib.Pow.{pow-add}
-use lib.Ieee.{Float, binary32, inf, round}
+use lib.Ieee.{binary32, inf, round}
 use lib.Ieee.Scale.{round_same}
 use Rattle.decimal.specs.inner.Counted.{huge, Saturates}
 use Rattle.decimal.proofs.Rounds.{vast, tiny}

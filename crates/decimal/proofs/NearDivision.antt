@@ -2,12 +2,12 @@
 -- nothing and from half of q, num * E over T has the same whole part, and is rounded the same way. Assumes nothing.
 use mathlib.Core.Path.{◌≡◌, refl, sym, ap, ◌∙◌}
 use mathlib.Core.Logic.{◌⊎◌, inl, inr}
-use mathlib.Core.Bool.{Bool, cond}
-use Prim.Native.Nat.{ℕ, ◌+◌, ◌-◌, ◌*◌, ◌%◌, ◌^◌, ◌≤◌, ◌<◌, compare, zero-le}
+use mathlib.Core.Bool.{cond}
+use Prim.Native.Nat.{ℕ, ◌+◌, ◌-◌, ◌*◌, ◌^◌, ◌≤◌, ◌<◌, compare, zero-le}
 use native.Mathlib.Nat.{add_assoc, add-mul, mul_assoc, mul_right_comm, le_trans, le_of_eq, mul-le-mul_left, mul-le-mul_right, mul-lt-mul_of_pos_right}
 use native.Mathlib.Omega.{arith}
 use lib.Pow.{pow-add, pow_pos, pow_mono}
-use lib.Ieee.{binary32, nearest, round, to_bits}
+use lib.Ieee.{nearest}
 use lib.Ieee.Fits.{nearest-le}
 use Rattle.decimal.specs.inner.Steps.{FitsTo, BitsOf}
 use Rattle.decimal.specs.inner.Near.{twos_of, FirstForty}

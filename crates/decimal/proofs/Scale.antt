@@ -1,6 +1,6 @@
 -- The divisor: a power of five, doubled until the shifted digits over it have 24 binary digits; and tens as fives and twos. Assumes nothing.
 use mathlib.Core.Path.{◌≡◌, refl, sym, ap, ◌∙◌, subst}
-use Prim.Native.Nat.{ℕ, zero, suc, ◌+◌, ◌-◌, ◌*◌, ◌/◌, ◌%◌, ◌^◌, ◌≤◌, ◌<◌}
+use Prim.Native.Nat.{ℕ, zero, suc, ◌+◌, ◌-◌, ◌*◌, ◌%◌, ◌^◌, ◌≤◌, ◌<◌}
 use native.Mathlib.Nat.{lt_of_le_of_lt, mod-eq_of_lt, mul_assoc, mul_left_comm, mul-le-mul_right, mul-one, lt_of_lt_of_le, le_trans, le_of_eq, pow-le-pow_right, pow-succ'}
 use native.Mathlib.Omega.{arith}
 use lib.Count.{count_leading_zeros, leading_top}

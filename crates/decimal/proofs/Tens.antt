@@ -1,13 +1,13 @@
 -- A number times a power of ten, as a quotient of fives moved by twos; and what it is rounded to. Assumes nothing.
-use mathlib.Core.Path.{◌≡◌, refl, sym, ap, ◌∙◌}
+use mathlib.Core.Path.{◌≡◌, sym, ap, ◌∙◌}
 use mathlib.Core.Logic.{◌⊎◌}
-use mathlib.Core.Bool.{Bool, cond}
-use Prim.Native.Nat.{ℕ, ◌+◌, ◌-◌, ◌*◌, ◌^◌, ◌≤◌, ◌<◌, compare, zero-le}
+use mathlib.Core.Bool.{cond}
+use Prim.Native.Nat.{ℕ, ◌+◌, ◌*◌, ◌^◌, ◌≤◌, ◌<◌, compare, zero-le}
 use native.Mathlib.Nat.{le_trans, le_of_eq, le_of_lt, lt_of_le_of_lt, add_assoc, one-mul, mul_assoc, mul_comm, mul_left_comm, mul-le-mul_left, mul-le-mul_right}
 use native.Mathlib.Omega.{arith}
 use lib.Dec.{lit<}
 use lib.Pow.{pow-add}
-use lib.Ieee.{binary32, nearest, round, to_bits}
+use lib.Ieee.{nearest}
 use lib.Ieee.Fits.{nearest-le}
 use Rattle.decimal.specs.inner.Steps.{BitsOf}
 use Rattle.decimal.specs.inner.Wide.{Roomy}

@@ -1,4 +1,6 @@
 // A token read as a number: a decimal, rounded once to the nearest f32, or no number.
+#![tactic(auto)]
+
 ghost use Rattle.std.specs.Prelude.{◌≡◌, cond, ◌+◌, ◌^◌, ◌<◌, ◌≤◌, length};
 ghost use Rattle.std.specs.Float.Ieee as Ieee;
 ghost use Rattle.std.specs.Float.{binary32};
@@ -15,7 +17,7 @@ mod wide;
 pub use crate::long::read_long;
 use crate::quotient::magnitude;
 
-#[derive(Drop)]
+#[derive(Clone, Copy)]
 pub enum Token {
     Number(f32),
     NoNumber,
@@ -65,7 +67,7 @@ fn unsigned(s: &[u8], neg: bool) -> Token
 }
 
 // Where a run of digits ends, the number that they make with those before it, and 5 to the power of how many they are.
-#[derive(Drop)]
+#[derive(Clone, Copy)]
 struct Run {
     value: u64,
     five: u64,

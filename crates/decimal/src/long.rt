@@ -39,7 +39,7 @@ fn by_parts(s: &[u8]) -> Token
 }
 
 // The sign and the digits of a token, of which `places` stand after the point, and where they end.
-#[derive(Drop)]
+#[derive(Clone, Copy)]
 struct Decimal {
     neg: bool,
     value: u64,
@@ -83,7 +83,7 @@ fn digits_of(s: &[u8]) -> Decimal
 }
 
 // Whether a minus stands there, and where what follows a sign begins.
-#[derive(Drop)]
+#[derive(Clone, Copy)]
 struct Sign {
     minus: bool,
     end: usize,
@@ -163,7 +163,7 @@ fn is_mark(b: u8) -> bool
 }
 
 // The number that digits make, or where it is HUGE or more some number that is, and where they end.
-#[derive(Drop)]
+#[derive(Clone, Copy)]
 struct Power {
     value: u64,
     end: usize,

@@ -6,7 +6,7 @@ ghost use Rattle.decimal.specs.inner.Near.{FirstForty, NearOf};
 use crate::quotient::{fitted, rounded};
 
 // The bits of the nearest f32 but for the sign's, or that they cannot be told so.
-#[derive(Drop)]
+#[derive(Clone, Copy)]
 pub(crate) enum Near {
     Bits(u32),
     Unsure,

@@ -38,7 +38,7 @@ fn doublings(five: u64) -> u32
 }
 
 // A divisor doubled up times.
-#[derive(Drop)]
+#[derive(Clone, Copy)]
 pub(crate) struct Divisor {
     pub(crate) den: u64,
     pub(crate) up: u64,
@@ -72,7 +72,7 @@ pub(crate) fn fitted(num: u64, den: u64) -> Divisor
 }
 
 // num divided by den in binary, to down places past the point.
-#[derive(Drop)]
+#[derive(Clone, Copy)]
 struct Quotient {
     m: u64,
     rest: u64,

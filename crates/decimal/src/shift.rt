@@ -31,7 +31,7 @@ pub(crate) fn moved(neg: bool, value: u64, zeros: u64, places: u64, power: u64, 
 }
 
 // What is left of a without b, and of b without a.
-#[derive(Drop)]
+#[derive(Clone, Copy)]
 struct Left {
     up: u64,
     down: u64,

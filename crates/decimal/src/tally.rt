@@ -7,7 +7,7 @@ pub(crate) const MOST_SIGNIFICANT: u32 = 19;
 
 // Digits as they are read: all of them are value times 10 for each of zeros. From the first that is not 0 on they are
 // count and the zeros; a count of 20 tells that after the 19th there is another that is not 0.
-#[derive(Drop)]
+#[derive(Clone, Copy)]
 pub(crate) struct Counted {
     pub(crate) value: u64,
     pub(crate) count: u32,

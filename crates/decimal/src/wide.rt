@@ -8,7 +8,7 @@ ghost use Rattle.decimal.specs.inner.Wide.{word, value_of, IsWide, Roomy, Raises
 const WORD: u64 = 1152921504606846976;
 
 // Three words of 60 binary digits.
-#[derive(Drop)]
+#[derive(Clone, Copy)]
 struct Wide {
     hi: u64,
     mid: u64,
@@ -99,7 +99,7 @@ fn without(a: Wide, b: Wide) -> Wide
 }
 
 // A divisor doubled up times.
-#[derive(Drop)]
+#[derive(Clone, Copy)]
 struct Above {
     den: Wide,
     up: u64,
@@ -121,7 +121,7 @@ fn raised(num: Wide, den: Wide) -> Above
 }
 
 // num divided by den in binary, to down places past the point.
-#[derive(Drop)]
+#[derive(Clone, Copy)]
 struct Divided {
     m: u64,
     rest: Wide,
@@ -151,7 +151,7 @@ fn long_divided(num: Wide, den: Wide, most: u64) -> Divided
 }
 
 // A quotient with one more digit, and what is left.
-#[derive(Drop)]
+#[derive(Clone, Copy)]
 struct Longer {
     m: u64,
     rest: Wide,

@@ -8,8 +8,8 @@ use mathlib.Core.List.{List, [], ◌∷◌, ◌++◌}
 use lib.ListN.{take, get_or}
 use lib.Dec.{ltb, eqb}
 use lib.Ieee.{Float}
-use borrow.Author.Tests.{ne_eqb}
-use Rattle.float.proofs.Flags.{both_l, both_r, failed}
+use borrow.Author.Tests.{ne_eqb, not-true}
+use Rattle.float.proofs.Flags.{both_l, both_r}
 use Rattle.text.specs.Text.{every, on_first, not_tab, fields}
 use Rattle.text.proofs.Bytes.{every_both}
 use Rattle.rows.proofs.Fields.{fields_past}
@@ -40,7 +40,7 @@ no_tab n = every_digit not_tab (λ d h. ap not (ne_eqb (48 + d) 9 (λ e. omega a
 -- ---- up to the first LF, and after it
 other : (x : ℕ) (xs : List ℕ) → every not_lf (x ∷ xs) ≡ true → eqb x 10 ≡ false
 unfolding every
-other x xs h = failed (both_l (not_lf x) (every not_lf xs) h) refl
+other x xs h = not-true _ (both_l (not_lf x) (every not_lf xs) h)
 
 first_past : (xs t : List ℕ) → every not_lf xs ≡ true → first_line (xs ++ t) ≡ xs ++ first_line t
 unfolding first_line every

@@ -1,5 +1,5 @@
 -- The stops and the edit of an input that is read are finite, and its kind is one that can be refreshed. Assumes nothing.
-use Prim.Native.Nat.{ℕ, ◌+◌, ◌-◌, ◌<◌}
+use Prim.Native.Nat.{ℕ, ◌+◌, ◌<◌}
 use native.Mathlib.Omega.{arith}
 use mathlib.Core.Path.{◌≡◌, refl, sym, ap, ◌∙◌}
 use mathlib.Core.Bool.{Bool, true, false, not, cond, ◌&&◌}
@@ -8,8 +8,8 @@ use lib.ListN.{length, drop, get_or}
 use lib.Dec.{leb, eqb}
 use lib.Ieee.{Float, nan}
 use lib.Ieee.Scale.{finite}
-use borrow.Author.Tests.{eqb-true}
-use Rattle.float.proofs.Flags.{both_l, both_r, parts4, failed}
+use borrow.Author.Tests.{eqb-true, not-true}
+use Rattle.float.proofs.Flags.{both_l, both_r, parts4}
 use Rattle.blend.specs.Channels.{channels_in}
 use Rattle.blend.specs.Finite.{all_finite}
 use Rattle.blend.specs.declared.Stop.{Stop}
@@ -171,7 +171,7 @@ read_finite s {kind} {asked} {stops} {e} i =
     let r = both_r (plain_kind kind) (all_finite (channels_in stops) && finite_rgba e.colour) h in
     record {
       kind_fine = both_l (refreshable kind) (not (is_gimp kind)) k;
-      kind_stops = failed (both_r (refreshable kind) (not (is_gimp kind)) k) refl;
+      kind_stops = not-true _ (both_r (refreshable kind) (not (is_gimp kind)) k);
       channels_fine = both_l (all_finite (channels_in stops)) (finite_rgba e.colour) r;
       colour_fine = both_r (all_finite (channels_in stops)) (finite_rgba e.colour) r;
     }

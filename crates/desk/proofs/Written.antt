@@ -1,5 +1,5 @@
 -- The theorem of two texts written line by line, each line ended by LF: the one that has the changed line and no `edit` line is the shorter one, and reads back as its lines. Assumes nothing.
-use Prim.Native.Nat.{ℕ, zero, suc, ◌+◌, ◌-◌, ◌≤◌, ◌<◌}
+use Prim.Native.Nat.{ℕ, zero, suc, ◌+◌, ◌≤◌, ◌<◌}
 use native.Mathlib.Omega.{arith}
 use mathlib.Core.Path.{◌≡◌, refl, sym, ap, ◌∙◌}
 use mathlib.Core.Bool.{Bool, true, false, not, cond, ◌&&◌, true≢false}
@@ -7,8 +7,8 @@ use mathlib.Core.List.{List, [], ◌∷◌, ◌++◌}
 use lib.ListN.{length, drop, length-append, length-drop}
 use lib.Dec.{leb, eqb}
 use lib.Ieee.{Float}
-use borrow.Author.Tests.{leb-true}
-use Rattle.float.proofs.Flags.{both_l, both_r, failed}
+use borrow.Author.Tests.{leb-true, not-true}
+use Rattle.float.proofs.Flags.{both_l, both_r}
 use Rattle.blend.specs.declared.Stop.{Stop}
 use Rattle.stops.specs.declared.Kind.{Kind}
 use Rattle.text.specs.Text.{every, at_lf, on_first, lines}
@@ -35,8 +35,8 @@ unfolding lines every on_first
 line_back [] t h = refl
 line_back (b ∷ l) t h =
     let here = both_l (in_line b) (every in_line l) h in
-    let lf : eqb b 10 ≡ false = failed (both_l (not (eqb b 10)) (not (eqb b 13)) here) refl in
-    let cr : eqb b 13 ≡ false = failed (both_r (not (eqb b 10)) (not (eqb b 13)) here) refl in
+    let lf : eqb b 10 ≡ false = not-true _ (both_l (not (eqb b 10)) (not (eqb b 13)) here) in
+    let cr : eqb b 13 ≡ false = not-true _ (both_r (not (eqb b 10)) (not (eqb b 13)) here) in
     rw (lf, no_cr (at_lf (l ++ 10 ∷ t)) (eqb b 13) cr, line_back l t (both_r (in_line b) (every in_line l) h))
 
 lines_back : (ls : List (List ℕ)) → unbroken ls ≡ true → lines (text_of_lines ls) ≡ ls

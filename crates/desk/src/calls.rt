@@ -1,6 +1,5 @@
 // The calls that make a list, and the reply that tells of it.
 ghost use Rattle.std.specs.Prelude.{◌≡◌, ◌≤◌};
-ghost use Rattle.stops.specs.Lent.{new};
 ghost use Rattle.linearize.specs.Desk.{stops_of_listed};
 ghost use Rattle.desk.specs.Tool.{list_room, fresh_text, edit_text, ramp_text, blank};
 ghost use Rattle.desk.specs.inner.Steps.{stop_ramp, reply_of, Says, Room};
@@ -37,7 +36,7 @@ fn fresh(
     colours: &mut [f32],
 ) -> Reply
     requires { Room places.old colours.old }
-    ensures { Says (fresh_text (stop_ramp kind positions channels) threshold blank) result (new places) (new colours) }
+    ensures { Says (fresh_text (stop_ramp kind positions channels) threshold blank) result places.new colours.new }
 {
     let mut rows = [0.0f32; Sampler::CELLS * Sampler::ROW];
     let mut counts = [0u8; Sampler::CELLS];
@@ -68,7 +67,7 @@ fn edited_list(
     colours: &mut [f32],
 ) -> Reply
     requires { Room places.old colours.old }
-    ensures { Says (edit_text (stop_ramp kind positions channels) edit threshold blank) result (new places) (new colours) }
+    ensures { Says (edit_text (stop_ramp kind positions channels) edit threshold blank) result places.new colours.new }
 {
     let mut rows = [0.0f32; Sampler::CELLS * Sampler::ROW];
     let mut counts = [0u8; Sampler::CELLS];
@@ -114,7 +113,7 @@ pub(crate) fn list_of(
     colours: &mut [f32],
 ) -> Reply
     requires { Room places.old colours.old }
-    ensures { Says (ramp_text (stop_ramp kind positions channels) threshold edited) result (new places) (new colours) }
+    ensures { Says (ramp_text (stop_ramp kind positions channels) threshold edited) result places.new colours.new }
 {
     match edited {
         Edited::Not => fresh(kind, positions, channels, threshold, places, colours),

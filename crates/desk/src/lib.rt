@@ -1,5 +1,6 @@
 // The tool: from the bytes of its input to the bytes that it prints.
-ghost use Rattle.stops.specs.Lent.{old, new};
+#![tactic(auto)]
+
 ghost use Rattle.text.specs.Output.{Puts};
 ghost use Rattle.desk.specs.Tool.{desk_of, Desks, Prints};
 ghost use Rattle.desk.specs.inner.Steps.{Says, Room};
@@ -16,7 +17,7 @@ mod calls;
 pub const MOST_PRINTED: usize = 50029;
 
 // How many bytes are printed, and whether the output holds them.
-#[derive(Drop)]
+#[derive(Clone, Copy)]
 pub enum Desked {
     Printed(usize),
     Short(usize),
@@ -25,7 +26,7 @@ pub enum Desked {
 // What there is to say of the input, and a list of it in what is lent.
 fn reply_to(input: &[u8], places: &mut [f32], colours: &mut [f32]) -> Reply
     requires { Room places.old colours.old }
-    ensures { Says (desk_of (old input)) result (new places) (new colours) }
+    ensures { Says (desk_of input.now) result places.new colours.new }
 {
     let mut positions = [0.0f32; MOST_KEPT];
     let mut channels = [0.0f32; 4 * MOST_KEPT];
@@ -57,7 +58,7 @@ fn reply_to(input: &[u8], places: &mut [f32], colours: &mut [f32]) -> Reply
 
 // What is printed, as far as the output holds it; and how many bytes that is.
 fn answer(input: &[u8], output: &mut [u8]) -> usize
-    ensures { Puts (old output) (new output) 0 (desk_of (old input)) result }
+    ensures { Puts output.old output.new 0 (desk_of input.now) result }
 {
     let mut positions = [0.0f32; ROOM];
     let mut channels = [0.0f32; 4 * ROOM];
@@ -67,7 +68,7 @@ fn answer(input: &[u8], output: &mut [u8]) -> usize
 
 // Writes what the tool prints for the input. An output too short for it is set to zero.
 pub fn desk(input: &[u8], output: &mut [u8]) -> Desked
-    ensures { Desks (old input) (old output) (new output) result }
+    ensures { Desks input.now output.old output.new result }
 {
     let n = answer(input, output);
     if output.len() < n {
@@ -79,7 +80,7 @@ pub fn desk(input: &[u8], output: &mut [u8]) -> Desked
 
 // The same in an output that holds every answer: how many bytes are printed.
 pub fn print(input: &[u8], output: &mut [u8; MOST_PRINTED]) -> usize
-    ensures { Prints (old input) (old output) (new output) result }
+    ensures { Prints input.now output.old output.new result }
 {
     answer(input, output)
 }

@@ -1,17 +1,12 @@
 -- The difference of two clamped colours in units of 2 ^ -149, by its rounded steps (`measured`); and a colour whose difference from another is a number has channels that are (`numbers`). Assumes nothing.
-use mathlib.Core.Path.{◌≡◌, refl, sym, ap, ◌∙◌, subst}
-use mathlib.Core.Bool.{Bool, true, false, cond}
-use Prim.Native.Nat.{ℕ, ◌*◌, ◌^◌, ◌≤◌}
+use Prim.Native.Nat.{◌^◌}
 use lib.Dec.{T}
-use lib.Ieee.{Float, nan, inf, fin, binary32, of_bits, fits, neg, add, sub, sum, mul, div, round, le, lt, is_nan}
-use lib.Ieee.Bits.{of_bits-fits}
-use lib.Ieee.Fits.{add-fits, sub-fits, mul-fits, div-fits, cond-fits}
+use lib.Ieee.{Float, binary32, of_bits, fits, neg, add, sub, sum, mul, div, round, le}
+use lib.Ieee.Fits.{add-fits, sub-fits, mul-fits}
 use lib.Ieee.Scale.{finite}
-use Rattle.float.specs.F32.{◌⊕◌, ◌⊖◌, ◌⊗◌, ◌⊘◌, f0, f1, f2}
-use Rattle.float.specs.Number.{clamp_of}
+use Rattle.float.specs.F32.{◌⊖◌, ◌⊗◌, ◌⊘◌, f0, f1, f2}
 use Rattle.float.specs.Units.{count}
 use Rattle.float.proofs.Order as order
-use Rattle.float.proofs.Clamped.{clamp_low, clamp_high}
 use Rattle.float.proofs.Rounding.{sub_mono}
 use Rattle.float.proofs.UnitSums.{Counted}
 use Rattle.float.proofs.RoundOff.{gap}
@@ -20,9 +15,9 @@ use Rattle.sqrt.specs.Root.{root_of}
 use Rattle.sqrt.proofs.Squared.{root_single, root_squared}
 use Rattle.blend.specs.declared.Rgba.{Rgba}
 use Rattle.blend.proofs.Clear.{Clear, clear_finite, clear_counted}
-use Rattle.difference.specs.Difference.{clamped_of, squares_of, distance_of}
+use Rattle.difference.specs.Difference.{squares_of}
 use Rattle.difference.proofs.Errors.{Squarely, Measured}
-use Rattle.difference.proofs.Sizes.{From0, from0_finite, square_small, Room, Small, most2, most3, most4, two_small, three_small, squares_small, half_mono, root_from0, half_root}
+use Rattle.difference.proofs.Sizes.{From0, from0_finite, square_small, Room, Small, most4, two_small, three_small, squares_small, half_mono, root_from0, half_root}
 
 -- ---- a colour whose channels are from 0 to 1
 pub record ClearColour (c : Rgba) : Type 0 where

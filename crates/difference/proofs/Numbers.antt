@@ -1,7 +1,7 @@
 -- Where the difference of two colours is a number, so are their channels: not-a-number stays through every operation. Assumes nothing.
 use mathlib.Core.Path.{◌≡◌, refl}
-use mathlib.Core.Bool.{true, false, true≢false}
-use lib.Ieee.{Float, nan, inf, fin, binary32, of_bits, neg, add, sub, mul, div, lt, is_nan}
+use mathlib.Core.Bool.{false, true≢false}
+use lib.Ieee.{Float, nan, inf, fin, of_bits, neg, add, sub, mul, div, lt, is_nan}
 use Rattle.float.specs.F32.{◌⊕◌, ◌⊖◌, ◌⊗◌, ◌⊘◌, f2}
 use Rattle.float.specs.Number.{clamp_of}
 use Rattle.sqrt.specs.Root.{root_of}

@@ -2,13 +2,11 @@
 use mathlib.Core.Path.{◌≡◌, refl, sym, subst}
 use mathlib.Core.Bool.{true, false}
 use mathlib.Core.Logic.{inl, inr}
-use Prim.Native.Nat.{ℕ, ◌*◌}
 use native.Mathlib.Nat.{mul-pos}
 use native.Mathlib.Omega.{arith}
 use lib.Dec.{T, lit<}
-use lib.Ieee.{Float, nan, inf, fin, binary32, of_bits, fits, neg, add, sum, mul, round, le, is_nan}
+use lib.Ieee.{Float, nan, inf, fin, binary32, of_bits, fits, neg, add, sum, mul, round, le}
 use lib.Ieee.Bits.{of_bits-fits}
-use lib.Ieee.Fits.{add-fits}
 use lib.Ieee.Positive.{den_pos}
 use lib.Ieee.Scale.{finite}
 use Rattle.float.specs.F32.{◌⊕◌, ◌⊖◌, ◌⊗◌, ◌⊘◌, f0, f2}

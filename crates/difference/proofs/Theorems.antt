@@ -1,15 +1,14 @@
 -- The difference of two clamped colours is a distance but for its rounding: the way over other colours is no shorter (`over_one`, `over_two`); and it is 1 at most (`one_at_most`).
 -- So colours that are far apart stay apart when each is moved a little (`stays_apart`). Assumes nothing.
-use mathlib.Core.Path.{◌≡◌, refl, sym, ap, ◌∙◌, subst}
+use mathlib.Core.Path.{◌≡◌, refl}
 use mathlib.Core.Bool.{Bool, true, false}
-use Prim.Native.Nat.{ℕ, ◌+◌, ◌-◌, ◌*◌, ◌^◌, ◌≤◌, ◌<◌}
-use native.Mathlib.Nat.{le_refl, not-le_of_lt}
+use Prim.Native.Nat.{ℕ, ◌+◌, ◌*◌, ◌^◌, ◌≤◌, ◌<◌}
+use native.Mathlib.Nat.{le_refl}
 use native.Mathlib.Omega.{arith}
 use lib.Dec.{T, lit≤}
-use lib.Ieee.{Float, binary32, of_bits, fits, le, lt, is_nan}
+use lib.Ieee.{Float, binary32, of_bits, fits, le, lt}
 use lib.Ieee.Bits.{of_bits-fits}
 use lib.Ieee.Fits.{div-fits, cond-fits}
-use lib.Ieee.Scale.{finite}
 use Rattle.float.specs.F32.{f0, f1}
 use Rattle.float.specs.Number.{clamp_of}
 use Rattle.float.specs.Units.{count}

@@ -1,4 +1,6 @@
 // How far apart two colours are.
+#![tactic(auto)]
+
 ghost use Rattle.std.specs.Prelude.{◌≡◌};
 ghost use Rattle.std.specs.Float.Ieee.{le};
 ghost use Rattle.difference.specs.Difference.{clamped_of, squares_of, distance_of, exceeds};

@@ -6,8 +6,6 @@ use mathlib.Core.List.{List, [], ◌∷◌, ◌++◌, append_assoc, append-nil}
 use lib.ListN.{length, take, drop, set, length-append, length-drop, length-set}
 use lib.Seq.{sets, length-sets}
 use lib.Ieee.{Float}
-use types.Run.{OneOf}
-use denote.Enum.Declared.{tag_of}
 use Rattle.slices.proofs.Stores.{sets-append}
 use Rattle.blend.specs.Channels.{channels_of, positions_in, channels_in}
 use Rattle.blend.specs.declared.Stop.{Stop}
@@ -24,7 +22,6 @@ use Rattle.entries.specs.inner.Steps.{StepAt, StartAt, BlockAt, ending_of, EndsA
 use Rattle.entries.specs.declared.fields.Recolour.{Recolour}
 use Rattle.entries.specs.declared.fields.Entry.{Entry}
 use Rattle.entries.specs.declared.fields.Entry.TheVariants as entry
-use Rattle.entries.specs.contracts.fields.Entry.{the_type}
 use Rattle.entries.specs.declared.reading.Edited.TheVariants as edited
 use Rattle.entries.specs.declared.reading.Ending.TheVariants as ending
 use Rattle.entries.proofs.Others.{not_threshold, not_stop, not_change}
@@ -76,7 +73,7 @@ module _ (s : List ℕ) (at : ℕ) where
     pub start_some : {x : Float} → e ≡ entry.Threshold x → StartAt s at x next 3
     start_some i = record { within = w.within; few = omega arith; rest = sym (first_rest ∙ ap (λ (d : Entry). if_threshold d (λ x. lines (drop next s)) (lines (drop at s))) i); is = λ k. first_threshold k ∙ ap (λ (d : Entry). if_threshold d (λ x. from_stops k x 3 (lines (drop next s))) (from_stops k default_threshold 2 (lines (drop at s)))) i }
 
-    pub start_other : OneOf (0 ∷ 2 ∷ 3 ∷ 4 ∷ []) (tag_of the_type e) → StartAt s at default_threshold at 2
+    pub start_other : ((y : Float) → e ≡ entry.Threshold y → ⊥) → StartAt s at default_threshold at 2
     start_other o = record { within = omega arith; few = omega arith; rest = sym (first_rest ∙ not_threshold e _ _ o); is = λ k. first_threshold k ∙ not_threshold e _ _ o }
 
 -- ---- the stops
@@ -171,7 +168,7 @@ module _ {s : List ℕ} {from n at : ℕ} {ps ps' cs cs' : List Float} (w : Take
   unfolding stops_of after_stops
   block_done h = block_from (ap stops_of (no_lines s at h)) (ap after_stops (no_lines s at h) ∙ sym (no_lines s at h))
 
-  pub block_other : {next : ℕ} {e : Entry} → at < length s → StepAt s at e next → OneOf (0 ∷ 1 ∷ 3 ∷ 4 ∷ []) (tag_of the_type e) → BlockAt s from n at (change (output_of ps cs) (output_of ps' cs'))
+  pub block_other : {next : ℕ} {e : Entry} → at < length s → StepAt s at e next → ((y : Stop) → e ≡ entry.Stop y → ⊥) → BlockAt s from n at (change (output_of ps cs) (output_of ps' cs'))
   unfolding stops_of after_stops
   block_other {next} {e} h v o =
       let l = first_of (lines (drop at s)) in
@@ -193,7 +190,7 @@ module _ (s : List ℕ) (at line : ℕ) where
         ap (from_edit k x stops line) (opened s at h w)
         ∙ ap (λ (d : Entry). if_change d (λ y. from_end k x stops y (line + 1) (lines (drop next s))) (unread line)) (sym w.is)
 
-    pub ending_other : OneOf (0 ∷ 1 ∷ 2 ∷ 4 ∷ []) (tag_of the_type e) → EndsAs s at line (ending.Unread line)
+    pub ending_other : ((y : Recolour) → e ≡ entry.Change y → ⊥) → EndsAs s at line (ending.Unread line)
     unfolding ending_of
     ending_other o = record { is = λ k x stops. first_edit k x stops ∙ not_change e _ _ o }
 

@@ -9,8 +9,6 @@ use lib.Seq.{sets}
 use lib.Dec.{leb}
 use lib.Ieee.{Float}
 use borrow.Author.Tests.{le-leb, lt-leb}
-use types.Run.{OneOf}
-use denote.Enum.Declared.{tag_of}
 use Rattle.blend.specs.Channels.{positions_in, channels_in}
 use Rattle.blend.specs.declared.Stop.{Stop}
 use Rattle.stops.specs.Lent.{Change, change}
@@ -25,7 +23,6 @@ use Rattle.entries.specs.Input.{Input, unread, input, most_bytes, if_ramp, if_th
 use Rattle.entries.specs.inner.Steps.{StepAt, StartAt, BlockAt, ending_of, EndsAs}
 use Rattle.entries.specs.declared.fields.Entry.{Entry}
 use Rattle.entries.specs.declared.fields.Entry.TheVariants as entry
-use Rattle.entries.specs.contracts.fields.Entry.{the_type}
 use Rattle.entries.specs.declared.reading.Edited.{Edited}
 use Rattle.entries.specs.declared.reading.Ending.{Ending}
 use Rattle.entries.specs.declared.reading.Ending.TheVariants as ending
@@ -66,7 +63,7 @@ module _ (s : List ℕ) (h : 0 < length s) (m : length s ≤ most_bytes) {e : En
   first_stops = rw (le-leb (length s) most_bytes m)
       (ap stops_from (opened s 0 h w) ∙ ap (λ (d : Entry). if_ramp d (λ k. stops_of (after_threshold (lines (drop next s)))) []) (sym w.is))
 
-  pub no_kind : {lent : Output} → OneOf (1 ∷ 2 ∷ 3 ∷ 4 ∷ []) (tag_of the_type e) → Reads s (change lent lent) (asked.Unread 1)
+  pub no_kind : {lent : Output} → ((y : Kind) → e ≡ entry.Ramp y → ⊥) → Reads s (change lent lent) (asked.Unread 1)
   no_kind o = none_read s (first_kind ∙ not_ramp e _ _ o) (first_stops ∙ not_ramp e _ _ o)
 
   module _ {k : Kind} (i : e ≡ entry.Ramp k) {x : Float} {from line : ℕ} (t : StartAt s next x from line) {n at : ℕ} {lent : Change Output} (b : BlockAt s from n at lent) {r : Ending} (z : EndsAs s at (line + n) r) where

@@ -2,7 +2,6 @@
 use Rattle.std.specs.Prelude.{ℕ, ◌+◌, false, cond, List, [], ◌∷◌, length, drop, get_or, leb, eqb, Float}
 use Rattle.std.specs.Float.{nan}
 use Rattle.blend.specs.declared.Rgba.{Rgba}
-use Rattle.blend.specs.declared.Stop.{Stop}
 use Rattle.stops.specs.declared.Kind.TheVariants.{Linear, Smoothstep}
 use Rattle.text.specs.Text.{fields, same, starts}
 use Rattle.rows.specs.Digits.{digits_with}

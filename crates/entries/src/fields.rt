@@ -1,6 +1,5 @@
 // A line of the input: its fields, parted by single tabs, and what it says.
 ghost use Rattle.std.specs.Prelude.{◌≡◌, ◌≤◌, length, drop};
-ghost use Rattle.stops.specs.Lent.{old};
 ghost use Rattle.text.specs.Text.{fields};
 ghost use Rattle.entries.specs.Entries.{entry_of, threshold_entry, stop_entry, edit_entry};
 
@@ -14,14 +13,14 @@ use text::{Class, is_same, span_end, starts_with};
 const INDEX_DIGITS: usize = 18;
 
 // A stop is given a colour.
-#[derive(Drop)]
+#[derive(Clone, Copy)]
 pub struct Recolour {
     pub stop: usize,
     pub colour: Rgba,
 }
 
 // What a line says.
-#[derive(Drop)]
+#[derive(Clone, Copy)]
 pub enum Entry {
     Ramp(Kind),
     Threshold(f32),
@@ -32,7 +31,7 @@ pub enum Entry {
 
 fn threshold_entry(l: &[u8], from: usize) -> Entry
     requires { from ≤ length l.now }
-    ensures { result ≡ threshold_entry (fields (drop from (old l))) }
+    ensures { result ≡ threshold_entry (fields (drop from l.now)) }
 {
     let row = row_at(l, from, Parting::Tabs, Notation::Short);
     let d = row.d;
@@ -44,7 +43,7 @@ fn threshold_entry(l: &[u8], from: usize) -> Entry
 
 fn stop_entry(l: &[u8], from: usize) -> Entry
     requires { from ≤ length l.now }
-    ensures { result ≡ stop_entry (fields (drop from (old l))) }
+    ensures { result ≡ stop_entry (fields (drop from l.now)) }
 {
     let row = row_at(l, from, Parting::Tabs, Notation::Short);
     let d = row.d;
@@ -66,7 +65,7 @@ fn stop_entry(l: &[u8], from: usize) -> Entry
 
 fn edit_entry(l: &[u8], from: usize) -> Entry
     requires { from ≤ length l.now }
-    ensures { result ≡ edit_entry (fields (drop from (old l))) }
+    ensures { result ≡ edit_entry (fields (drop from l.now)) }
 {
     let end = span_end(l, from, Class::NotTab);
     if l.len() <= end {
@@ -98,7 +97,7 @@ fn edit_entry(l: &[u8], from: usize) -> Entry
 
 // What a line says.
 pub(crate) fn entry_of(l: &[u8]) -> Entry
-    ensures { result ≡ entry_of (old l) }
+    ensures { result ≡ entry_of l.now }
 {
     if starts_with(l, b"stop\t") {
         return stop_entry(l, 5);

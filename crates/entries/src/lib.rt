@@ -1,3 +1,5 @@
 // What the tool reads: the lines of its input, and what they ask for.
+#![tactic(auto)]
+
 mod fields;
 pub mod reading;

@@ -1,6 +1,5 @@
 // The input as a whole: the kind, the threshold, the stops, the edit, in this order.
 ghost use Rattle.std.specs.Prelude.{◌*◌, ◌≤◌, length};
-ghost use Rattle.stops.specs.Lent.{old};
 ghost use Rattle.linearize.specs.Lent.{lent_output};
 ghost use Rattle.entries.specs.Input.{most_bytes, Reads};
 ghost use Rattle.entries.specs.inner.Steps.{StepAt, StartAt, BlockAt, EndsAs};
@@ -19,14 +18,14 @@ const MOST_BYTES: usize = 16384;
 pub const MOST_KEPT: usize = 512;
 
 // Whether a stop is given a colour before the list is made.
-#[derive(Drop)]
+#[derive(Clone, Copy)]
 pub enum Edited {
     Not,
     By(Recolour),
 }
 
 // What the input asks for: the list of a ramp of so many stops; or the number of the line that cannot be read.
-#[derive(Drop)]
+#[derive(Clone, Copy)]
 pub enum Asked {
     Unread(usize),
     Ramp {
@@ -38,7 +37,7 @@ pub enum Asked {
 }
 
 // What a line says, and where the next one starts.
-#[derive(Drop)]
+#[derive(Clone, Copy)]
 pub(crate) struct Step {
     pub(crate) entry: Entry,
     pub(crate) next: usize,
@@ -46,7 +45,7 @@ pub(crate) struct Step {
 
 fn step_at(s: &[u8], at: usize) -> Step
     requires { at ≤ length s.now }
-    ensures { StepAt (old s) at result.entry result.next }
+    ensures { StepAt s.now at result.entry result.next }
 {
     let l = line_at(s, at);
     let end = l.end;
@@ -58,7 +57,7 @@ fn step_at(s: &[u8], at: usize) -> Step
 }
 
 // The threshold, and the place and the number of the line after it.
-#[derive(Drop)]
+#[derive(Clone, Copy)]
 pub(crate) struct Start {
     pub(crate) threshold: f32,
     pub(crate) at: usize,
@@ -67,7 +66,7 @@ pub(crate) struct Start {
 
 fn start_at(s: &[u8], at: usize) -> Start
     requires { at ≤ length s.now }
-    ensures { StartAt (old s) at result.threshold result.at result.line }
+    ensures { StartAt s.now at result.threshold result.at result.line }
 {
     if s.len() <= at {
         return Start {
@@ -93,7 +92,7 @@ fn start_at(s: &[u8], at: usize) -> Start
 }
 
 // How many stop lines there are from a place on, and the place after them.
-#[derive(Drop)]
+#[derive(Clone, Copy)]
 pub(crate) struct Block {
     pub(crate) stops: usize,
     pub(crate) at: usize,
@@ -106,7 +105,7 @@ fn stops_at(
     channels: &mut [f32; 4 * MOST_KEPT],
 ) -> Block
     requires { (from ≤ length s.now) × (length s.now ≤ most_bytes) }
-    ensures { BlockAt (old s) from result.stops result.at (lent_output positions channels) }
+    ensures { BlockAt s.now from result.stops result.at (lent_output positions channels) }
 {
     let mut n = 0;
     let mut at = from;
@@ -126,7 +125,7 @@ fn stops_at(
 }
 
 // What follows the stops: an edit or nothing; or the number of the line that is neither.
-#[derive(Drop)]
+#[derive(Clone, Copy)]
 pub(crate) enum Ending {
     Unread(usize),
     Whole(Edited),
@@ -134,7 +133,7 @@ pub(crate) enum Ending {
 
 fn ending_at(s: &[u8], at: usize, line: usize) -> Ending
     requires { (at ≤ length s.now) × (line ≤ 2 * most_bytes) }
-    ensures { EndsAs (old s) at line result }
+    ensures { EndsAs s.now at line result }
 {
     if s.len() <= at {
         return Ending::Whole(Edited::Not);
@@ -156,7 +155,7 @@ pub fn read(
     positions: &mut [f32; MOST_KEPT],
     channels: &mut [f32; 4 * MOST_KEPT],
 ) -> Asked
-    ensures { Reads (old s) (lent_output positions channels) result }
+    ensures { Reads s.now (lent_output positions channels) result }
 {
     if MOST_BYTES < s.len() {
         return Asked::Unread(0);

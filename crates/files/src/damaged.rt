@@ -1,7 +1,8 @@
 // A file cut at every byte, and with every byte changed: how many answers there are of each kind.
-use crate::show::{grey, number, out, read_as};
+use crate::show::{grey, read_as};
 use ggr::Answer;
 use spelling::{append, front};
+use streams::StandardOutput;
 
 fn add(counts: &mut [u64], at: usize, n: u64) {
     if at < counts.len() {
@@ -32,30 +33,30 @@ fn tally(saved: bool, counts: &mut [u64], text: &[u8]) {
     }
 }
 
-fn show_tally(label: &[u8], counts: &[u64; 20]) {
-    out(label);
-    out(b": read ");
-    number(counts[0]);
+fn show_tally(out: &mut StandardOutput, label: &[u8], counts: &[u64; 20]) {
+    out.put(label);
+    out.put(b": read ");
+    out.decimal(counts[0]);
     for i in 1..19 {
         if counts[i] != 0 {
-            out(b", refused ");
-            number(i as u64);
-            out(b" ");
-            number(counts[i]);
+            out.put(b", refused ");
+            out.decimal(i as u64);
+            out.put(b" ");
+            out.decimal(counts[i]);
         }
     }
-    out(b", lines add up to ");
-    number(counts[19]);
-    out(b"\n");
+    out.put(b", lines add up to ");
+    out.decimal(counts[19]);
+    out.put(b"\n");
 }
 
-pub(crate) fn prefixes(saved: bool, text: &[u8]) {
+pub(crate) fn prefixes(out: &mut StandardOutput, saved: bool, text: &[u8]) {
     let mut counts = [0u64; 20];
     for n in 0..text.len() {
         tally(saved, &mut counts, front(text, n));
     }
     tally(saved, &mut counts, text);
-    show_tally(b"every prefix", &counts);
+    show_tally(out, b"every prefix", &counts);
 }
 
 // The byte at i changed to each of a dozen others, and back.
@@ -71,12 +72,12 @@ fn change(saved: bool, counts: &mut [u64], text: &mut [u8], i: usize) {
     }
 }
 
-pub(crate) fn changes(saved: bool, file: &[u8]) {
+pub(crate) fn changes(out: &mut StandardOutput, saved: bool, file: &[u8]) {
     let mut counts = [0u64; 20];
     let mut text = [0u8; 55];
     append(&mut text, 0, file);
     for i in 0..55 {
         change(saved, &mut counts, &mut text, i);
     }
-    show_tally(b"every byte changed to a dozen others", &counts);
+    show_tally(out, b"every byte changed to a dozen others", &counts);
 }

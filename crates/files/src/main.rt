@@ -1,12 +1,15 @@
 // The reader on files of every fault, in pairs where their order is to show. Standard input has a file to a line: what
 // it shows, a tab, the file, spelt in one line. Then come files that are full, long or damaged. Then all of it again, by the
 // rules for what GIMP saves, with files of their faults.
+#![tactic(auto)]
+
 use damaged::{changes, prefixes};
-use libc::STDIN_FILENO;
 use saved::{elsewhere, names, numbers, wide};
 use show::{grey, show, show_with, values};
 use sizes::{full, long, narrow, over};
 use spelling::{decode, front};
+use std::io;
+use streams::{StandardOutput, read_full};
 use text::{Class, line_at, span_end};
 
 mod damaged;
@@ -14,28 +17,29 @@ mod saved;
 mod show;
 mod sizes;
 
-fn row(saved: bool, line: &[u8]) {
+fn row(out: &mut StandardOutput, saved: bool, line: &[u8]) {
     let mut text = [0u8; 256];
     let tab = span_end(line, 0, Class::NotTab);
     if tab < line.len() {
         let n = decode(&mut text, &line[tab + 1..]);
-        show(saved, front(line, tab), front(&text, n));
+        show(out, saved, front(line, tab), front(&text, n));
     }
 }
 
-fn rows(saved: bool, s: &[u8]) {
+fn rows(out: &mut StandardOutput, saved: bool, s: &[u8]) {
     let mut at = 0;
     while at < s.len() {
         let l = line_at(s, at);
         let end = l.end;
-        row(saved, &s[at..end]);
+        row(out, saved, &s[at..end]);
         at = l.next;
     }
 }
 
-fn colours() {
+fn colours(out: &mut StandardOutput) {
     let infinite = grey(1.0 / 0.0);
     show_with(
+        out,
         false,
         b"2 before 10: foreground",
         b"\xc8",
@@ -43,6 +47,7 @@ fn colours() {
         grey(0.75),
     );
     show_with(
+        out,
         false,
         b"2 before 10: background",
         b"\xc8",
@@ -50,6 +55,7 @@ fn colours() {
         infinite,
     );
     show_with(
+        out,
         false,
         b"2, the name with finite colours",
         b"GIMP Gradient\nName: n\n1\n0 .5 1 0 0 0 1 1 1 1 1 0 0\n",
@@ -58,40 +64,45 @@ fn colours() {
     );
 }
 
-fn ends() {
+fn ends(out: &mut StandardOutput) {
     values(
+        out,
         b"own colours",
         b"GIMP Gradient\nName:\n1\n0 .5 1 .1 .2 .3 .4 .5 .6 .7 .8 3 0 0 0",
     );
     values(
+        out,
         b"foreground",
         b"GIMP Gradient\nName:\n1\n0 .5 1 .1 .2 .3 .4 .5 .6 .7 .8 4 0 1 2",
     );
     values(
+        out,
         b"background",
         b"GIMP Gradient\nName:\n1\n-0 .5 +1. .1 .2 .3 .4 .5 .6 .7 .8 5 0 3 4",
     );
 }
 
-fn main() {
+fn main(rt: HostRuntime) -> io::Result<()> {
+    let mut out = StandardOutput::new(rt.stdout());
     let mut input = [0u8; 8192];
-    let got = io::read_full(STDIN_FILENO, &mut input);
-    rows(false, front(&input, got));
-    colours();
-    ends();
-    full();
-    over();
-    narrow(b"room 2 but for one channel, count 1", b"1");
-    narrow(b"room 2 but for one channel, count 2", b"2");
-    long();
+    let got = read_full(&mut rt.stdin(), &mut input)?;
+    rows(&mut out, false, front(&input, got));
+    colours(&mut out);
+    ends(&mut out);
+    full(&mut out);
+    over(&mut out);
+    narrow(&mut out, b"room 2 but for one channel, count 1", b"1");
+    narrow(&mut out, b"room 2 but for one channel, count 2", b"2");
+    long(&mut out);
     let file = b"GIMP Gradient\nName: n\n1\n0 .5 1 0 0 0 1 1 1 1 1 0 0 0 1\n";
-    prefixes(false, file);
-    changes(false, file);
-    rows(true, front(&input, got));
-    names();
-    numbers();
-    elsewhere();
-    wide();
-    prefixes(true, file);
-    changes(true, file);
+    prefixes(&mut out, false, file);
+    changes(&mut out, false, file);
+    rows(&mut out, true, front(&input, got));
+    names(&mut out);
+    numbers(&mut out);
+    elsewhere(&mut out);
+    wide(&mut out);
+    prefixes(&mut out, true, file);
+    changes(&mut out, true, file);
+    out.end()
 }

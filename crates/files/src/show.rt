@@ -1,16 +1,8 @@
 // What reading a file answers, and what it leaves in the lent outputs, shown on one line.
 use blend::Rgba;
 use ggr::Answer;
-use libc::STDOUT_FILENO;
 use spelling::count;
-
-pub(crate) fn out(s: &[u8]) {
-    io::write_all(STDOUT_FILENO, s);
-}
-
-pub(crate) fn number(n: u64) {
-    io::print_decimal(STDOUT_FILENO, n);
-}
+use streams::StandardOutput;
 
 fn wide(x: u8) -> u64 {
     x as u64
@@ -25,17 +17,17 @@ pub(crate) fn grey(x: f32) -> Rgba {
     }
 }
 
-fn say(r: Answer) {
+fn say(out: &mut StandardOutput, r: Answer) {
     match r {
         Answer::Read(n) => {
-            out(b"read ");
-            number(n as u64);
+            out.put(b"read ");
+            out.decimal(n as u64);
         }
         Answer::Refused(refusal, line) => {
-            out(b"refused ");
-            number(wide(refusal));
-            out(b" line ");
-            number(line as u64);
+            out.put(b"refused ");
+            out.decimal(wide(refusal));
+            out.put(b" line ");
+            out.decimal(line as u64);
         }
     }
 }
@@ -76,6 +68,7 @@ fn name_as(saved: bool, text: &[u8]) -> &[u8] {
 
 // What is tried, the answer, and the zeros that the lent outputs then hold.
 pub(crate) fn answer(
+    out: &mut StandardOutput,
     saved: bool,
     label: &[u8],
     text: &[u8],
@@ -88,19 +81,20 @@ pub(crate) fn answer(
     let r = read_as(
         saved, text, foreground, background, positions, channels, codes,
     );
-    out(label);
-    out(b": ");
-    say(r);
-    out(b", zeros ");
-    number(floats(positions, 0.0));
-    out(b" ");
-    number(floats(channels, 0.0));
-    out(b" ");
-    number(count(codes, 0) as u64);
+    out.put(label);
+    out.put(b": ");
+    say(out, r);
+    out.put(b", zeros ");
+    out.decimal(floats(positions, 0.0));
+    out.put(b" ");
+    out.decimal(floats(channels, 0.0));
+    out.put(b" ");
+    out.decimal(count(codes, 0) as u64);
 }
 
 // The answer with room for two segments: 6 positions, 16 channels and 4 codes, each 9 before. Then the name.
 pub(crate) fn show_with(
+    out: &mut StandardOutput,
     saved: bool,
     label: &[u8],
     text: &[u8],
@@ -111,6 +105,7 @@ pub(crate) fn show_with(
     let mut channels = [9.0f32; 16];
     let mut codes = [9u8; 4];
     answer(
+        out,
         saved,
         label,
         text,
@@ -120,18 +115,18 @@ pub(crate) fn show_with(
         &mut channels,
         &mut codes,
     );
-    out(b", name [");
-    out(name_as(saved, text));
-    out(b"]\n");
+    out.put(b", name [");
+    out.put(name_as(saved, text));
+    out.put(b"]\n");
 }
 
-pub(crate) fn show(saved: bool, label: &[u8], text: &[u8]) {
-    show_with(saved, label, text, grey(0.25), grey(0.75));
+pub(crate) fn show(out: &mut StandardOutput, saved: bool, label: &[u8], text: &[u8]) {
+    show_with(out, saved, label, text, grey(0.25), grey(0.75));
 }
 
 // The answer with room for one segment, how many of its channels are the foreground's 0.25, the background's 0.75 and
 // 0, and its codes.
-pub(crate) fn values(label: &[u8], text: &[u8]) {
+pub(crate) fn values(out: &mut StandardOutput, label: &[u8], text: &[u8]) {
     let mut positions = [9.0f32; 3];
     let mut channels = [9.0f32; 8];
     let mut codes = [9u8; 2];
@@ -143,18 +138,18 @@ pub(crate) fn values(label: &[u8], text: &[u8]) {
         &mut channels,
         &mut codes,
     );
-    out(label);
-    out(b": ");
-    say(r);
-    out(b", channels ");
-    number(floats(&channels, 0.25));
-    out(b" ");
-    number(floats(&channels, 0.75));
-    out(b" ");
-    number(floats(&channels, 0.0));
-    out(b", codes ");
-    number(wide(codes[0]));
-    out(b" ");
-    number(wide(codes[1]));
-    out(b"\n");
+    out.put(label);
+    out.put(b": ");
+    say(out, r);
+    out.put(b", channels ");
+    out.decimal(floats(&channels, 0.25));
+    out.put(b" ");
+    out.decimal(floats(&channels, 0.75));
+    out.put(b" ");
+    out.decimal(floats(&channels, 0.0));
+    out.put(b", codes ");
+    out.decimal(wide(codes[0]));
+    out.put(b" ");
+    out.decimal(wide(codes[1]));
+    out.put(b"\n");
 }

@@ -1,6 +1,7 @@
 // Files that are full, one segment too long, or as long as a text may be.
-use crate::show::{answer, grey, out, show};
+use crate::show::{answer, grey, show};
 use spelling::{append, front};
+use streams::StandardOutput;
 
 // A file of n segments, of which all but the first have no length, into buf; its length.
 fn many(buf: &mut [u8], count: &[u8], n: usize) -> usize {
@@ -15,13 +16,14 @@ fn many(buf: &mut [u8], count: &[u8], n: usize) -> usize {
 }
 
 // Lent outputs that are exactly full.
-pub(crate) fn full() {
+pub(crate) fn full(out: &mut StandardOutput) {
     let mut text = [0u8; 8192];
     let n = many(&mut text, b"256", 256);
     let mut positions = [9.0f32; 768];
     let mut channels = [9.0f32; 2048];
     let mut codes = [9u8; 512];
     answer(
+        out,
         false,
         b"256 segments, room 256",
         front(&text, n),
@@ -31,17 +33,18 @@ pub(crate) fn full() {
         &mut channels,
         &mut codes,
     );
-    out(b"\n");
+    out.put(b"\n");
 }
 
 // One segment too many, though there is room.
-pub(crate) fn over() {
+pub(crate) fn over(out: &mut StandardOutput) {
     let mut text = [0u8; 8192];
     let n = many(&mut text, b"257", 257);
     let mut positions = [9.0f32; 771];
     let mut channels = [9.0f32; 2056];
     let mut codes = [9u8; 514];
     answer(
+        out,
         false,
         b"257 segments, room 257",
         front(&text, n),
@@ -51,17 +54,18 @@ pub(crate) fn over() {
         &mut channels,
         &mut codes,
     );
-    out(b"\n");
+    out.put(b"\n");
 }
 
 // Room for two segments but for one channel: that is room for one.
-pub(crate) fn narrow(label: &[u8], count: &[u8]) {
+pub(crate) fn narrow(out: &mut StandardOutput, label: &[u8], count: &[u8]) {
     let mut text = [0u8; 256];
     let n = many(&mut text, count, 2);
     let mut positions = [9.0f32; 6];
     let mut channels = [9.0f32; 15];
     let mut codes = [9u8; 4];
     answer(
+        out,
         false,
         label,
         front(&text, n),
@@ -71,13 +75,13 @@ pub(crate) fn narrow(label: &[u8], count: &[u8]) {
         &mut channels,
         &mut codes,
     );
-    out(b"\n");
+    out.put(b"\n");
 }
 
 // NULs after the last segment are not read, but counted.
-pub(crate) fn long() {
+pub(crate) fn long(out: &mut StandardOutput) {
     let mut text = [0u8; 65537];
     many(&mut text, b"1", 1);
-    show(false, b"65,536 bytes", front(&text, 65536));
-    show(false, b"65,537 bytes", &text);
+    show(out, false, b"65,536 bytes", front(&text, 65536));
+    show(out, false, b"65,537 bytes", &text);
 }

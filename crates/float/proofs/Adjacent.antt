@@ -1,18 +1,17 @@
 -- The f32 just above, and just below, rise with the number. Assumes nothing.
 use mathlib.Core.Path.{◌≡◌, refl, sym, ◌∙◌}
 use mathlib.Core.Bool.{Bool, true, false, cond, ◌&&◌, true≢false}
-use Prim.Native.Nat.{ℕ, zero, suc, ◌+◌, ◌-◌, ◌*◌, ◌≤◌, ◌<◌}
+use Prim.Native.Nat.{ℕ, ◌+◌, ◌-◌, ◌*◌, ◌≤◌, ◌<◌}
 use native.Mathlib.Omega.{arith}
 use borrow.Author.Tests.{ltb-true, ltb-false, eq-eqb}
 use lib.Dec.{T, ltb, eqb}
-use lib.IntN.{ℤ}
-use lib.Ieee.{Float, nan, inf, fin, binary32, up, down, fits, to_bits, of_bits, neg, lt, le, eq, is_nan}
+use lib.Ieee.{Float, nan, inf, fin, binary32, up, down, fits, to_bits, of_bits, neg, lt, le, eq}
 use lib.Ieee.Scale.{finite}
 use Rattle.float.specs.F32.{f0}
 use Rattle.float.specs.Number.{magnitude_of, above_of, below_of}
 use Rattle.float.specs.Units.{plain}
-use Rattle.float.proofs.Order.{as_T, le_trans, lt→le, le_lt_trans, lt-le_trans, not_lt_from_le, le_from_not_lt, le_from_eq, ge_from_eq, le_refl}
-use Rattle.float.proofs.PatternOrder.{at, pattern_le, pattern_back, pattern_under, pattern_mono, number_at}
+use Rattle.float.proofs.Order.{as_T, le_trans, lt→le, not_lt_from_le, le_from_eq, ge_from_eq}
+use Rattle.float.proofs.PatternOrder.{at, pattern_le, pattern_back, pattern_under, pattern_mono}
 use Rattle.float.proofs.SignedRound.{neg-le}
 use Rattle.float.proofs.Signs.{fits_signed}
 

@@ -5,7 +5,7 @@ use Prim.Native.Nat.{ℕ, ◌+◌, ◌-◌, ◌*◌, ◌%◌, ◌≤◌, ◌<◌
 use native.Mathlib.Decide.{dec_le}
 use native.Mathlib.Omega.{arith}
 use borrow.Author.Tests.{ltb-true}
-use lib.Dec.{T, ltb}
+use lib.Dec.{T}
 use lib.Ieee.{Float, nan, inf, fin, binary32, up, down, fits, to_bits, of_bits, neg, div, lt, eq, is_nan, nan_bits}
 use lib.Ieee.Bits.{to_bits-lt, is_true}
 use Rattle.float.specs.F32.{f0}

@@ -1,12 +1,10 @@
 -- How far off a difference, a sum, a product and a half of f32 may be, in units of 2 ^ -149 (`count`). Assumes nothing.
 use mathlib.Core.Path.{◌≡◌, refl, sym, ap, ap₂, ◌∙◌, subst}
-use mathlib.Core.Bool.{Bool, true, false}
-use Prim.Native.Nat.{ℕ, zero, suc, ◌+◌, ◌-◌, ◌*◌, ◌^◌, ◌≤◌, ◌<◌}
+use mathlib.Core.Bool.{true, false}
+use Prim.Native.Nat.{ℕ, zero, suc, ◌+◌, ◌-◌, ◌*◌, ◌^◌, ◌<◌}
 use native.Mathlib.Nat.{mul-pos, mul-one, mul_comm, mul-sub, add-mul, zero-mul, lt_irrefl, zero-lt-suc, mul-mul-mul_comm, mul_assoc}
 use native.Mathlib.Omega.{arith}
 use lib.Dec.{T, lit<}
-use lib.IntN.{ℤ}
-use lib.Pow.{pow_pos}
 use lib.Ieee.{Float, nan, inf, fin, binary32, up, down, unlike, fits, round, mul, le}
 use lib.Ieee.Fits.{up_pos, down_pos}
 use lib.Ieee.Positive.{den, den_pos}

@@ -1,17 +1,17 @@
 -- How far off rounding may be: by half a unit of 2 ^ -149, or by one part in 2 ^ 24 (`rounds_off`). Assumes nothing.
-use mathlib.Core.Path.{◌≡◌, refl, sym, ap, ◌∙◌, subst}
+use mathlib.Core.Path.{◌≡◌, sym, ap, ◌∙◌, subst}
 use mathlib.Core.Bool.{Bool, true, false, cond}
 use mathlib.Core.Logic.{◌⊎◌, inl, inr}
-use Prim.Native.Nat.{ℕ, zero, suc, ◌+◌, ◌-◌, ◌*◌, ◌/◌, ◌%◌, ◌^◌, ◌≤◌, ◌<◌, compare}
-use native.Mathlib.Nat.{le_trans, le_of_eq, lt_of_not-le, mul-pos, mul_assoc, mul-le-mul_right, le_of_mul-le-mul_right, div-add-mod', mod-lt, le-div_iff_mul-le}
+use Prim.Native.Nat.{ℕ, zero, suc, ◌+◌, ◌-◌, ◌*◌, ◌/◌, ◌%◌, ◌^◌, ◌≤◌, ◌<◌}
+use native.Mathlib.Nat.{le_trans, le_of_eq, lt_of_not-le, mul-pos, mul-le-mul_right, le_of_mul-le-mul_right, div-add-mod', mod-lt, le-div_iff_mul-le}
 use native.Mathlib.Decide.{dec_le}
 use native.Mathlib.Omega.{arith}
 use lib.Dec.{T, ltb, ltb→lt}
 use lib.Pow.{pow-add, pow_pos}
-use lib.Ieee.{Float, nan, inf, fin, binary32, size, nearest, odd, units, round}
+use lib.Ieee.{Float, inf, binary32, size, odd, units, round}
 use lib.Ieee.Digits.{size_reaches}
 use lib.Ieee.Fits.{round_is}
-use lib.Ieee.Exact.{HasValue, units_val}
+use lib.Ieee.Exact.{units_val}
 use lib.Ieee.Nearest.{closest}
 use lib.Ieee.Order.{drop, kept}
 use lib.Ieee.Scale.{finite}

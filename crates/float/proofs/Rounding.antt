@@ -1,6 +1,6 @@
 -- Sums, differences and products by what is not negative keep the order: each is a signed fraction, and rounding keeps the order of these. Assumes nothing.
 use mathlib.Core.Path.{◌≡◌, refl, ◌∙◌}
-use Prim.Native.Nat.{ℕ, ◌+◌, ◌-◌, ◌*◌, ◌≤◌, ◌<◌}
+use Prim.Native.Nat.{ℕ, ◌+◌, ◌*◌, ◌≤◌, ◌<◌}
 use native.Mathlib.Nat.{le_trans as le_trans_ℕ, le_of_eq, zero-mul, mul-zero, add-zero, mul-mul-mul_comm, mul-pos, mul_assoc, mul_comm, mul_left_comm, add-mul, mul-le-mul, mul-le-mul_right}
 use native.Mathlib.Omega.{arith}
 use mathlib.Core.Bool.{true, false}

@@ -4,9 +4,9 @@ use native.Mathlib.Nat.{sub-zero}
 use native.Mathlib.Omega.{arith}
 use mathlib.Core.Path.{◌≡◌, refl, sym, ap, ap₂, ◌∙◌}
 use mathlib.Core.Bool.{Bool, true, false, ◌&&◌}
-use mathlib.Core.List.{List, [], ◌∷◌}
+use mathlib.Core.List.{List, []}
 use lib.ListN.{length, take, drop}
-use Rattle.text.specs.Text.{every, ascii, lines, first_of, rest_of}
+use Rattle.text.specs.Text.{every, ascii, lines}
 use Rattle.text.specs.Places.{LineAt}
 use Rattle.text.proofs.Lines.{no_lines, some_lines}
 use Rattle.ggr.specs.File.{ascii_lines}

@@ -1,16 +1,16 @@
 -- What is read by document 01's rules is read by those for what GIMP saves, and the same. Assumes nothing.
-use Prim.Native.Nat.{ℕ, zero, suc, ◌≤◌}
+use Prim.Native.Nat.{ℕ, zero, suc}
 use native.Mathlib.Omega.{arith}
 use mathlib.Core.Path.{◌≡◌, refl, sym, ap, ap₂, ◌∙◌}
 use mathlib.Core.Bool.{Bool, true, false, cond, ◌&&◌}
 use mathlib.Core.List.{List, [], ◌∷◌}
 use lib.ListN.{length}
 use lib.Dec.{leb, eqb}
-use lib.Ieee.{Float, eq}
+use lib.Ieee.{Float}
 use borrow.Author.Tests.{le-leb, leb-true}
 use Rattle.refusals.specs.Refusals.{not_a_text, torn}
 use Rattle.refusals.specs.Limits.{most_segments, most_text}
-use Rattle.float.specs.F32.{f0, f1}
+use Rattle.float.specs.F32.{f0}
 use Rattle.float.proofs.Flags.{both_l, both_r}
 use Rattle.blend.specs.declared.Rgba.{Rgba}
 use Rattle.stops.specs.Lent.{Change}
@@ -28,7 +28,7 @@ use Rattle.header.specs.Head.{Head, counts, fails, or_empty, text_lines, head_of
 use Rattle.header.proofs.Fits.{head_rest}
 use Rattle.ggr.specs.declared.Answer.{Answer}
 use Rattle.ggr.specs.declared.Answer.TheVariants.{Read}
-use Rattle.ggr.specs.File.{FileRead, found, refused, joins, joined_to, before, add_segment, segment_lines, good_bytes, fit_text, ascii_lines, fit_lines, from_head, file_of, answer_of, store_left, room_in, Reading, transparent, when_read, name_of}
+use Rattle.ggr.specs.File.{FileRead, found, refused, joins, joined_to, before, add_segment, segment_lines, fit_text, ascii_lines, from_head, file_of, answer_of, store_left, room_in, Reading, transparent, when_read, name_of}
 use Rattle.ggr.proofs.Given.{no_file, passed_test, found_by}
 
 -- ---- the lines of an ASCII text are ASCII

@@ -1,5 +1,7 @@
 // Reads GIMP gradient files: the segments, written into lent slices, and the name. Two sets of rules: document 01's, and those
 // for what GIMP itself saves.
+#![tactic(auto)]
+
 ghost use Rattle.std.specs.Prelude.{◌≡◌};
 ghost use Rattle.segment.specs.declared.Rules.TheVariants.{Published, Saved};
 ghost use Rattle.segment.specs.Store.{lent_store};
@@ -15,7 +17,7 @@ mod fill;
 mod fit;
 
 // How many segments were read, or document 01's number of the refusal and its line, 0 if none.
-#[derive(Drop)]
+#[derive(Clone, Copy)]
 pub enum Answer {
     Read(usize),
     Refused(u8, usize),

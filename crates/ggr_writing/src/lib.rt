@@ -1,7 +1,9 @@
 // Writes stop lists as GIMP gradient files, which read back as the segments written.
+#![tactic(auto)]
+
 ghost use Rattle.std.specs.Prelude.{◌≡◌, ◌-◌, true};
 ghost use Rattle.std.specs.Float.{inf};
-ghost use Rattle.stops.specs.Lent.{old, new, change};
+ghost use Rattle.stops.specs.Lent.{change};
 ghost use Rattle.ggr_writing.specs.File.{shaped_list, rises, segment_between, writable_colour, writable_segment, writable_from};
 ghost use Rattle.ggr_writing.specs.File.{can_write, Writes};
 
@@ -13,7 +15,7 @@ use slices::zero_bytes;
 mod lines;
 
 // How many bytes were written, or document 01's number of the refusal.
-#[derive(Drop)]
+#[derive(Clone, Copy)]
 pub enum WriteAnswer {
     Written(usize),
     Refused(u8),
@@ -22,7 +24,7 @@ pub enum WriteAnswer {
 // Writes a list of stops, n positions and 4n channels, as a GIMP file into `text`. 19 and 7 set the whole of it to zero;
 // 1 and 3 leave it as it was, and so does a success what lies past the file.
 pub fn write(positions: &[f32], channels: &[f32], text: &mut [u8]) -> WriteAnswer
-    ensures { Writes (old positions) (old channels) (change (old text) (new text)) result }
+    ensures { Writes positions.now channels.now (change text.old text.new) result }
 {
     if !is_shaped(positions.len(), channels.len()) {
         return WriteAnswer::Refused(MISSHAPEN);
@@ -57,7 +59,7 @@ fn is_shaped(n: usize, m: usize) -> bool
 
 // No position is below the one before; a NaN is below nothing, and nothing is below a NaN.
 fn never_falls(positions: &[f32]) -> bool
-    ensures { result ≡ rises (inf true) (old positions) }
+    ensures { result ≡ rises (inf true) positions.now }
 {
     let mut prev = -1.0f32 / 0.0;
     let mut i = 0;
@@ -74,7 +76,7 @@ fn never_falls(positions: &[f32]) -> bool
 
 // It starts at 0 and ends at 1, and every number of every segment can be written.
 fn can_write(positions: &[f32], channels: &[f32]) -> bool
-    ensures { result ≡ can_write (old positions) (old channels) }
+    ensures { result ≡ can_write positions.now channels.now }
 {
     let n = stops::less(positions.len());
     if stops::item(positions, 0) != 0.0 {
@@ -88,7 +90,7 @@ fn can_write(positions: &[f32], channels: &[f32]) -> bool
 
 // Of the first n segments.
 fn are_writable(n: usize, positions: &[f32], channels: &[f32]) -> bool
-    ensures { result ≡ writable_from n 0 (old positions) (old channels) }
+    ensures { result ≡ writable_from n 0 positions.now channels.now }
 {
     let mut i = 0;
     while i < n {

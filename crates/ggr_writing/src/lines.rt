@@ -1,6 +1,5 @@
 // The bytes of a file. One past the end of the output is dropped, so that a file too long for it is measured all the same.
 ghost use Rattle.std.specs.Prelude.{◌≤◌, length};
-ghost use Rattle.stops.specs.Lent.{old, new};
 ghost use Rattle.refusals.specs.Limits.{most_written};
 ghost use Rattle.text.specs.Output.{PutsFrom, Puts};
 ghost use Rattle.ggr_writing.specs.File.{spaced_number, spaced_colour, segment_text, segment_between, segments_from, segments_text, segments_of};
@@ -11,7 +10,7 @@ use text::output::{DECIMALS, put, put_all, put_decimal};
 
 // A number and a space.
 fn put_field(out: &mut [u8], at: usize, x: f32) -> usize
-    ensures { PutsFrom (old out) (new out) at (spaced_number x) result }
+    ensures { PutsFrom out.old out.new at (spaced_number x) result }
 {
     let t = numerals::write(x);
     let bytes = t.bytes;
@@ -21,7 +20,7 @@ fn put_field(out: &mut [u8], at: usize, x: f32) -> usize
 }
 
 fn put_colour(out: &mut [u8], at: usize, c: Rgba) -> usize
-    ensures { PutsFrom (old out) (new out) at (spaced_colour c) result }
+    ensures { PutsFrom out.old out.new at (spaced_colour c) result }
 {
     let r = put_field(out, at, c.r);
     let g = put_field(out, r, c.g);
@@ -31,7 +30,7 @@ fn put_colour(out: &mut [u8], at: usize, c: Rgba) -> usize
 
 // The line of the segment between two stops.
 fn put_segment(out: &mut [u8], at: usize, a: Stop, b: Stop) -> usize
-    ensures { PutsFrom (old out) (new out) at (segment_text (segment_between a b)) result }
+    ensures { PutsFrom out.old out.new at (segment_text (segment_between a b)) result }
 {
     let left = put_field(out, at, a.position);
     let middle = put_field(out, left, (a.position + b.position) / 2.0);
@@ -43,7 +42,7 @@ fn put_segment(out: &mut [u8], at: usize, a: Stop, b: Stop) -> usize
 
 // The lines of the first n segments.
 fn put_rows(out: &mut [u8], at: usize, n: usize, positions: &[f32], channels: &[f32]) -> usize
-    ensures { PutsFrom (old out) (new out) at (segments_text (segments_from n 0 (old positions) (old channels))) result }
+    ensures { PutsFrom out.old out.new at (segments_text (segments_from n 0 positions.now channels.now)) result }
 {
     let mut next = at;
     let mut i = 0;
@@ -59,7 +58,7 @@ fn put_rows(out: &mut [u8], at: usize, n: usize, positions: &[f32], channels: &[
 // A file, as far as the output goes; how long it is.
 pub(crate) fn put_file(out: &mut [u8], positions: &[f32], channels: &[f32]) -> usize
     requires { length positions.now ≤ most_written }
-    ensures { Puts (old out) (new out) 0 (file_text (segments_of (old positions) (old channels))) result }
+    ensures { Puts out.old out.new 0 (file_text (segments_of positions.now channels.now)) result }
 {
     let n = stops::less(positions.len());
     let head = put_all(out, 0, b"GIMP Gradient\nName: flattened\n");

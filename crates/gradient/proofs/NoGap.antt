@@ -7,7 +7,7 @@ use native.Mathlib.Omega.{arith}
 use native.Mathlib.Nat.{lt_of_not-le}
 use native.Mathlib.Decide.{dec_le}
 use lib.Dec.{T, ltb}
-use lib.Ieee.{Float, le, lt, eq}
+use lib.Ieee.{Float, le, lt}
 use lib.Ieee.Bits.{is_true}
 use borrow.Author.Tests.{ltb-true, ltb-false}
 use Rattle.float.proofs.Order.{le_trans, lt→le, not_lt_from_le, as_T, le_from_eq, ge_from_eq}

@@ -8,9 +8,8 @@ use lib.Dec.{leb, eqb}
 use lib.ListN.{length}
 use lib.Ieee.{Float}
 use borrow.Author.Tests.{eqb-true}
-use Rattle.refusals.specs.Refusals.{misshapen, not_finite}
+use Rattle.refusals.specs.Refusals.{misshapen}
 use Rattle.float.proofs.Flags.{both_l, both_r}
-use Rattle.blend.specs.Finite.{all_finite}
 use Rattle.stops.specs.Lent.{ramp_of}
 use Rattle.stops.specs.declared.Kind.TheVariants.{Gimp, GimpSaved}
 use Rattle.stops.specs.declared.Checked.{Checked}

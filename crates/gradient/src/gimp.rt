@@ -34,7 +34,7 @@ pub const HSV_CLOCKWISE: u8 = 2;
 
 // A segment: its ends and the point between them where the blend is half done, the colours at the ends, and the codes of
 // how one turns into the other.
-#[derive(Drop)]
+#[derive(Clone, Copy)]
 pub struct Segment {
     pub left: f32,
     pub middle: f32,

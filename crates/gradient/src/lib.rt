@@ -1,4 +1,6 @@
 // Colour ramps lent as slices: their check, and their colour at t.
+#![tactic(auto)]
+
 ghost use Rattle.std.specs.Prelude.{◌≡◌};
 ghost use Rattle.stops.specs.Lent.{lent_ramp};
 ghost use Rattle.stops.specs.Answers.{Checks};

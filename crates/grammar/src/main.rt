@@ -1,105 +1,102 @@
 // The tool on texts of every fault. Standard input has a text to a line: what it shows, a tab, the text, spelt in one
 // line. Then come texts that are long, and outputs that are short. Of each it writes what it shows, then what the tool
 // prints, of a long answer only its length and two sums.
+#![tactic(auto)]
+
 use desk::Desked;
-use libc::{STDIN_FILENO, STDOUT_FILENO};
 use spelling::{append, count, decode, front};
+use std::io;
+use streams::{StandardOutput, read_full};
 use text::{Class, line_at, span_end};
-
-fn out(s: &[u8]) {
-    io::write_all(STDOUT_FILENO, s);
-}
-
-fn number(n: u64) {
-    io::print_decimal(STDOUT_FILENO, n);
-}
 
 fn wide(x: u8) -> u64 {
     x as u64
 }
 
 // The bytes added up, and the sums on the way added up, which tells their order too.
-fn digest(s: &[u8]) {
+fn digest(out: &mut StandardOutput, s: &[u8]) {
     let mut sum: u64 = 0;
     let mut sums: u64 = 0;
     for i in 0..s.len() {
         sum = std::num::wrapping_add_u64(sum, wide(s[i]));
         sums = std::num::wrapping_add_u64(sums, sum);
     }
-    number(s.len() as u64);
-    out(b" bytes ");
-    number(sum);
-    out(b" ");
-    number(sums);
-    out(b"\n");
+    out.decimal(s.len() as u64);
+    out.put(b" bytes ");
+    out.decimal(sum);
+    out.put(b" ");
+    out.decimal(sums);
+    out.put(b"\n");
 }
 
-fn show(s: &[u8]) {
+fn show(out: &mut StandardOutput, s: &[u8]) {
     if s.len() <= 512 {
-        out(s);
+        out.put(s);
         return;
     }
-    digest(s);
+    digest(out, s);
 }
 
-fn run(label: &[u8], text: &[u8]) {
+fn run(out: &mut StandardOutput, label: &[u8], text: &[u8]) {
     let mut output = [0u8; desk::MOST_PRINTED];
-    out(b"# ");
-    out(label);
-    out(b"\n");
+    out.put(b"# ");
+    out.put(label);
+    out.put(b"\n");
     match desk::desk(text, &mut output) {
-        Desked::Printed(n) => show(front(&output, n)),
+        Desked::Printed(n) => show(out, front(&output, n)),
         Desked::Short(n) => {
-            out(b"short ");
-            number(n as u64);
-            out(b"\n");
+            out.put(b"short ");
+            out.decimal(n as u64);
+            out.put(b"\n");
         }
     }
 }
 
-fn row(line: &[u8]) {
+fn row(out: &mut StandardOutput, line: &[u8]) {
     let mut text = [0u8; 4096];
     let tab = span_end(line, 0, Class::NotTab);
     if tab < line.len() {
         let n = decode(&mut text, &line[tab + 1..]);
-        run(front(line, tab), front(&text, n));
+        run(out, front(line, tab), front(&text, n));
     }
 }
 
-fn rows(s: &[u8]) {
+fn rows(out: &mut StandardOutput, s: &[u8]) {
     let mut at = 0;
     while at < s.len() {
         let l = line_at(s, at);
         let end = l.end;
-        row(&s[at..end]);
+        row(out, &s[at..end]);
         at = l.next;
     }
 }
 
 // A text that starts with head, goes on with n times the line, and ends with tail.
-fn long(label: &[u8], head: &[u8], line: &[u8], n: usize, tail: &[u8]) {
+fn long(out: &mut StandardOutput, label: &[u8], head: &[u8], line: &[u8], n: usize, tail: &[u8]) {
     let mut text = [0u8; 16400];
     let mut at = append(&mut text, 0, head);
     for _ in 0..n {
         at = append(&mut text, at, line);
     }
     at = append(&mut text, at, tail);
-    run(label, front(&text, at));
+    run(out, label, front(&text, at));
 }
 
 // A stop has 15 bytes, so that 1,090 of them after 34 bytes make 16,384.
-fn longs() {
+fn longs(out: &mut StandardOutput) {
     let stop = b"stop\t0\t0\t0\t0\t1\n";
-    long(b"512 stops", b"kind\tlinear\n", stop, 512, b"");
+    long(out, b"512 stops", b"kind\tlinear\n", stop, 512, b"");
     long(
+        out,
         b"512 stops and an edit of the last",
         b"kind\tlinear\n",
         stop,
         512,
         b"edit\t511\t1\t1\t1\t1\n",
     );
-    long(b"513 stops", b"kind\tlinear\n", stop, 513, b"");
+    long(out, b"513 stops", b"kind\tlinear\n", stop, 513, b"");
     long(
+        out,
         b"513 stops, unread after them",
         b"kind\tlinear\n",
         stop,
@@ -107,6 +104,7 @@ fn longs() {
         b"stop\n",
     );
     long(
+        out,
         b"16,384 bytes",
         b"kind\tlinear\nthreshold\t0.007000000\n",
         stop,
@@ -114,6 +112,7 @@ fn longs() {
         b"",
     );
     long(
+        out,
         b"16,385 bytes",
         b"kind\tlinear\nthreshold\t0.0070000000\n",
         stop,
@@ -121,6 +120,7 @@ fn longs() {
         b"",
     );
     long(
+        out,
         b"16,384 bytes, the last an LF too many",
         b"kind\tlinear\nthreshold\t0.00700000\n",
         stop,
@@ -130,42 +130,44 @@ fn longs() {
 }
 
 // Black to white into an output of sevens: the answer, and the zeros and the sevens that the output then holds.
-fn hold(output: &mut [u8]) {
+fn hold(out: &mut StandardOutput, output: &mut [u8]) {
     let text = b"kind\tlinear\nstop\t0\t0\t0\t0\t1\nstop\t1\t1\t1\t1\t1\n";
-    out(b"# room ");
-    number(output.len() as u64);
+    out.put(b"# room ");
+    out.decimal(output.len() as u64);
     match desk::desk(text, output) {
         Desked::Printed(n) => {
-            out(b"\nprinted ");
-            number(n as u64);
+            out.put(b"\nprinted ");
+            out.decimal(n as u64);
         }
         Desked::Short(n) => {
-            out(b"\nshort ");
-            number(n as u64);
+            out.put(b"\nshort ");
+            out.decimal(n as u64);
         }
     }
-    out(b", zeros ");
-    number(count(output, 0) as u64);
-    out(b", sevens ");
-    number(count(output, 7) as u64);
-    out(b"\n");
+    out.put(b", zeros ");
+    out.decimal(count(output, 0) as u64);
+    out.put(b", sevens ");
+    out.decimal(count(output, 7) as u64);
+    out.put(b"\n");
 }
 
-fn holds() {
+fn holds(out: &mut StandardOutput) {
     let mut none = [7u8; 0];
     let mut short = [7u8; 123];
     let mut full = [7u8; 124];
     let mut wide = [7u8; 126];
-    hold(&mut none);
-    hold(&mut short);
-    hold(&mut full);
-    hold(&mut wide);
+    hold(out, &mut none);
+    hold(out, &mut short);
+    hold(out, &mut full);
+    hold(out, &mut wide);
 }
 
-fn main() {
-    let mut input = io::large_buffer();
-    let got = io::read_full(STDIN_FILENO, &mut input);
-    rows(front(&input, got));
-    longs();
-    holds();
+fn main(rt: HostRuntime) -> io::Result<()> {
+    let mut out = StandardOutput::new(rt.stdout());
+    let mut input = [0u8; 65536];
+    let got = read_full(&mut rt.stdin(), &mut input)?;
+    rows(&mut out, front(&input, got));
+    longs(&mut out);
+    holds(&mut out);
+    out.end()
 }

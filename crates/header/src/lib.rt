@@ -1,4 +1,6 @@
 // The three header lines of a GIMP file: how many segments, or a refusal; and the name.
+#![tactic(auto)]
+
 ghost use Rattle.std.specs.Prelude.{◌≡◌};
 ghost use Rattle.header.specs.Head.{saved_head, name_in};
 ghost use Rattle.header.specs.Leads.{Leads};
@@ -10,7 +12,7 @@ use text::utf8::is_utf8;
 use text::{is_ascii, is_same, line_at, marks, starts_with, trimmed};
 
 // Where the header leads: to so many segments, whose first line starts at a place, or to a refusal with its line.
-#[derive(Drop)]
+#[derive(Clone, Copy)]
 pub enum Lead {
     Counted(usize, usize),
     Refuse(u8, usize),

@@ -1,5 +1,7 @@
 // GIMP's two HSV colourings: a colour as hue, saturation, value; the ways round the hue circle; and back. The steps are those
 // of docs/HSV.md, in its order.
+#![tactic(auto)]
+
 ghost use Rattle.std.specs.Prelude.{◌≡◌};
 ghost use Rattle.hsv.specs.Mix.{there_and_back, mixed_at, counter_clockwise, clockwise};
 
@@ -10,10 +12,11 @@ use to_rgb::rgba_of;
 
 mod circle;
 mod from_rgb;
+mod remainder;
 mod to_rgb;
 
 // Hue in degrees, saturation, value, alpha.
-#[derive(Drop)]
+#[derive(Clone, Copy)]
 pub struct Hsva {
     pub h: f32,
     pub s: f32,

@@ -3,13 +3,14 @@ ghost use Rattle.std.specs.Prelude.{◌≡◌};
 ghost use Rattle.hsv.specs.Back.{angle_of, into_six, lightness_of, saturation_of, upper_of, channel_at, channel_of, from_lightness, rgba_of};
 
 use crate::Hsva;
+use crate::remainder::remainder;
 use blend::Rgba;
 
 // An angle taken into 0..360.
 fn angle(h: f32) -> f32
     ensures { result ≡ angle_of h }
 {
-    let rest = h % 360.0;
+    let rest = remainder(h, 360);
     if rest < 0.0 {
         return rest + 360.0;
     }
@@ -20,7 +21,7 @@ fn angle(h: f32) -> f32
 fn into_six(x: f32) -> f32
     ensures { result ≡ into_six x }
 {
-    (x % 6.0 + 6.0) % 6.0
+    remainder(remainder(x, 6) + 6.0, 6)
 }
 
 fn lightness(s: f32, v: f32) -> f32

@@ -1,11 +1,9 @@
 -- The answers, from what the functions within promise. Assumes nothing.
 use mathlib.Core.Path.{◌≡◌, sym, ap, ◌∙◌}
 use mathlib.Core.Bool.{Bool, true, false, cond}
-use mathlib.Core.List.{List, [], ◌∷◌}
+use mathlib.Core.List.{List}
 use Prim.Native.Nat.{ℕ, ◌+◌, ◌-◌, ◌*◌, ◌≤◌, ◌<◌}
 use native.Mathlib.Omega.{arith}
-use types.Run.{OneOf}
-use denote.Enum.Declared.{tag_of}
 use lib.ListN.{length, get_or}
 use lib.Ieee.{Float, nan, le}
 use Rattle.blend.specs.declared.Rgba.{Rgba}
@@ -32,8 +30,7 @@ use Rattle.judge.specs.Promises.{Judges}
 use Rattle.judge.proofs.Listing.{offered_any, offered_colour}
 use Rattle.judge.proofs.Walking.{begun, stops_at, goes_past, all_past, all_number}
 use Rattle.judge.proofs.Sampled.{fresh_points}
-use Rattle.judge.specs.contracts.Verdict.{the_type}
-use Rattle.judge.proofs.Shaping.{other_than_yes, shape_number, Shaped, shape_yes, yes_shape, shape_no}
+use Rattle.judge.proofs.Shaping.{shape_number, Shaped, shape_yes, yes_shape, shape_no}
 
 -- ---- one point
 pub close_is : (ramp : Ramp) (offer : Offer) (threshold t : Float) {d : Float} {x y : Rgba} → x ≡ any_colour ramp t
@@ -112,9 +109,9 @@ module _ (ramp : Ramp) (asked : Float) (offer : Offer) {lo hi : Float} {v : Verd
   unfolding list_verdict
   list_coloured y f = f ∙ sym (yes_shape (min_of ramp) (max_of ramp) offer (points_verdict ramp asked offer) (list_shaped y))
 
-  pub list_misshapen : OneOf (1 ∷ 2 ∷ 3 ∷ 4 ∷ 5 ∷ 6 ∷ []) (tag_of the_type v) → v ≡ list_verdict ramp asked offer
+  pub list_misshapen : (v ≡ Yes → ⊥) → v ≡ list_verdict ramp asked offer
   unfolding list_verdict
-  list_misshapen o = at_ends ∙ shape_no (min_of ramp) (max_of ramp) offer (points_verdict ramp asked offer) (λ y. other_than_yes v o (at_ends ∙ sym y))
+  list_misshapen never = at_ends ∙ shape_no (min_of ramp) (max_of ramp) offer (points_verdict ramp asked offer) (λ y. never (at_ends ∙ sym y))
 
 -- ---- the call
 module _ (ramp : Ramp) (asked : Float) (offer : Offer) where

@@ -1,11 +1,9 @@
 -- The verdict on a list's shape: test by test, and when there is nothing wrong with it. Assumes nothing.
 use mathlib.Core.Path.{◌≡◌, refl, sym, ◌∙◌}
 use mathlib.Core.Bool.{Bool, true, false, not, cond}
-use mathlib.Core.List.{List, [], ◌∷◌}
+use mathlib.Core.List.{List}
 use Prim.Native.Nat.{ℕ, ◌-◌, ◌≤◌, ◌<◌}
 use native.Mathlib.Omega.{arith}
-use types.Run.{OneOf, miss}
-use denote.Enum.Declared.{tag_of}
 use lib.Dec.{ltb}
 use lib.ListN.{length}
 use lib.Ieee.{Float, eq, ne}
@@ -16,7 +14,6 @@ use Rattle.judge.specs.Verdicts.{number_of_verdict, ends_verdict, shape_verdict}
 use Rattle.judge.specs.inner.Steps.{Sound}
 use Rattle.judge.specs.declared.Verdict.{Verdict}
 use Rattle.judge.specs.declared.Verdict.TheVariants.{Yes, WrongLength, BadStop, WrongFirst, WrongLast}
-use Rattle.judge.specs.contracts.Verdict.{the_type}
 use Rattle.judge.proofs.Listing.{sound}
 use Rattle.judge.proofs.Walking.{pick_number}
 
@@ -51,10 +48,6 @@ no_first e = let z : ◌≡◌ {A = ℕ} 0 1 = cc in omega arith
 
 no_last : WrongLast ≡ Yes → ⊥
 no_last e = let z : ◌≡◌ {A = ℕ} 0 1 = cc in omega arith
-
--- a verdict of another form, by its tag
-pub other_than_yes : (v : Verdict) → OneOf (1 ∷ 2 ∷ 3 ∷ 4 ∷ 5 ∷ 6 ∷ []) (tag_of the_type v) → v ≡ Yes → ⊥
-other_than_yes v o e = miss (1 ∷ 2 ∷ 3 ∷ 4 ∷ 5 ∷ 6 ∷ []) 0 tt (rw e at o)
 
 module _ (lo hi : Float) (offer : Offer) where
   abbrev ps : List Float

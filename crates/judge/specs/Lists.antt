@@ -2,7 +2,7 @@
 use Rattle.std.specs.Prelude.{ℕ, zero, suc, ◌-◌, ◌*◌, Bool, not, cond, ◌&&◌, List, [], leb, eqb, length, Float}
 use Rattle.std.specs.Float.Ieee.{lt}
 use Rattle.std.specs.Float.Ieee.Scale.{finite}
-use Rattle.stops.specs.Lent.{Ramp, ramp_of, Slice, Lent, old}
+use Rattle.stops.specs.Lent.{Ramp, ramp_of, Slice, Lent}
 use Rattle.stops.specs.Stops.{pos_at, colour_at, finite_rgba}
 use Rattle.stops.specs.declared.Kind.TheVariants.{Linear}
 
@@ -19,7 +19,7 @@ abbrev pub offer_in : Slice Float → Slice Float → Offer
 offer_in ps cs = offer_of ps.now cs.now
 
 abbrev pub lent_offer : Lent Float → Lent Float → Offer
-lent_offer ps cs = offer_of (old ps) (old cs)
+lent_offer ps cs = offer_of ps.entry.now cs.entry.now
 
 -- ---- 2 to 4,609 stops; slices whose lengths disagree are a wrong length too
 abbrev pub most_listed : ℕ

@@ -1,6 +1,5 @@
 // What a list must be by itself: its length, and its stops.
 ghost use Rattle.std.specs.Prelude.{◌≡◌};
-ghost use Rattle.stops.specs.Lent.{old};
 ghost use Rattle.judge.specs.Lists.{sized, good_stop, lent_offer, first_bad};
 
 use stops::{colour, is_finite_colour, item, less};
@@ -23,7 +22,7 @@ pub(crate) fn is_sized(n: usize, m: usize) -> bool
 
 // Stop i is finite, and not below the one before it; the first is compared with itself.
 fn is_good(positions: &[f32], channels: &[f32], i: usize) -> bool
-    ensures { result ≡ good_stop (old positions) (old channels) i }
+    ensures { result ≡ good_stop positions.now channels.now i }
 {
     let p = item(positions, i);
     if !float::is_finite(p) {

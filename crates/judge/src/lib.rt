@@ -1,5 +1,7 @@
 // Judging a list of stops that was made elsewhere: whether it shows a ramp within a threshold, wherever a fresh sampling
 // looks. Nothing is lent to be written, and no record is asked for.
+#![tactic(auto)]
+
 ghost use Rattle.std.specs.Prelude.{◌≡◌};
 ghost use Rattle.stops.specs.Lent.{ramp_in, lent_ramp};
 ghost use Rattle.stops.specs.declared.Checked.TheVariants.{Fine};
@@ -16,7 +18,7 @@ mod points;
 
 // What is said of a list: yes; or no, with the first thing that is wrong; or the ramp is refused, before the list is looked
 // at. A point is told by its row and its place in it, and by its t; max stands at the start of the row after the last.
-#[derive(Drop)]
+#[derive(Clone, Copy)]
 pub enum Verdict {
     Yes,
     WrongLength,

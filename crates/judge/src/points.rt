@@ -1,6 +1,6 @@
 // The points of a record, one after the other: the first at which a list's colour is too far from the ramp's.
 ghost use Rattle.std.specs.Prelude.{◌≡◌, ◌+◌, ◌≤◌, length};
-ghost use Rattle.stops.specs.Lent.{lent_ramp, old};
+ghost use Rattle.stops.specs.Lent.{lent_ramp};
 ghost use Rattle.judge.specs.Lists.{lent_offer};
 ghost use Rattle.judge.specs.inner.Steps.{Readable, any_close, far_from, record_verdict};
 
@@ -41,7 +41,7 @@ fn first_far(
     count: usize,
 ) -> usize
     requires { at + count ≤ length rows.now }
-    ensures { result ≡ far_from (any_close (lent_ramp kind positions channels codes) (lent_offer places colours) threshold) (old rows) at count }
+    ensures { result ≡ far_from (any_close (lent_ramp kind positions channels codes) (lent_offer places colours) threshold) rows.now at count }
 {
     let mut j = 0;
     while j < count {
@@ -76,7 +76,7 @@ pub(crate) fn judge_points(
     counts: &[u8],
 ) -> Verdict
     requires { Readable rows.now counts.now }
-    ensures { result ≡ record_verdict (any_close (lent_ramp kind positions channels codes) (lent_offer places colours) threshold) (old rows) (old counts) max }
+    ensures { result ≡ record_verdict (any_close (lent_ramp kind positions channels codes) (lent_offer places colours) threshold) rows.now counts.now max }
 {
     let mut i = 0;
     while i < Sampler::CELLS {

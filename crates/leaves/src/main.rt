@@ -1,9 +1,12 @@
 // Runs the leaves on each line of standard input, and writes the line with the answer behind it.
 // A line is a letter, a blank and a pattern of 8 hex digits, or for `t` a token, for `l` a long one.
+#![tactic(auto)]
+
 ghost use Rattle.std.specs.Prelude.{◌≤◌, ◌<◌, length};
 
 use decimal::Token;
-use libc::{STDIN_FILENO, STDOUT_FILENO};
+use std::io;
+use streams::{StandardOutput, read_full};
 
 fn digit(b: u8) -> u32
     ensures { result < 16 }
@@ -26,82 +29,78 @@ fn pattern(s: &[u8]) -> u32 {
     v
 }
 
-fn put(s: &[u8]) {
-    io::write_all(STDOUT_FILENO, s);
-}
-
-fn put_bits(x: f32) {
-    io::print_hex(STDOUT_FILENO, float::to_bits(x) as u64, 8);
+fn put_bits(out: &mut StandardOutput, x: f32) {
+    out.hex(float::to_bits(x));
 }
 
 // Codes are small, so only small whole parts are told apart, and the ends of i64.
-fn put_whole(z: i64) {
+fn put_whole(out: &mut StandardOutput, z: i64) {
     match z {
-        -9223372036854775808 => put(b"least"),
-        -2 => put(b"-2"),
-        -1 => put(b"-1"),
-        0 => put(b"0"),
-        1 => put(b"1"),
-        2 => put(b"2"),
-        5 => put(b"5"),
-        6 => put(b"6"),
-        9223372036854775807 => put(b"most"),
-        _ => put(b"other"),
+        -9223372036854775808 => out.put(b"least"),
+        -2 => out.put(b"-2"),
+        -1 => out.put(b"-1"),
+        0 => out.put(b"0"),
+        1 => out.put(b"1"),
+        2 => out.put(b"2"),
+        5 => out.put(b"5"),
+        6 => out.put(b"6"),
+        9223372036854775807 => out.put(b"most"),
+        _ => out.put(b"other"),
     }
 }
 
-fn put_token(token: Token) {
+fn put_token(out: &mut StandardOutput, token: Token) {
     match token {
-        Token::Number(x) => put_bits(x),
-        Token::NoNumber => put(b"no number"),
+        Token::Number(x) => put_bits(out, x),
+        Token::NoNumber => out.put(b"no number"),
     }
 }
 
 // Nothing where the number cannot be written.
-fn put_numeral(x: f32) {
+fn put_numeral(out: &mut StandardOutput, x: f32) {
     let t = numerals::write(x);
     let bytes = t.bytes;
     let n = t.len;
-    put(&bytes[..n]);
+    out.put(&bytes[..n]);
 }
 
 // The pattern b is a whole number for `n`, and for `h` both halves of one.
-fn answer(job: u8, b: u32) {
+fn answer(out: &mut StandardOutput, job: u8, b: u32) {
     let x = float::from_bits(b);
     match job {
-        b'r' => put_bits(sqrt::root(x)),
-        b'k' => put_bits(sqrt::half_root::cutoff(x)),
-        b'm' => put_bits(float::magnitude(x)),
-        b'c' => put_bits(float::clamp(x)),
-        b'w' => put_whole(float::whole(x)),
-        b'n' => put_bits(float::from_whole(b as u64)),
-        b'h' => put_bits(float::from_whole(b as u64 * 0x1_0000_0001)),
-        b'd' => put_numeral(x),
+        b'r' => put_bits(out, sqrt::root(x)),
+        b'k' => put_bits(out, sqrt::half_root::cutoff(x)),
+        b'm' => put_bits(out, float::magnitude(x)),
+        b'c' => put_bits(out, float::clamp(x)),
+        b'w' => put_whole(out, float::whole(x)),
+        b'n' => put_bits(out, float::from_whole(b as u64)),
+        b'h' => put_bits(out, float::from_whole(b as u64 * 0x1_0000_0001)),
+        b'd' => put_numeral(out, x),
         _ => {
             if float::is_finite(x) {
-                put(b"finite");
+                out.put(b"finite");
             } else {
-                put(b"not finite");
+                out.put(b"not finite");
             }
         }
     }
 }
 
-fn run(line: &[u8]) {
-    put(line);
-    put(b"\t");
+fn run(out: &mut StandardOutput, line: &[u8]) {
+    out.put(line);
+    out.put(b"\t");
     if 2 <= line.len() {
         let job = line[0];
         let rest = &line[2..];
         if job == b't' {
-            put_token(decimal::read(rest));
+            put_token(out, decimal::read(rest));
         } else if job == b'l' {
-            put_token(decimal::read_long(rest));
+            put_token(out, decimal::read_long(rest));
         } else {
-            answer(job, pattern(rest));
+            answer(out, job, pattern(rest));
         }
     }
-    put(b"\n");
+    out.put(b"\n");
 }
 
 // Where the line that starts at `from` ends.
@@ -119,14 +118,16 @@ fn line_end(s: &[u8], from: usize) -> usize
     i
 }
 
-fn main() {
-    let mut buffer = io::large_buffer();
-    let n = io::read_full(STDIN_FILENO, &mut buffer);
+fn main(rt: HostRuntime) -> io::Result<()> {
+    let mut out = StandardOutput::new(rt.stdout());
+    let mut buffer = [0u8; 65536];
+    let n = read_full(&mut rt.stdin(), &mut buffer)?;
     let s = &buffer[..n];
     let mut at = 0;
     while at < s.len() {
         let end = line_end(s, at);
-        run(&s[at..end]);
+        run(&mut out, &s[at..end]);
         at = end + 1;
     }
+    out.end()
 }

@@ -2,7 +2,6 @@
 ghost use Rattle.std.specs.Prelude.{◌≡◌};
 ghost use Rattle.refusals.specs.Refusals.{bad_record};
 ghost use Rattle.stops.specs.Answers.{on_fine};
-ghost use Rattle.stops.specs.Lent.{old};
 ghost use Rattle.linearize.specs.Relist.{count_fits, kept_good};
 ghost use Rattle.linearize.specs.declared.Listed.TheVariants as listed;
 
@@ -27,7 +26,7 @@ fn count_fits(kept: bool, n: usize) -> bool
 
 // The counts of all cells kept are. Without a count a cell has 0.
 pub(crate) fn kept_good(keep: [bool; 36], counts: &[u8]) -> bool
-    ensures { result ≡ kept_good keep (old counts) }
+    ensures { result ≡ kept_good keep counts.now }
 {
     let mut i = 0;
     while i < Sampler::CELLS {

@@ -1,9 +1,11 @@
 // Flattening a ramp: sampling it into a lent record, and thinning the record to stops.
+#![tactic(auto)]
+
 ghost use Rattle.std.specs.Prelude.{◌≡◌};
 ghost use Rattle.linearize.specs.Relist.{Relists};
 ghost use Rattle.linearize.specs.Desk.{after_spending};
 ghost use Rattle.stops.specs.Lent.{lent_ramp};
-ghost use Rattle.sampling.specs.Lent.{lent_held};
+ghost use Rattle.sampling.specs.Lent.{lent_held, shared_held};
 ghost use Rattle.linearize.specs.Lent.{lent_output};
 ghost use Rattle.linearize.specs.Promises.{Thins, Flattens};
 
@@ -18,7 +20,7 @@ mod kept;
 mod listing;
 
 // What making a list answers.
-#[derive(Drop)]
+#[derive(Clone, Copy)]
 pub enum Listed {
     Done { stops: usize, evaluations: usize },
     Refused(u8),
@@ -37,7 +39,7 @@ pub fn thin(
     places: &mut [f32],
     colours: &mut [f32],
 ) -> Listed
-    ensures { Thins (lent_ramp kind positions channels codes) threshold (lent_held rows counts marks).entry (lent_output places colours) result }
+    ensures { Thins (lent_ramp kind positions channels codes) threshold (shared_held rows counts marks).entry (lent_output places colours) result }
 {
     match check_thin(
         kind, positions, channels, codes, threshold, rows, counts, marks,

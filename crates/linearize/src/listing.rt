@@ -8,7 +8,7 @@ ghost use Rattle.linearize.specs.Desk.{listed_of};
 ghost use Rattle.stops.specs.declared.Checked.TheVariants.{Fine};
 ghost use Rattle.linearize.specs.inner.Steps.{Started, points, MakesList, ThinsAll, ThinsRest};
 ghost use Rattle.linearize.specs.Lent.{lent_output};
-ghost use Rattle.stops.specs.Lent.{ramp_in, lent_ramp, old, new};
+ghost use Rattle.stops.specs.Lent.{ramp_in, lent_ramp};
 
 use crate::Listed;
 use places::{RowPlace, next_place, point_at};
@@ -110,8 +110,8 @@ fn thin_all(
 fn finish(s: Progress, places: &mut [f32], colours: &mut [f32]) -> Listed
     requires { (s.tried ≤ record_length) × (s.stops ≤ length places.old) }
     ensures value { result ≡ listed_of s.refusal s.stops (3 * s.tried + s.stops) }
-    ensures places_value { new places ≡ written_of s.refusal (old places) }
-    ensures colours_value { new colours ≡ written_of s.refusal (old colours) }
+    ensures places_value { places.new ≡ written_of s.refusal places.old }
+    ensures colours_value { colours.new ≡ written_of s.refusal colours.old }
 {
     let refusal = s.refusal;
     if refusal != 0 {

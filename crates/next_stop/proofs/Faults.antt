@@ -12,7 +12,6 @@ use lib.Ieee.{Float, lt}
 use lib.Ieee.Scale.{finite}
 use Rattle.blend.specs.Channels.{channels_of, colours_of, positions_in, channels_in}
 use Rattle.blend.specs.declared.Rgba.{Rgba}
-use Rattle.blend.specs.declared.Stop.{Stop}
 use Rattle.stops.specs.Stops.{finite_rgba}
 use Rattle.sampling.specs.Midpoints.{Gradient}
 use Rattle.thinning.specs.Kept.{stop_refusal, first_refusal, refusal_from}

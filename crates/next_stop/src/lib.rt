@@ -1,12 +1,14 @@
 // One stop at a time: a call is lent the ramp, the record and a place, and hands out the next stop of the list with the place to
 // go on from. The place is all that a caller keeps between calls.
+#![tactic(auto)]
+
 ghost use Rattle.std.specs.Prelude.{◌≡◌, true, ◌+◌, ◌*◌, ◌≤◌};
-ghost use Rattle.stops.specs.Lent.{ramp_in, lent_ramp, old};
+ghost use Rattle.stops.specs.Lent.{ramp_in, lent_ramp};
 ghost use Rattle.stops.specs.declared.Checked.TheVariants.{Fine};
 ghost use Rattle.gradient.specs.Ramp.{check_of, colour_of};
 ghost use Rattle.difference.specs.Difference.{exceeds};
 ghost use Rattle.sampling.specs.Constants.{record_length};
-ghost use Rattle.sampling.specs.Lent.{lent_held};
+ghost use Rattle.sampling.specs.Lent.{shared_held};
 ghost use Rattle.places.specs.Places.{Ready};
 ghost use Rattle.thinning.specs.Kept.{stop_refusal};
 ghost use Rattle.next_stop.specs.Step.{is_within, placed_check, list_place_of, stop_with, handed_by, handed_from, HandsOut};
@@ -23,7 +25,7 @@ use thinning::stop_refusal;
 mod walk;
 
 // Where a caller is in a list: before its first stop, after the stop at a row and an index of the record, or past its end.
-#[derive(Drop)]
+#[derive(Clone, Copy)]
 pub enum ListPlace {
     Start,
     After { row: usize, index: usize },
@@ -31,7 +33,7 @@ pub enum ListPlace {
 }
 
 // What a step tells: a stop, that nothing more comes, or the number of the refusal.
-#[derive(Drop)]
+#[derive(Clone, Copy)]
 pub enum Told {
     Stop(Stop),
     Ended,
@@ -39,7 +41,7 @@ pub enum Told {
 }
 
 // What a step hands out: what it tells, with how many evaluations, and the place to go on from.
-#[derive(Drop)]
+#[derive(Clone, Copy)]
 pub struct Handed {
     pub told: Told,
     pub evaluations: usize,
@@ -47,7 +49,7 @@ pub struct Handed {
 }
 
 // The next point kept and its place, the number that stood before it, and how many points were weighed.
-#[derive(Drop)]
+#[derive(Clone, Copy)]
 pub(crate) struct Found {
     pub(crate) point: Point,
     pub(crate) last: f32,
@@ -57,7 +59,7 @@ pub(crate) struct Found {
 
 // A place of the record: it has that row, and the row has that point. Start and end are none, and always there.
 fn is_within(counts: &[u8], place: ListPlace) -> bool
-    ensures { result ≡ is_within (old counts) place }
+    ensures { result ≡ is_within counts.now place }
 {
     match place {
         ListPlace::Start => true,
@@ -142,7 +144,7 @@ fn step_from(
 ) -> Handed
     requires ready { Ready rows.now counts.now × (check_of (ramp_in kind positions channels codes) ≡ Fine) }
     requires place_value { is_within counts.now place ≡ true }
-    ensures { result ≡ handed_from (colour_of (lent_ramp kind positions channels codes)) (exceeds cutoff) (old rows) (old counts) max place }
+    ensures { result ≡ handed_from (colour_of (lent_ramp kind positions channels codes)) (exceeds cutoff) rows.now counts.now max place }
 {
     match place {
         ListPlace::Ended => Handed {
@@ -180,7 +182,7 @@ pub fn next_stop(
     marks: &[u32],
     place: ListPlace,
 ) -> Handed
-    ensures { HandsOut (lent_ramp kind positions channels codes) threshold (lent_held rows counts marks).entry place result }
+    ensures { HandsOut (lent_ramp kind positions channels codes) threshold (shared_held rows counts marks).entry place result }
 {
     let checked = check_thin(
         kind, positions, channels, codes, threshold, rows, counts, marks,

@@ -4,7 +4,7 @@ ghost use Rattle.gradient.specs.Ramp.{check_of, colour_of};
 ghost use Rattle.sampling.specs.Constants.{cells};
 ghost use Rattle.sampling.specs.inner.Steps.{PointAt};
 ghost use Rattle.difference.specs.Difference.{exceeds};
-ghost use Rattle.stops.specs.Lent.{ramp_in, lent_ramp, old};
+ghost use Rattle.stops.specs.Lent.{ramp_in, lent_ramp};
 ghost use Rattle.stops.specs.declared.Checked.TheVariants.{Fine};
 ghost use Rattle.places.specs.Places.{Ready, InRecord};
 ghost use Rattle.next_stop.specs.inner.Steps.{FindsNext};
@@ -45,7 +45,7 @@ pub(crate) fn find(
 ) -> Found
     requires ready { Ready rows.now counts.now × (InRecord counts.now from × (from.row < cells)) }
     requires codes_value { check_of (ramp_in kind positions channels codes) ≡ Fine }
-    ensures { FindsNext (colour_of (lent_ramp kind positions channels codes)) (exceeds cutoff) (old rows) (old counts) max from result }
+    ensures { FindsNext (colour_of (lent_ramp kind positions channels codes)) (exceeds cutoff) rows.now counts.now max from result }
 {
     let t = point_at(rows, max, from);
     let last = lone_point(kind, positions, channels, codes, t, 1);

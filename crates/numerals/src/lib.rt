@@ -1,4 +1,6 @@
 // A number as text: 9 significant digits in plain decimal, which read back as the same number.
+#![tactic(auto)]
+
 ghost use Rattle.std.specs.Prelude.{◌≡◌, ◌+◌, ◌-◌, ◌*◌, ◌^◌, ◌<◌, ◌≤◌, max, length, replicate, T};
 ghost use Rattle.std.proofs.lemmas.List.Edits.{sets};
 ghost use Rattle.std.specs.Float.Ieee.Positive.{above};
@@ -11,7 +13,7 @@ const LEAST: f32 = 0.000001;
 const MOST: f32 = 1000000.0;
 
 // A number as text: the first len of the bytes, and 0 after them. There is none where the number cannot be written.
-#[derive(Drop)]
+#[derive(Clone, Copy)]
 pub struct Numeral {
     pub bytes: [u8; 18],
     pub len: usize,
@@ -100,7 +102,7 @@ fn nine_text(m: u64, shift: u64, neg: bool) -> Numeral
 }
 
 // Nine digits and how many of them stand after the point: d / 10 ^ k, with ten = 10 ^ k.
-#[derive(Drop)]
+#[derive(Clone, Copy)]
 struct Nine {
     d: u64,
     k: usize,

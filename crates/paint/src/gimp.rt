@@ -2,7 +2,6 @@
 // The slices are read without a test.
 ghost use Rattle.std.specs.Prelude.{◌≡◌, true, false, ◌++◌, ◌+◌, ◌*◌, ◌≤◌, ◌<◌, length};
 ghost use Rattle.blend.specs.Channels.{channels_of};
-ghost use Rattle.stops.specs.Lent.{old, new};
 ghost use Rattle.gradient.specs.Gimp.{segments, blending_at, colouring_at, is_costly, gimp_segment, blended, gimp_colour};
 ghost use Rattle.paint.specs.Canvas.{painted_over};
 ghost use Rattle.paint.specs.inner.Segments.{Cut, Fits, Orderly, strictly_inside, Peeked, Starts, Written};
@@ -20,7 +19,7 @@ mod search;
 // anew at each point that has left its segment.
 fn hold(positions: &[f32], channels: &[f32], codes: &[u8], i: usize) -> Segment
     requires { Cut positions.now channels.now codes.now × (i < segments positions.now) }
-    ensures { result ≡ gimp_segment (old positions) (old channels) (old codes) i }
+    ensures { result ≡ gimp_segment positions.now channels.now codes.now i }
 {
     let lcolor = colour(channels, 2 * i);
     let rcolor = colour(channels, 2 * i + 1);
@@ -39,7 +38,7 @@ fn hold(positions: &[f32], channels: &[f32], codes: &[u8], i: usize) -> Segment
 // the last one too: the left end of its segment, which does not lie inside it, then ends it by the one test that it makes.
 fn point_or(ts: &[f32], j: usize, end: usize, other: f32) -> f32
     requires { end ≤ length ts.now }
-    ensures { Peeked (old ts) j end other result }
+    ensures { Peeked ts.now j end other result }
 {
     if j < end {
         return ts[j];
@@ -86,7 +85,7 @@ fn paint_held(
 ) -> usize
     requires fits { Fits positions.now channels.now codes.now ts.now out.old }
     requires starts { Starts positions.now ts.now s start end × (is_costly (blending_at codes.now s) (colouring_at codes.now s) ≡ false) }
-    ensures { Written (gimp_colour (old positions) (old channels) (old codes)) (old ts) start result (old out) (new out) }
+    ensures { Written (gimp_colour positions.now channels.now codes.now) ts.now start result out.old out.new }
 {
     let g = hold(positions, channels, codes, s);
     let p = g.lcolor;
@@ -120,7 +119,7 @@ fn paint_on(
 ) -> usize
     requires fits { Fits positions.now channels.now codes.now ts.now out.old }
     requires orderly { (orderly ≡ true → Orderly positions.now) × (i < length ts.now) }
-    ensures { Written (gimp_colour (old positions) (old channels) (old codes)) (old ts) i result (old out) (new out) }
+    ensures { Written (gimp_colour positions.now channels.now codes.now) ts.now i result out.old out.new }
 {
     let t = ts[i];
     if gimp::is_off_domain(t) {
@@ -147,7 +146,7 @@ fn paint_on(
 // Writes the colours at ts, four channels for each, one segment after the other.
 pub(crate) fn paint(positions: &[f32], channels: &[f32], codes: &[u8], ts: &[f32], out: &mut [f32])
     requires { Fits positions.now channels.now codes.now ts.now out.old }
-    ensures { new out ≡ painted_over (gimp_colour (old positions) (old channels) (old codes)) (old ts) (old out) }
+    ensures { out.new ≡ painted_over (gimp_colour positions.now channels.now codes.now) ts.now out.old }
 {
     let orderly = search::is_orderly(positions);
     let mut i = 0;

@@ -1,9 +1,11 @@
 // The colour of a ramp at one point and at many. A ramp is lent as slices, checked and then read; every call answers for any
 // slices at all.
+#![tactic(auto)]
+
 ghost use Rattle.std.specs.Prelude.{◌≡◌, ◌+◌, ◌*◌, ◌≤◌, length};
 ghost use Rattle.std.proofs.lemmas.List.Edits.{sets};
 ghost use Rattle.blend.specs.Channels.{channels_of};
-ghost use Rattle.stops.specs.Lent.{old, new, ramp_in, lent_ramp};
+ghost use Rattle.stops.specs.Lent.{ramp_in, lent_ramp};
 ghost use Rattle.stops.specs.Near.{segment_for};
 ghost use Rattle.stops.specs.Segments.{Segments};
 ghost use Rattle.stops.specs.declared.Checked.TheVariants.{Fine};
@@ -20,14 +22,14 @@ mod gimp;
 mod pairs;
 
 // The colour at t, or the number of the refusal.
-#[derive(Drop)]
+#[derive(Clone, Copy)]
 pub enum ColourAnswer {
     Colour(Rgba),
     Refused(u8),
 }
 
 // Every colour was painted, or the number of the refusal.
-#[derive(Drop)]
+#[derive(Clone, Copy)]
 pub enum Painted {
     Done,
     Refused(u8),
@@ -49,7 +51,7 @@ pub fn at(kind: Kind, positions: &[f32], channels: &[f32], codes: &[u8], t: f32)
 // So it is with `colour` of `pairs`, and the colour that `stops` reads.
 fn put_colour(out: &mut [f32], k: usize, c: Rgba)
     requires { k + 4 ≤ length out.old }
-    ensures { new out ≡ sets (old out) k (channels_of c) }
+    ensures { out.new ≡ sets out.old k (channels_of c) }
 {
     out[k] = c.r;
     out[k + 1] = c.g;
@@ -60,7 +62,7 @@ fn put_colour(out: &mut [f32], k: usize, c: Rgba)
 // Stops at ts. The pair of the last point is tried before the search.
 fn paint_stops(kind: Kind, positions: &[f32], channels: &[f32], ts: &[f32], out: &mut [f32])
     requires { Paintable positions.now channels.now ts.now out.old }
-    ensures { new out ≡ painted_over (stop_colour kind (old positions) (old channels)) (old ts) (old out) }
+    ensures { out.new ≡ painted_over (stop_colour kind positions.now channels.now) ts.now out.old }
 {
     let span = pairs::span_of(positions.len());
     let mut k = 0;
@@ -86,7 +88,7 @@ fn renewed(
 ) -> [[f32; 4]; 4]
     requires s_value { s ≡ segment_for channels.now n k }
     requires segments { Segments channels.now n 0 table.now }
-    ensures { result ≡ segment_for (old channels) n j }
+    ensures { result ≡ segment_for channels.now n j }
 {
     if j == k {
         return s;
@@ -104,7 +106,7 @@ fn paint_catmull(
 )
     requires paintable { Paintable positions.now channels.now ts.now out.old }
     requires segments { Segments channels.now (length positions.now) 0 table.now }
-    ensures { new out ≡ painted_over (stop_colour Kind.CatmullRom (old positions) (old channels)) (old ts) (old out) }
+    ensures { out.new ≡ painted_over (stop_colour Kind.CatmullRom positions.now channels.now) ts.now out.old }
 {
     let n = positions.len();
     let mut k = 1;
@@ -132,7 +134,7 @@ fn paint_tabled(
     room: &mut [[[f32; 4]; 4]],
 )
     requires { Paintable positions.now channels.now ts.now out.old }
-    ensures { new out ≡ painted_over (stop_colour Kind.CatmullRom (old positions) (old channels)) (old ts) (old out) }
+    ensures { out.new ≡ painted_over (stop_colour Kind.CatmullRom positions.now channels.now) ts.now out.old }
 {
     let m = segments::fill(channels, positions.len(), 0, room);
     let table = &room[..m];
@@ -142,7 +144,7 @@ fn paint_tabled(
 // Catmull-Rom stops at ts. A segment costs twelve roots, so a table pays where there are at least as many points as stops.
 fn paint_cubics(positions: &[f32], channels: &[f32], ts: &[f32], out: &mut [f32])
     requires { Paintable positions.now channels.now ts.now out.old }
-    ensures { new out ≡ painted_over (stop_colour Kind.CatmullRom (old positions) (old channels)) (old ts) (old out) }
+    ensures { out.new ≡ painted_over (stop_colour Kind.CatmullRom positions.now channels.now) ts.now out.old }
 {
     if ts.len() < positions.len() {
         let none = [[[0.0f32; 4]; 4]; 1];
@@ -169,7 +171,7 @@ fn paint_all(
 )
     requires codes_value { check_of (ramp_in kind positions channels codes) ≡ Fine }
     requires ts_in_bounds { 4 * length ts.now ≤ length out.old }
-    ensures { new out ≡ painted_over (colour_of (lent_ramp kind positions channels codes)) (old ts) (old out) }
+    ensures { out.new ≡ painted_over (colour_of (lent_ramp kind positions channels codes)) ts.now out.old }
 {
     if gradient::is_gimp(kind) {
         gimp::paint(positions, channels, codes, ts, out);
@@ -191,7 +193,7 @@ pub fn paint(
     ts: &[f32],
     out: &mut [f32],
 ) -> Painted
-    ensures { PaintIs (lent_ramp kind positions channels codes) (old ts) (old out) (new out) result }
+    ensures { PaintIs (lent_ramp kind positions channels codes) ts.now out.old out.new result }
 {
     match gradient::check(kind, positions, channels, codes) {
         Checked::Refused(n) => Painted::Refused(n),

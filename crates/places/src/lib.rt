@@ -1,13 +1,14 @@
 // The places of a record's points, one after the other: what a list is made by, whole or a stop at a time.
+#![tactic(auto)]
+
 ghost use Rattle.std.specs.Prelude.{◌≡◌, ◌+◌, ltb, get_or};
-ghost use Rattle.stops.specs.Lent.{old};
 ghost use Rattle.places.specs.Places.{next_place, point_at};
 
 use sampling::Sampler;
 use stops::channels::item;
 
 // A place in a record: a row and an index in it. Max stands at the start of the row after the last.
-#[derive(Drop)]
+#[derive(Clone, Copy)]
 pub struct RowPlace {
     pub row: usize,
     pub index: usize,
@@ -15,7 +16,7 @@ pub struct RowPlace {
 
 // The count of row i, 0 where there is none.
 pub fn count_at(counts: &[u8], i: usize) -> usize
-    ensures { result ≡ get_or (old counts) i 0 }
+    ensures { result ≡ get_or counts.now i 0 }
 {
     if i < counts.len() {
         return counts[i] as usize;
@@ -35,7 +36,7 @@ fn goes_on(n: usize, index: usize) -> bool
 
 // The place after a place. After max comes max.
 pub fn next_place(counts: &[u8], place: RowPlace) -> RowPlace
-    ensures { result ≡ next_place (old counts) place }
+    ensures { result ≡ next_place counts.now place }
 {
     let row = place.row;
     let index = place.index;
@@ -59,7 +60,7 @@ pub fn next_place(counts: &[u8], place: RowPlace) -> RowPlace
 
 // The point at a place; past the end of the rows it is not-a-number.
 pub fn point_at(rows: &[f32], max: f32, place: RowPlace) -> f32
-    ensures { result ≡ point_at (old rows) max place }
+    ensures { result ≡ point_at rows.now max place }
 {
     let row = place.row;
     let index = place.index;

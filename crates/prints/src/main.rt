@@ -1,73 +1,85 @@
 // Document 01's proof prints, worked out with the library's calls, a print to a line: what is asked, a tab, the answer.
 // A number is 8 hex digits of its bits.
+#![tactic(auto)]
+
 ghost use Rattle.std.specs.Prelude.{◌+◌, ◌≤◌, ◌<◌, length};
 
-use crate::show::{bits, number, out, refused, row};
+use crate::show::{bits, refused, row};
 use blend::Rgba;
 use decimal::Token;
 use linearize::{Listed, Sampler};
 use paint::ColourAnswer;
 use sharp_ramp::Built;
+use std::io;
 use stops::Kind;
+use streams::StandardOutput;
 
 mod show;
 
 // The first channel of a ramp at t.
-fn red(label: &[u8], kind: Kind, positions: &[f32], channels: &[f32], codes: &[u8], t: f32) {
-    out(label);
-    out(b"\t");
+fn red(
+    out: &mut StandardOutput,
+    label: &[u8],
+    kind: Kind,
+    positions: &[f32],
+    channels: &[f32],
+    codes: &[u8],
+    t: f32,
+) {
+    out.put(label);
+    out.put(b"\t");
     match colorgrad::at(kind, positions, channels, codes, t) {
-        ColourAnswer::Colour(c) => bits(c.r),
-        ColourAnswer::Refused(n) => refused(n),
+        ColourAnswer::Colour(c) => bits(out, c.r),
+        ColourAnswer::Refused(n) => refused(out, n),
     }
-    out(b"\n");
+    out.put(b"\n");
 }
 
 // Stops from black at 0 to white at 1.
-fn ramp(label: &[u8], kind: Kind, t: f32) {
+fn ramp(out: &mut StandardOutput, label: &[u8], kind: Kind, t: f32) {
     let positions = [0.0f32, 1.0];
     let channels = [0.0f32, 0.0, 0.0, 1.0, 1.0, 1.0, 1.0, 1.0];
-    red(label, kind, &positions, &channels, b"", t);
+    red(out, label, kind, &positions, &channels, b"", t);
 }
 
-fn ramps() {
-    ramp(b"linear 0 to 1 at 0.25", Kind::Linear, 0.25);
-    ramp(b"smoothstep 0 to 1 at 0.25", Kind::Smoothstep, 0.25);
-    ramp(b"basis 0, 1 at 0.5", Kind::Basis, 0.5);
-    ramp(b"Catmull-Rom 0, 1 at 0.25", Kind::CatmullRom, 0.25);
+fn ramps(out: &mut StandardOutput) {
+    ramp(out, b"linear 0 to 1 at 0.25", Kind::Linear, 0.25);
+    ramp(out, b"smoothstep 0 to 1 at 0.25", Kind::Smoothstep, 0.25);
+    ramp(out, b"basis 0, 1 at 0.5", Kind::Basis, 0.5);
+    ramp(out, b"Catmull-Rom 0, 1 at 0.25", Kind::CatmullRom, 0.25);
 }
 
-fn sharp() {
+fn sharp(out: &mut StandardOutput) {
     let colours = [0.0f32, 0.0, 0.0, 1.0, 1.0, 1.0, 1.0, 1.0];
     let mut positions = [9.0f32; 4];
     let mut channels = [9.0f32; 16];
-    out(b"sharp, 2 colours, softness 0.5 on 0..1\tpositions");
+    out.put(b"sharp, 2 colours, softness 0.5 on 0..1\tpositions");
     match colorgrad::build(&colours, 0.0, 1.0, 0.5, &mut positions, &mut channels) {
-        Built::Stops(_) => row(&positions),
-        Built::Refused(n) => refused(n),
+        Built::Stops(_) => row(out, &positions),
+        Built::Refused(n) => refused(out, n),
     }
-    out(b"\n");
+    out.put(b"\n");
 }
 
-fn root(label: &[u8], pattern: u32) {
-    out(label);
-    out(b"\t");
-    bits(sqrt::root(float::from_bits(pattern)));
-    out(b"\n");
+fn root(out: &mut StandardOutput, label: &[u8], pattern: u32) {
+    out.put(label);
+    out.put(b"\t");
+    bits(out, sqrt::root(float::from_bits(pattern)));
+    out.put(b"\n");
 }
 
-fn token(label: &[u8], s: &[u8]) {
-    out(label);
-    out(b"\t");
+fn token(out: &mut StandardOutput, label: &[u8], s: &[u8]) {
+    out.put(label);
+    out.put(b"\t");
     match decimal::read(s) {
-        Token::Number(x) => bits(x),
-        Token::NoNumber => out(b"no number"),
+        Token::Number(x) => bits(out, x),
+        Token::NoNumber => out.put(b"no number"),
     }
-    out(b"\n");
+    out.put(b"\n");
 }
 
 // Two GIMP segments that meet: their reds tell which is taken.
-fn meeting() {
+fn meeting(out: &mut StandardOutput) {
     let positions = [0.0f32, 0.25, 0.5, 0.5, 0.75, 1.0];
     let mut channels = [0.0f32; 16];
     channels[4] = 0.25;
@@ -75,6 +87,7 @@ fn meeting() {
     channels[12] = 1.0;
     let codes = [0u8; 4];
     red(
+        out,
         b"GIMP 0..0.5 and 0.5..1 at 0.5",
         Kind::Gimp,
         &positions,
@@ -85,11 +98,12 @@ fn meeting() {
 }
 
 // One from black to red, so that the red is the factor.
-fn bent() {
+fn bent(out: &mut StandardOutput) {
     let positions = [0.0f32, 0.25, 1.0];
     let channels = [0.0f32, 0.0, 0.0, 1.0, 1.0, 0.0, 0.0, 1.0];
     let codes = [0u8; 2];
     red(
+        out,
         b"GIMP middle 0.25 at 0.625",
         Kind::Gimp,
         &positions,
@@ -100,13 +114,14 @@ fn bent() {
 }
 
 // Two such with a gap between them.
-fn parted() {
+fn parted(out: &mut StandardOutput) {
     let positions = [0.0f32, 0.125, 0.25, 0.75, 0.875, 1.0];
     let mut channels = [0.0f32; 16];
     channels[4] = 1.0;
     channels[12] = 1.0;
     let codes = [0u8; 4];
     red(
+        out,
         b"GIMP gap 0.25..0.75 at 0.5",
         Kind::Gimp,
         &positions,
@@ -117,7 +132,7 @@ fn parted() {
 }
 
 // Two stops at 0.5, flattened: the positions and the channels.
-fn pair() {
+fn pair(out: &mut StandardOutput) {
     let positions = [0.5f32, 0.5];
     let channels = [0.25f32, 0.0, 0.0, 1.0, 0.75, 0.0, 0.0, 1.0];
     let mut rows = [0.0f32; Sampler::CELLS * Sampler::ROW];
@@ -125,7 +140,7 @@ fn pair() {
     let mut marks = [0u32; Sampler::MARKS];
     let mut places = [9.0f32; 2];
     let mut colours = [9.0f32; 8];
-    out(b"two stops at 0.5\t");
+    out.put(b"two stops at 0.5\t");
     match colorgrad::flatten(
         Kind::Linear,
         &positions,
@@ -139,29 +154,45 @@ fn pair() {
         &mut colours,
     ) {
         Listed::Done { stops, evaluations } => {
-            number(stops);
-            out(b" stops, ");
-            number(evaluations);
-            out(b" evaluations, positions");
-            row(&places);
-            out(b", channels");
-            row(&colours);
+            out.decimal(stops as u64);
+            out.put(b" stops, ");
+            out.decimal(evaluations as u64);
+            out.put(b" evaluations, positions");
+            row(out, &places);
+            out.put(b", channels");
+            row(out, &colours);
         }
-        Listed::Refused(n) => refused(n),
+        Listed::Refused(n) => refused(out, n),
     }
-    out(b"\n");
+    out.put(b"\n");
 }
 
-fn most_stops() {
+fn most_stops(out: &mut StandardOutput) {
     let positions = [0.5f32; 2048];
     let channels = [0.25f32; 8192];
-    red(b"2048 stops", Kind::Linear, &positions, &channels, b"", 0.5);
+    red(
+        out,
+        b"2048 stops",
+        Kind::Linear,
+        &positions,
+        &channels,
+        b"",
+        0.5,
+    );
 }
 
-fn too_many_stops() {
+fn too_many_stops(out: &mut StandardOutput) {
     let positions = [0.5f32; 2049];
     let channels = [0.25f32; 8196];
-    red(b"2049 stops", Kind::Linear, &positions, &channels, b"", 0.5);
+    red(
+        out,
+        b"2049 stops",
+        Kind::Linear,
+        &positions,
+        &channels,
+        b"",
+        0.5,
+    );
 }
 
 // n bytes of the text from `at` on are those of s, over and over.
@@ -175,7 +206,7 @@ fn fill(text: &mut [u8], at: usize, s: &[u8], n: usize)
     }
 }
 
-fn read(label: &[u8], text: &[u8]) {
+fn read(out: &mut StandardOutput, label: &[u8], text: &[u8]) {
     let black = Rgba {
         r: 0.0,
         g: 0.0,
@@ -185,8 +216,8 @@ fn read(label: &[u8], text: &[u8]) {
     let mut positions = [9.0f32; 771];
     let mut channels = [9.0f32; 2056];
     let mut codes = [9u8; 514];
-    out(label);
-    out(b"\t");
+    out.put(label);
+    out.put(b"\t");
     match colorgrad::read(
         text,
         black,
@@ -196,42 +227,44 @@ fn read(label: &[u8], text: &[u8]) {
         &mut codes,
     ) {
         ggr::Answer::Read(n) => {
-            out(b"read ");
-            number(n);
+            out.put(b"read ");
+            out.decimal(n as u64);
         }
         ggr::Answer::Refused(n, line) => {
-            refused(n);
-            out(b" line ");
-            number(line);
+            refused(out, n);
+            out.put(b" line ");
+            out.decimal(line as u64);
         }
     }
-    out(b"\n");
+    out.put(b"\n");
 }
 
 // A GIMP file whose line 3 counts so many segments, with 257 lines for them, of which all but the first have no length.
-fn counted(label: &[u8], header: &[u8; 29]) {
+fn counted(out: &mut StandardOutput, label: &[u8], header: &[u8; 29]) {
     let mut text = [0u8; 6712];
     fill(&mut text, 0, header, 29);
     fill(&mut text, 29, b"0 .5 1 0 0 0 1 1 1 1 1 0 0\n", 27);
     fill(&mut text, 56, b"1 1 1 0 0 0 1 1 1 1 1 0 0\n", 6656);
-    read(label, &text);
+    read(out, label, &text);
 }
 
-fn main() {
-    ramps();
-    sharp();
-    root(b"root of 2", 0x40000000);
-    root(b"root of 2^-149", 1);
-    token(b"0.1", b"0.1");
-    token(b"16777217", b"16777217");
-    meeting();
-    bent();
-    parted();
-    pair();
-    most_stops();
-    too_many_stops();
-    token(b"18 digits", b"123456789012345678");
-    token(b"19 digits", b"1234567890123456789");
-    counted(b"count 256", b"GIMP Gradient\nName: many\n256\n");
-    counted(b"count 257", b"GIMP Gradient\nName: many\n257\n");
+fn main(rt: HostRuntime) -> io::Result<()> {
+    let mut out = StandardOutput::new(rt.stdout());
+    ramps(&mut out);
+    sharp(&mut out);
+    root(&mut out, b"root of 2", 0x40000000);
+    root(&mut out, b"root of 2^-149", 1);
+    token(&mut out, b"0.1", b"0.1");
+    token(&mut out, b"16777217", b"16777217");
+    meeting(&mut out);
+    bent(&mut out);
+    parted(&mut out);
+    pair(&mut out);
+    most_stops(&mut out);
+    too_many_stops(&mut out);
+    token(&mut out, b"18 digits", b"123456789012345678");
+    token(&mut out, b"19 digits", b"1234567890123456789");
+    counted(&mut out, b"count 256", b"GIMP Gradient\nName: many\n256\n");
+    counted(&mut out, b"count 257", b"GIMP Gradient\nName: many\n257\n");
+    out.end()
 }

@@ -1,6 +1,6 @@
 -- `judge`: what is said of a list made elsewhere, of its shape alone too, and how it is told.
 use contract.Lifetimes.{Lfts}
-use Rattle.promises.specs.Law.{Coincide, coincide, answer, ◌with◌, both}
+use Rattle.promises.specs.Law.{Coincide, coincide, answer}
 use Rattle.judge.proofs.check_list.Reads as of_check_list
 use Rattle.judge.proofs.judge.Reads as of_judge
 

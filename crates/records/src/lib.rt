@@ -1,9 +1,11 @@
 // Whether a lent record may be thinned or refreshed: refusals 1 to 5, then 20.
+#![tactic(auto)]
+
 ghost use Rattle.std.specs.Prelude.{◌≡◌, length};
 ghost use Rattle.stops.specs.Answers.{Checks};
-ghost use Rattle.stops.specs.Lent.{lent_ramp, old};
+ghost use Rattle.stops.specs.Lent.{lent_ramp};
 ghost use Rattle.sampling.specs.Constants.{marks_length};
-ghost use Rattle.sampling.specs.Lent.{lent_held};
+ghost use Rattle.sampling.specs.Lent.{shared_held};
 ghost use Rattle.sampling.specs.Sampling.{and_then, marks_in};
 ghost use Rattle.records.specs.Fitness.{counts_check, marks_check, thin_check};
 
@@ -13,7 +15,7 @@ use stops::{Checked, Kind};
 
 // Refusal 5 of a count that is 0 or above 128.
 pub fn check_counts(counts: &[u8]) -> Checked
-    ensures { result ≡ counts_check (old counts) }
+    ensures { result ≡ counts_check counts.now }
 {
     let mut i = 0;
     while i < counts.len() {
@@ -32,7 +34,7 @@ pub fn check_counts(counts: &[u8]) -> Checked
 // Refusal 20 of a record that was sampled with another threshold in force, or on another domain: bits are compared.
 fn check_marks(kind: Kind, positions: &[f32], threshold: f32, marks: &[u32]) -> Checked
     requires { length marks.now ≡ marks_length }
-    ensures { result ≡ marks_check (marks_in kind (old positions) threshold) (old marks) }
+    ensures { result ≡ marks_check (marks_in kind positions.now threshold) marks.now }
 {
     let sampler = Sampler::new(threshold);
     if marks[0] != float::to_bits(sampler.threshold) {
@@ -68,7 +70,7 @@ pub fn check_thin(
     counts: &[u8],
     marks: &[u32],
 ) -> Checked
-    ensures { Checks (thin_check (lent_ramp kind positions channels codes) threshold (lent_held rows counts marks).entry) result }
+    ensures { Checks (thin_check (lent_ramp kind positions channels codes) threshold (shared_held rows counts marks).entry) result }
 {
     match check_sample(
         kind,

@@ -1,6 +1,5 @@
 // An edit of a ramp: what it is, the stretch that it reaches and the cells that it leaves as they are.
 ghost use Rattle.std.specs.Prelude.{◌≡◌, ◌+◌, ◌-◌};
-ghost use Rattle.stops.specs.Lent.{old};
 ghost use Rattle.refresh.specs.reach.Stretch.{stretch_between};
 ghost use Rattle.refresh.specs.editing.Reached.{stretch_of, cells_kept};
 
@@ -13,7 +12,7 @@ pub mod copy;
 pub mod rules;
 
 // A stop is given a colour or a position, or one is added, whose stop is the index that it gets, or one is removed.
-#[derive(Drop)]
+#[derive(Clone, Copy)]
 pub enum Edit {
     Colour {
         stop: usize,
@@ -35,7 +34,7 @@ pub enum Edit {
 
 // The stretch from the stop before stop k to the one after it. Past the last stop no sum is made, which could wrap.
 fn stretch_beside(positions: &[f32], k: usize) -> Stretch
-    ensures { result ≡ stretch_between (old positions) (k - 1) (k + 1) }
+    ensures { result ≡ stretch_between positions.now (k - 1) (k + 1) }
 {
     let before = less(k);
     if positions.len() <= k {
@@ -46,7 +45,7 @@ fn stretch_beside(positions: &[f32], k: usize) -> Stretch
 
 // The stretch that an edit reaches.
 pub(crate) fn stretch_of(kind: Kind, positions: &[f32], edit: Edit) -> Stretch
-    ensures { result ≡ stretch_of kind (old positions) edit }
+    ensures { result ≡ stretch_of kind positions.now edit }
 {
     match edit {
         Edit::Colour { stop, colour: _ } => colour_stretch(kind, positions, stop),
@@ -62,7 +61,7 @@ pub(crate) fn stretch_of(kind: Kind, positions: &[f32], edit: Edit) -> Stretch
 
 // The cells that an edit leaves as they are.
 pub fn kept(kind: Kind, positions: &[f32], edit: Edit) -> [bool; 36]
-    ensures { result ≡ cells_kept kind (old positions) edit }
+    ensures { result ≡ cells_kept kind positions.now edit }
 {
     let min = gradient::min_of(kind, positions);
     let max = gradient::max_of(kind, positions);

@@ -1,8 +1,10 @@
 // Refreshing a record after an edit of its ramp: a cell clear of the change keeps what it holds, any other is sampled anew.
+#![tactic(auto)]
+
 ghost use Rattle.std.specs.Prelude.{◌≡◌, ◌+◌, ◌*◌, length};
 ghost use Rattle.refusals.specs.Limits.{most_stops};
 ghost use Rattle.stops.specs.Lent.{lent_ramp};
-ghost use Rattle.sampling.specs.Lent.{lent_held};
+ghost use Rattle.sampling.specs.Lent.{lent_held, shared_held};
 ghost use Rattle.linearize.specs.Lent.{lent_output};
 ghost use Rattle.refresh.specs.RefreshDesk.{Refreshes, RefreshLists};
 ghost use Rattle.refresh.specs.inner.Prepared.{Prepares};
@@ -33,7 +35,7 @@ fn check_and_copy(
     colours: &mut [f32],
 ) -> Copied
     requires { (length places.old ≡ most_stops + 1) × (length colours.old ≡ 4 * (most_stops + 1)) }
-    ensures { Prepares (lent_ramp kind positions channels codes) edit threshold (lent_held rows counts marks) (lent_output places colours) result }
+    ensures { Prepares (lent_ramp kind positions channels codes) edit threshold (shared_held rows counts marks) (lent_output places colours) result }
 {
     match check_thin(
         kind, positions, channels, codes, threshold, rows, counts, marks,

@@ -3,6 +3,8 @@
 
 // A ramp whose stops or segments are too few, too many, with an edit made too, odd for sharp or of a kind not carried; a list
 // to write of too few or too many stops; lengths that disagree.
+#![tactic(auto)]
+
 pub const MISSHAPEN: u8 = 1;
 
 // A position or channel of the input is not finite.

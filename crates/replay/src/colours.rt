@@ -2,12 +2,13 @@
 use crate::{Tally, words};
 use blend::Rgba;
 use stops::{Checked, Kind};
+use streams::StandardInput;
 
-pub fn is_colour(c: Rgba) -> bool {
-    let r = words::word();
-    let g = words::word();
-    let b = words::word();
-    let a = words::word();
+pub fn is_colour(input: &mut StandardInput, c: Rgba) -> bool {
+    let r = words::word(input);
+    let g = words::word(input);
+    let b = words::word(input);
+    let a = words::word(input);
     if !words::is_word(c.r, r) {
         return false;
     }
@@ -21,6 +22,7 @@ pub fn is_colour(c: Rgba) -> bool {
 }
 
 fn points(
+    input: &mut StandardInput,
     kind: Kind,
     positions: &[f32],
     channels: &[f32],
@@ -31,8 +33,11 @@ fn points(
     let mut tally = before;
     let mut i = 0;
     while i < n {
-        let t = words::float();
-        tally = tally.with(is_colour(gradient::colour_at(kind, positions, channels, codes, t)));
+        let t = words::float(input);
+        tally = tally.with(is_colour(
+            input,
+            gradient::colour_at(kind, positions, channels, codes, t),
+        ));
         i += 1;
     }
     tally
@@ -46,14 +51,15 @@ fn refusal_of(kind: Kind, positions: &[f32], channels: &[f32], codes: &[u8]) -> 
 }
 
 pub fn answers(
+    input: &mut StandardInput,
     kind: Kind,
     positions: &[f32],
     channels: &[f32],
     codes: &[u8],
     before: Tally,
 ) -> Tally {
-    let refusal = words::word();
-    let n = words::word();
+    let refusal = words::word(input);
+    let n = words::word(input);
     let tally = before.with(refusal_of(kind, positions, channels, codes) == refusal);
-    points(kind, positions, channels, codes, n, tally)
+    points(input, kind, positions, channels, codes, n, tally)
 }

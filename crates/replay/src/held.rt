@@ -3,9 +3,11 @@ use crate::lists::{RECORD, RUBBISH, SMALL_ROOM, compared};
 use crate::{Tally, words};
 use linearize::Sampler;
 use stops::Kind;
+use streams::StandardInput;
 
 // In full.
 pub fn flattened(
+    input: &mut StandardInput,
     kind: Kind,
     positions: &[f32],
     channels: &[f32],
@@ -17,8 +19,8 @@ pub fn flattened(
     let mut marks = [0u32; Sampler::MARKS];
     let mut places = [RUBBISH; RECORD + 1];
     let mut colours = [RUBBISH; 4 * (RECORD + 1)];
-    let threshold = words::float();
-    let hold = words::float();
+    let threshold = words::float(input);
+    let hold = words::float(input);
     let made = within::flatten_within(
         kind,
         positions,
@@ -32,10 +34,11 @@ pub fn flattened(
         &mut places,
         &mut colours,
     );
-    compared(made, &places, &colours, before)
+    compared(input, made, &places, &colours, before)
 }
 
 fn thin(
+    input: &mut StandardInput,
     kind: Kind,
     positions: &[f32],
     channels: &[f32],
@@ -46,12 +49,12 @@ fn thin(
     let mut rows = [0.0f32; RECORD];
     let mut counts = [0u8; Sampler::CELLS];
     let mut colours = [RUBBISH; 4 * (RECORD + 1)];
-    let threshold = words::float();
-    let hold = words::float();
-    let n = words::word();
-    words::scattered(&mut rows, n);
-    words::bytes(&mut counts, Sampler::CELLS);
-    let marks = [words::word(), words::word(), words::word()];
+    let threshold = words::float(input);
+    let hold = words::float(input);
+    let n = words::word(input);
+    words::scattered(input, &mut rows, n);
+    words::bytes(input, &mut counts, Sampler::CELLS);
+    let marks = [words::word(input), words::word(input), words::word(input)];
     let made = within::thin_within(
         kind,
         positions,
@@ -65,11 +68,12 @@ fn thin(
         places,
         &mut colours,
     );
-    compared(made, places, &colours, before)
+    compared(input, made, places, &colours, before)
 }
 
 // A record of stored points, counts and words, zero elsewhere; with the room that the first word says.
 pub fn thinned(
+    input: &mut StandardInput,
     kind: Kind,
     positions: &[f32],
     channels: &[f32],
@@ -78,8 +82,8 @@ pub fn thinned(
 ) -> Tally {
     let mut few = [RUBBISH; 2];
     let mut places = [RUBBISH; RECORD + 1];
-    if words::word() == SMALL_ROOM {
-        return thin(kind, positions, channels, codes, &mut few, before);
+    if words::word(input) == SMALL_ROOM {
+        return thin(input, kind, positions, channels, codes, &mut few, before);
     }
-    thin(kind, positions, channels, codes, &mut places, before)
+    thin(input, kind, positions, channels, codes, &mut places, before)
 }

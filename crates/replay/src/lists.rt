@@ -2,6 +2,7 @@
 use crate::{Tally, edits, words};
 use linearize::{Listed, Sampler};
 use stops::Kind;
+use streams::StandardInput;
 
 pub const RECORD: usize = Sampler::CELLS * Sampler::ROW;
 
@@ -14,10 +15,10 @@ pub const SMALL_ROOM: u32 = 2;
 pub const RUBBISH: f32 = 7.5;
 
 // Whether the answer is the next three words: refusal, stops, evaluations.
-fn is_answer(made: Listed) -> bool {
-    let refusal = words::word();
-    let stops = words::word();
-    let evaluations = words::word();
+fn is_answer(input: &mut StandardInput, made: Listed) -> bool {
+    let refusal = words::word(input);
+    let stops = words::word(input);
+    let evaluations = words::word(input);
     match made {
         Listed::Refused(n) => n as u32 == refusal,
         Listed::Done {
@@ -36,15 +37,22 @@ fn is_answer(made: Listed) -> bool {
 }
 
 // The answer, the positions and the channels, each an answer of its own.
-pub fn compared(made: Listed, places: &[f32], colours: &[f32], before: Tally) -> Tally {
-    let answered = before.with(is_answer(made));
-    let n = words::word();
-    let placed = answered.with(words::are_words(places, n));
-    let m = words::word();
-    placed.with(words::are_words(colours, m))
+pub fn compared(
+    input: &mut StandardInput,
+    made: Listed,
+    places: &[f32],
+    colours: &[f32],
+    before: Tally,
+) -> Tally {
+    let answered = before.with(is_answer(input, made));
+    let n = words::word(input);
+    let placed = answered.with(words::are_words(input, places, n));
+    let m = words::word(input);
+    placed.with(words::are_words(input, colours, m))
 }
 
 fn flatten(
+    input: &mut StandardInput,
     kind: Kind,
     positions: &[f32],
     channels: &[f32],
@@ -69,11 +77,12 @@ fn flatten(
         places,
         colours,
     );
-    compared(made, places, colours, before)
+    compared(input, made, places, colours, before)
 }
 
 // With the room that the word after the threshold says.
 pub fn flattened(
+    input: &mut StandardInput,
     kind: Kind,
     positions: &[f32],
     channels: &[f32],
@@ -84,10 +93,11 @@ pub fn flattened(
     let mut few = [RUBBISH; 2];
     let mut places = [RUBBISH; RECORD + 1];
     let mut colours = [RUBBISH; 4 * (RECORD + 1)];
-    let threshold = words::float();
-    let room = words::word();
+    let threshold = words::float(input);
+    let room = words::word(input);
     if room == SHORT_RECORD {
         return flatten(
+            input,
             kind,
             positions,
             channels,
@@ -101,6 +111,7 @@ pub fn flattened(
     }
     if room == SMALL_ROOM {
         return flatten(
+            input,
             kind,
             positions,
             channels,
@@ -113,6 +124,7 @@ pub fn flattened(
         );
     }
     flatten(
+        input,
         kind,
         positions,
         channels,
@@ -127,6 +139,7 @@ pub fn flattened(
 
 // A record of stored points, counts and words, zero elsewhere.
 pub fn thinned(
+    input: &mut StandardInput,
     kind: Kind,
     positions: &[f32],
     channels: &[f32],
@@ -137,11 +150,11 @@ pub fn thinned(
     let mut counts = [0u8; Sampler::CELLS];
     let mut places = [RUBBISH; RECORD + 1];
     let mut colours = [RUBBISH; 4 * (RECORD + 1)];
-    let threshold = words::float();
-    let n = words::word();
-    words::scattered(&mut rows, n);
-    words::bytes(&mut counts, Sampler::CELLS);
-    let marks = [words::word(), words::word(), words::word()];
+    let threshold = words::float(input);
+    let n = words::word(input);
+    words::scattered(input, &mut rows, n);
+    words::bytes(input, &mut counts, Sampler::CELLS);
+    let marks = [words::word(input), words::word(input), words::word(input)];
     let made = linearize::thin(
         kind,
         positions,
@@ -154,11 +167,12 @@ pub fn thinned(
         &mut places,
         &mut colours,
     );
-    compared(made, &places, &colours, before)
+    compared(input, made, &places, &colours, before)
 }
 
 // The record is sampled of the ramp as it was, then refreshed.
 fn refresh(
+    input: &mut StandardInput,
     kind: Kind,
     positions: &[f32],
     channels: &[f32],
@@ -171,7 +185,7 @@ fn refresh(
     let mut marks = [0u32; Sampler::MARKS];
     let mut places = [RUBBISH; RECORD + 1];
     let mut colours = [RUBBISH; 4 * (RECORD + 1)];
-    let edit = edits::next();
+    let edit = edits::next(input);
     linearize::sample(
         kind,
         positions,
@@ -195,11 +209,12 @@ fn refresh(
         &mut places,
         &mut colours,
     );
-    compared(made, &places, &colours, before)
+    compared(input, made, &places, &colours, before)
 }
 
 // With the room that the word after the threshold says.
 pub fn refreshed(
+    input: &mut StandardInput,
     kind: Kind,
     positions: &[f32],
     channels: &[f32],
@@ -208,13 +223,13 @@ pub fn refreshed(
 ) -> Tally {
     let mut rows = [RUBBISH; RECORD];
     let mut few = [RUBBISH; 2];
-    let threshold = words::float();
-    if words::word() == SHORT_RECORD {
+    let threshold = words::float(input);
+    if words::word(input) == SHORT_RECORD {
         return refresh(
-            kind, positions, channels, codes, threshold, &mut few, before,
+            input, kind, positions, channels, codes, threshold, &mut few, before,
         );
     }
     refresh(
-        kind, positions, channels, codes, threshold, &mut rows, before,
+        input, kind, positions, channels, codes, threshold, &mut rows, before,
     )
 }

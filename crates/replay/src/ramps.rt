@@ -1,6 +1,7 @@
 // A stored ramp, of any kind, and what was asked of it.
 use crate::{Tally, colours, held, lists, steps, verdicts, words};
 use stops::Kind;
+use streams::StandardInput;
 
 pub const COLOURS: u32 = 1;
 
@@ -46,6 +47,7 @@ pub fn kind_of(code: u32) -> Kind {
 }
 
 fn answers(
+    input: &mut StandardInput,
     sort: u32,
     kind: Kind,
     positions: &[f32],
@@ -54,45 +56,47 @@ fn answers(
     before: Tally,
 ) -> Tally {
     if sort == COLOURS {
-        return colours::answers(kind, positions, channels, codes, before);
+        return colours::answers(input, kind, positions, channels, codes, before);
     }
     if sort == LISTS {
-        return lists::flattened(kind, positions, channels, codes, before);
+        return lists::flattened(input, kind, positions, channels, codes, before);
     }
     if sort == THINNED {
-        return lists::thinned(kind, positions, channels, codes, before);
+        return lists::thinned(input, kind, positions, channels, codes, before);
     }
     if sort == VERDICTS {
-        return verdicts::answers(kind, positions, channels, codes, before);
+        return verdicts::answers(input, kind, positions, channels, codes, before);
     }
     if sort == STEPS {
-        return steps::answers(kind, positions, channels, codes, before);
+        return steps::answers(input, kind, positions, channels, codes, before);
     }
     if sort == WITHIN {
-        return held::flattened(kind, positions, channels, codes, before);
+        return held::flattened(input, kind, positions, channels, codes, before);
     }
     if sort == STALE {
-        return held::thinned(kind, positions, channels, codes, before);
+        return held::thinned(input, kind, positions, channels, codes, before);
     }
-    lists::refreshed(kind, positions, channels, codes, before)
+    lists::refreshed(input, kind, positions, channels, codes, before)
 }
 
 // The next ramp, into the start of the space.
 fn read(
+    input: &mut StandardInput,
     sort: u32,
     positions: &mut [f32],
     channels: &mut [f32],
     codes: &mut [u8],
     before: Tally,
 ) -> Tally {
-    let kind = kind_of(words::word());
-    let p = words::word() as usize;
-    let c = words::word() as usize;
-    let k = words::word() as usize;
-    words::floats(positions, p);
-    words::floats(channels, c);
-    words::bytes(codes, k);
+    let kind = kind_of(words::word(input));
+    let p = words::word(input) as usize;
+    let c = words::word(input) as usize;
+    let k = words::word(input) as usize;
+    words::floats(input, positions, p);
+    words::floats(input, channels, c);
+    words::bytes(input, codes, k);
     answers(
+        input,
         sort,
         kind,
         words::cut(positions, p),
@@ -103,9 +107,16 @@ fn read(
 }
 
 // The next record of this sort.
-pub fn run(sort: u32, before: Tally) -> Tally {
+pub fn run(input: &mut StandardInput, sort: u32, before: Tally) -> Tally {
     let mut positions = [0.0f32; MOST_POSITIONS];
     let mut channels = [0.0f32; MOST_CHANNELS];
     let mut codes = [0u8; MOST_CODES];
-    read(sort, &mut positions, &mut channels, &mut codes, before)
+    read(
+        input,
+        sort,
+        &mut positions,
+        &mut channels,
+        &mut codes,
+        before,
+    )
 }

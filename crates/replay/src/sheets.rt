@@ -5,6 +5,7 @@ use crate::{Tally, turns, words};
 use linearize::Sampler;
 use sheet::ListSort;
 use stops::Kind;
+use streams::StandardInput;
 
 // The most that is lent: twelve stops or segments, and room for four stops more.
 const MOST_POSITIONS: usize = 3 * 12 + 4;
@@ -13,9 +14,9 @@ const MOST_CHANNELS: usize = 8 * 12 + 4 * 4;
 
 const MOST_CODES: usize = 2 * 12 + 1;
 
-fn list_sort() -> ListSort {
-    let sort = words::word();
-    let hold = words::float();
+fn list_sort(input: &mut StandardInput) -> ListSort {
+    let sort = words::word(input);
+    let hold = words::float(input);
     if sort == 0 {
         return ListSort::Thinned;
     }
@@ -24,6 +25,7 @@ fn list_sort() -> ListSort {
 
 // The opening, and the edits.
 fn turned(
+    input: &mut StandardInput,
     kind: Kind,
     positions: &mut [f32],
     channels: &mut [f32],
@@ -35,8 +37,9 @@ fn turned(
     let mut counts = [0u8; Sampler::CELLS];
     let mut marks = [0u32; Sampler::MARKS];
     let mut colours = [RUBBISH; 4 * (RECORD + 1)];
-    let sort = list_sort();
+    let sort = list_sort(input);
     let tally = turns::first(
+        input,
         kind,
         positions,
         channels,
@@ -50,6 +53,7 @@ fn turned(
         before,
     );
     turns::run(
+        input,
         kind,
         positions,
         channels,
@@ -66,6 +70,7 @@ fn turned(
 
 // With a record and outputs of the lengths that the next words say; a length for which there is no space tells nothing.
 fn held(
+    input: &mut StandardInput,
     kind: Kind,
     positions: &mut [f32],
     channels: &mut [f32],
@@ -74,8 +79,8 @@ fn held(
     places: &mut [f32],
     before: Tally,
 ) -> Tally {
-    let r = words::word() as usize;
-    let p = words::word() as usize;
+    let r = words::word(input) as usize;
+    let p = words::word(input) as usize;
     if r > rows.len() {
         return before;
     }
@@ -83,6 +88,7 @@ fn held(
         return before;
     }
     turned(
+        input,
         kind,
         positions,
         channels,
@@ -95,6 +101,7 @@ fn held(
 
 // A ramp with its room, the first p positions and c channels of the space.
 fn lent(
+    input: &mut StandardInput,
     kind: Kind,
     positions: &mut [f32],
     channels: &mut [f32],
@@ -112,6 +119,7 @@ fn lent(
         return before;
     }
     held(
+        input,
         kind,
         &mut positions[..p],
         &mut channels[..c],
@@ -123,18 +131,19 @@ fn lent(
 }
 
 // The next sheet.
-pub fn run(before: Tally) -> Tally {
+pub fn run(input: &mut StandardInput, before: Tally) -> Tally {
     let mut positions = [0.0f32; MOST_POSITIONS];
     let mut channels = [0.0f32; MOST_CHANNELS];
     let mut codes = [0u8; MOST_CODES];
-    let kind = kind_of(words::word());
-    let p = words::word() as usize;
-    let c = words::word() as usize;
-    let k = words::word() as usize;
-    words::floats(&mut positions, p);
-    words::floats(&mut channels, c);
-    words::bytes(&mut codes, k);
+    let kind = kind_of(words::word(input));
+    let p = words::word(input) as usize;
+    let c = words::word(input) as usize;
+    let k = words::word(input) as usize;
+    words::floats(input, &mut positions, p);
+    words::floats(input, &mut channels, c);
+    words::bytes(input, &mut codes, k);
     lent(
+        input,
         kind,
         &mut positions,
         &mut channels,

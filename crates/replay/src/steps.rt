@@ -4,6 +4,7 @@ use blend::{Rgba, Stop};
 use linearize::Sampler;
 use next_stop::{Handed, ListPlace, Told};
 use stops::Kind;
+use streams::StandardInput;
 
 // A stop of no numbers.
 fn none() -> Stop {
@@ -29,13 +30,13 @@ fn stop_of(told: Told) -> Stop {
 }
 
 // Whether the next six words are what is handed out: position, channels, evaluations.
-fn is_stop(handed: Handed) -> bool {
+fn is_stop(input: &mut StandardInput, handed: Handed) -> bool {
     let told = handed.told;
     let stop = stop_of(told);
-    let placed = words::is_word(stop.position, words::word());
+    let placed = words::is_word(stop.position, words::word(input));
     let colour = stop.colour;
-    let coloured = colours::is_colour(colour);
-    let counted = words::is_number(handed.evaluations, words::word());
+    let coloured = colours::is_colour(input, colour);
+    let counted = words::is_number(handed.evaluations, words::word(input));
     words::both(words::both(placed, coloured), counted)
 }
 
@@ -50,6 +51,7 @@ fn is_ended(handed: Handed) -> bool {
 
 // n steps from the start, and two more.
 fn walked(
+    input: &mut StandardInput,
     kind: Kind,
     positions: &[f32],
     channels: &[f32],
@@ -70,7 +72,7 @@ fn walked(
         );
         let after = handed.place;
         place = after;
-        tally = tally.with(is_stop(handed));
+        tally = tally.with(is_stop(input, handed));
         i += 1;
     }
     let last = next_stop::next_stop(
@@ -86,6 +88,7 @@ fn walked(
 
 // The record is sampled here.
 pub fn answers(
+    input: &mut StandardInput,
     kind: Kind,
     positions: &[f32],
     channels: &[f32],
@@ -95,7 +98,7 @@ pub fn answers(
     let mut rows = [0.0f32; Sampler::CELLS * Sampler::ROW];
     let mut counts = [0u8; Sampler::CELLS];
     let mut marks = [0u32; Sampler::MARKS];
-    let threshold = words::float();
+    let threshold = words::float(input);
     linearize::sample(
         kind,
         positions,
@@ -106,8 +109,8 @@ pub fn answers(
         &mut counts,
         &mut marks,
     );
-    let n = words::word();
+    let n = words::word(input);
     walked(
-        kind, positions, channels, codes, threshold, &rows, &counts, &marks, n, before,
+        input, kind, positions, channels, codes, threshold, &rows, &counts, &marks, n, before,
     )
 }

@@ -3,6 +3,7 @@
 use crate::{Tally, edits, sums, words};
 use sheet::{ListSort, SheetAnswer};
 use stops::Kind;
+use streams::StandardInput;
 
 // Which answer a turn has.
 const DONE: u32 = 0;
@@ -12,12 +13,12 @@ const UNLISTED: u32 = 1;
 const REFUSED: u32 = 2;
 
 // Whether the answer is the next five words: which it is, the refusal, the stops of the ramp, those of the list, evaluations.
-fn is_answer(answer: SheetAnswer) -> bool {
-    let which = words::word();
-    let refusal = words::word();
-    let ramp = words::word();
-    let list = words::word();
-    let spent = words::word();
+fn is_answer(input: &mut StandardInput, answer: SheetAnswer) -> bool {
+    let which = words::word(input);
+    let refusal = words::word(input);
+    let ramp = words::word(input);
+    let list = words::word(input);
+    let spent = words::word(input);
     match answer {
         SheetAnswer::Done {
             stops,
@@ -46,15 +47,23 @@ fn is_answer(answer: SheetAnswer) -> bool {
 }
 
 // The answer and the three sums, each an answer of its own.
-fn compared(answer: SheetAnswer, ramp: u32, record: u32, list: u32, before: Tally) -> Tally {
-    let answered = before.with(is_answer(answer));
-    let lent = answered.with(words::word() == ramp);
-    let held = lent.with(words::word() == record);
-    held.with(words::word() == list)
+fn compared(
+    input: &mut StandardInput,
+    answer: SheetAnswer,
+    ramp: u32,
+    record: u32,
+    list: u32,
+    before: Tally,
+) -> Tally {
+    let answered = before.with(is_answer(input, answer));
+    let lent = answered.with(words::word(input) == ramp);
+    let held = lent.with(words::word(input) == record);
+    held.with(words::word(input) == list)
 }
 
 // The opening, with the number of stops and the threshold that are stored for it.
 pub fn first(
+    input: &mut StandardInput,
     kind: Kind,
     positions: &[f32],
     channels: &[f32],
@@ -67,13 +76,14 @@ pub fn first(
     colours: &mut [f32],
     before: Tally,
 ) -> Tally {
-    let stops = words::word() as usize;
-    let threshold = words::float();
+    let stops = words::word(input) as usize;
+    let threshold = words::float(input);
     let answer = sheet::open(
         kind, positions, channels, codes, stops, threshold, sort, rows, counts, marks, places,
         colours,
     );
     compared(
+        input,
         answer,
         sums::of_stops(positions, channels),
         sums::of_record(rows, counts, marks),
@@ -84,6 +94,7 @@ pub fn first(
 
 // One edit, with its own number of stops and threshold.
 fn turn(
+    input: &mut StandardInput,
     kind: Kind,
     positions: &mut [f32],
     channels: &mut [f32],
@@ -96,14 +107,15 @@ fn turn(
     colours: &mut [f32],
     before: Tally,
 ) -> Tally {
-    let stops = words::word() as usize;
-    let threshold = words::float();
-    let edit = edits::next();
+    let stops = words::word(input) as usize;
+    let threshold = words::float(input);
+    let edit = edits::next(input);
     let answer = sheet::edit(
         kind, positions, channels, codes, stops, edit, threshold, sort, rows, counts, marks,
         places, colours,
     );
     compared(
+        input,
         answer,
         sums::of_stops(positions, channels),
         sums::of_record(rows, counts, marks),
@@ -114,6 +126,7 @@ fn turn(
 
 // As many edits as the next word says.
 pub fn run(
+    input: &mut StandardInput,
     kind: Kind,
     positions: &mut [f32],
     channels: &mut [f32],
@@ -127,10 +140,11 @@ pub fn run(
     before: Tally,
 ) -> Tally {
     let mut tally = before;
-    let mut left = words::word();
+    let mut left = words::word(input);
     while left > 0 {
         tally = turn(
-            kind, positions, channels, codes, sort, rows, counts, marks, places, colours, tally,
+            input, kind, positions, channels, codes, sort, rows, counts, marks, places, colours,
+            tally,
         );
         left -= 1;
     }

@@ -2,15 +2,16 @@
 use crate::{Tally, words};
 use judge::Verdict;
 use stops::Kind;
+use streams::StandardInput;
 
 const MOST_STOPS: usize = 256;
 
 // Whether the verdict is the next four words.
-fn is_verdict(verdict: Verdict) -> bool {
-    let which = words::word();
-    let first = words::word();
-    let second = words::word();
-    let point = words::word();
+fn is_verdict(input: &mut StandardInput, verdict: Verdict) -> bool {
+    let which = words::word(input);
+    let first = words::word(input);
+    let second = words::word(input);
+    let point = words::word(input);
     match verdict {
         Verdict::Yes => which == 0,
         Verdict::WrongLength => which == 1,
@@ -34,6 +35,7 @@ fn is_verdict(verdict: Verdict) -> bool {
 }
 
 fn judged(
+    input: &mut StandardInput,
     kind: Kind,
     positions: &[f32],
     channels: &[f32],
@@ -42,23 +44,27 @@ fn judged(
     colours: &mut [f32],
     before: Tally,
 ) -> Tally {
-    let threshold = words::float();
-    let p = words::word() as usize;
-    let c = words::word() as usize;
-    words::floats(places, p);
-    words::floats(colours, c);
-    before.with(is_verdict(judge::judge(
-        kind,
-        positions,
-        channels,
-        codes,
-        threshold,
-        words::cut(places, p),
-        words::cut(colours, c),
-    )))
+    let threshold = words::float(input);
+    let p = words::word(input) as usize;
+    let c = words::word(input) as usize;
+    words::floats(input, places, p);
+    words::floats(input, colours, c);
+    before.with(is_verdict(
+        input,
+        judge::judge(
+            kind,
+            positions,
+            channels,
+            codes,
+            threshold,
+            words::cut(places, p),
+            words::cut(colours, c),
+        ),
+    ))
 }
 
 pub fn answers(
+    input: &mut StandardInput,
     kind: Kind,
     positions: &[f32],
     channels: &[f32],
@@ -68,6 +74,7 @@ pub fn answers(
     let mut places = [0.0f32; MOST_STOPS];
     let mut colours = [0.0f32; 4 * MOST_STOPS];
     judged(
+        input,
         kind,
         positions,
         channels,

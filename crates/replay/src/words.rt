@@ -1,5 +1,6 @@
 // The stored answers come as words on standard input: eight hexadecimal digits and one byte that ends them.
 use blend::Rgba;
+use streams::StandardInput;
 
 // The value of a hexadecimal digit, 0 for any other byte.
 fn digit(b: u8) -> u32 {
@@ -23,9 +24,9 @@ fn pair(high: u8, low: u8) -> u32 {
 }
 
 // The next word; 0 once the input has ended.
-pub fn word() -> u32 {
+pub fn word(input: &mut StandardInput) -> u32 {
     let mut text = [0u8; 9];
-    if io::read_full(libc::STDIN_FILENO, &mut text) < 9 {
+    if input.fill(&mut text) < 9 {
         return 0;
     }
     let high = (pair(text[0], text[1]) << 24) | (pair(text[2], text[3]) << 16);
@@ -40,16 +41,16 @@ pub fn float_of(bits: u32) -> f32 {
     f32::from_bits(bits)
 }
 
-pub fn float() -> f32 {
-    float_of(word())
+pub fn float(input: &mut StandardInput) -> f32 {
+    float_of(word(input))
 }
 
-pub fn colour() -> Rgba {
+pub fn colour(input: &mut StandardInput) -> Rgba {
     Rgba {
-        r: float(),
-        g: float(),
-        b: float(),
-        a: float(),
+        r: float(input),
+        g: float(input),
+        b: float(input),
+        a: float(input),
     }
 }
 
@@ -73,20 +74,20 @@ fn put(out: &mut [f32], i: usize, x: f32) {
 }
 
 // Takes n floats into the start of out; those past its end are read and dropped.
-pub fn floats(out: &mut [f32], n: usize) {
+pub fn floats(input: &mut StandardInput, out: &mut [f32], n: usize) {
     let mut i = 0;
     while i < n {
-        put(out, i, float());
+        put(out, i, float(input));
         i += 1;
     }
 }
 
 // Takes n floats, each after its own place in out; those past its end are read and dropped.
-pub fn scattered(out: &mut [f32], n: u32) {
+pub fn scattered(input: &mut StandardInput, out: &mut [f32], n: u32) {
     let mut i = 0;
     while i < n {
-        let at = word() as usize;
-        put(out, at, float());
+        let at = word(input) as usize;
+        put(out, at, float(input));
         i += 1;
     }
 }
@@ -105,15 +106,15 @@ fn put_byte(out: &mut [u8], i: usize, x: u8) {
     }
 }
 
-fn byte() -> u8 {
-    (word() % 256) as u8
+fn byte(input: &mut StandardInput) -> u8 {
+    (word(input) % 256) as u8
 }
 
 // The same for bytes, each its own word.
-pub fn bytes(out: &mut [u8], n: usize) {
+pub fn bytes(input: &mut StandardInput, out: &mut [u8], n: usize) {
     let mut i = 0;
     while i < n {
-        put_byte(out, i, byte());
+        put_byte(out, i, byte(input));
         i += 1;
     }
 }
@@ -141,11 +142,11 @@ fn item(xs: &[f32], i: u32) -> f32 {
 }
 
 // Whether the next n words are the first n of xs. All of them are read.
-pub fn are_words(xs: &[f32], n: u32) -> bool {
+pub fn are_words(input: &mut StandardInput, xs: &[f32], n: u32) -> bool {
     let mut all = true;
     let mut i = 0;
     while i < n {
-        all = both(all, is_word(item(xs, i), word()));
+        all = both(all, is_word(item(xs, i), word(input)));
         i += 1;
     }
     all
@@ -164,11 +165,11 @@ fn byte_at(xs: &[u8], i: u32) -> u32 {
 }
 
 // The same for bytes, each its own word.
-pub fn are_bytes(xs: &[u8], n: u32) -> bool {
+pub fn are_bytes(input: &mut StandardInput, xs: &[u8], n: u32) -> bool {
     let mut all = true;
     let mut i = 0;
     while i < n {
-        all = both(all, byte_at(xs, i) == word());
+        all = both(all, byte_at(xs, i) == word(input));
         i += 1;
     }
     all

@@ -1,6 +1,7 @@
 // Stored lists as GIMP files: the refusal, or 0, and how many bytes; and the start of the output.
 use crate::{Tally, words};
 use ggr_writing::WriteAnswer;
+use streams::StandardInput;
 
 const MOST_STOPS: usize = 16;
 
@@ -10,9 +11,9 @@ const MOST_BYTES: usize = 2000;
 const RUBBISH: u8 = 7;
 
 // Whether the answer is the next two words: refusal, bytes.
-fn is_answer(answer: WriteAnswer) -> bool {
-    let refusal = words::word();
-    let bytes = words::word();
+fn is_answer(input: &mut StandardInput, answer: WriteAnswer) -> bool {
+    let refusal = words::word(input);
+    let bytes = words::word(input);
     match answer {
         WriteAnswer::Refused(n) => n as u32 == refusal,
         WriteAnswer::Written(n) => {
@@ -33,21 +34,33 @@ fn write(positions: &[f32], channels: &[f32], text: &mut [u8], room: usize) -> W
 }
 
 // The answer and the output, each an answer of its own.
-fn answers(positions: &[f32], channels: &[f32], room: usize, before: Tally) -> Tally {
+fn answers(
+    input: &mut StandardInput,
+    positions: &[f32],
+    channels: &[f32],
+    room: usize,
+    before: Tally,
+) -> Tally {
     let mut text = [RUBBISH; MOST_BYTES];
     let answer = write(positions, channels, &mut text, room);
-    let answered = before.with(is_answer(answer));
-    let n = words::word();
-    answered.with(words::are_bytes(&text, n))
+    let answered = before.with(is_answer(input, answer));
+    let n = words::word(input);
+    answered.with(words::are_bytes(input, &text, n))
 }
 
-fn read(positions: &mut [f32], channels: &mut [f32], before: Tally) -> Tally {
-    let p = words::word() as usize;
-    let c = words::word() as usize;
-    let room = words::word() as usize;
-    words::floats(positions, p);
-    words::floats(channels, c);
+fn read(
+    input: &mut StandardInput,
+    positions: &mut [f32],
+    channels: &mut [f32],
+    before: Tally,
+) -> Tally {
+    let p = words::word(input) as usize;
+    let c = words::word(input) as usize;
+    let room = words::word(input) as usize;
+    words::floats(input, positions, p);
+    words::floats(input, channels, c);
     answers(
+        input,
         words::cut(positions, p),
         words::cut(channels, c),
         room,
@@ -56,8 +69,8 @@ fn read(positions: &mut [f32], channels: &mut [f32], before: Tally) -> Tally {
 }
 
 // The next list with its answers.
-pub fn run(before: Tally) -> Tally {
+pub fn run(input: &mut StandardInput, before: Tally) -> Tally {
     let mut positions = [0.0f32; MOST_STOPS];
     let mut channels = [0.0f32; 4 * MOST_STOPS];
-    read(&mut positions, &mut channels, before)
+    read(input, &mut positions, &mut channels, before)
 }

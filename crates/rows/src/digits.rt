@@ -3,7 +3,7 @@ ghost use Rattle.std.specs.Prelude.{◌≡◌};
 ghost use Rattle.rows.specs.Digits.{digits_of, digits_with};
 
 // The number, or none.
-#[derive(Drop)]
+#[derive(Clone, Copy)]
 pub enum Digits {
     Bad,
     Is(u64),

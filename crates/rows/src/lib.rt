@@ -1,4 +1,6 @@
 // A row of numbers, in fields that white space or tabs part.
+#![tactic(auto)]
+
 ghost use Rattle.std.specs.Prelude.{◌≡◌, replicate};
 ghost use Rattle.float.specs.F32.{f0};
 ghost use Rattle.rows.specs.declared.Parting.TheVariants.{Spaces, Tabs};
@@ -12,21 +14,21 @@ pub mod digits;
 
 // What parts the fields of a row. Spaces: white space, and they are the words of a line. Tabs: every tab parts two fields,
 // of which either may be empty, and they go on to the end of the text.
-#[derive(Drop)]
+#[derive(Clone, Copy)]
 pub enum Parting {
     Spaces,
     Tabs,
 }
 
 // What a number may look like: short, as document 01 has it, or long, with an exponent and more digits.
-#[derive(Drop)]
+#[derive(Clone, Copy)]
 pub enum Notation {
     Short,
     Long,
 }
 
 // The field from `at` to `end`, and where to look for the one after it; or none, and where what follows the row starts.
-#[derive(Drop)]
+#[derive(Clone, Copy)]
 struct Field {
     some: bool,
     at: usize,
@@ -119,7 +121,7 @@ fn token_of(s: &[u8], notation: Notation) -> Token
 }
 
 // The numbers of a row, n of them in d, which is 0 after them, and where what follows the row starts.
-#[derive(Drop)]
+#[derive(Clone, Copy)]
 pub struct Row {
     pub d: [f32; 15],
     pub n: usize,

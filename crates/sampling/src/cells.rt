@@ -5,7 +5,7 @@ ghost use Rattle.sampling.specs.Cells.{end_of};
 ghost use Rattle.sampling.specs.Segments.{placed_point, point_near, Draws, GoesAlong};
 ghost use Rattle.sampling.specs.inner.Steps.{Carrying, Reaches, task_ramp, task_colours, task_end, task_far, PointDrawn, CellCarried};
 ghost use Rattle.sampling.specs.Lent.{lent_body};
-ghost use Rattle.stops.specs.Lent.{lent_ramp, old, new};
+ghost use Rattle.stops.specs.Lent.{lent_ramp};
 ghost use Rattle.stops.specs.declared.Checked.TheVariants.{Fine};
 ghost use Rattle.gradient.specs.Ramp.{check_of};
 
@@ -19,7 +19,7 @@ use stops::{Kind, Place, near, segments};
 
 // The point at t, whose place among the stops is known.
 pub fn placed(kind: Kind, positions: &[f32], channels: &[f32], t: f32, place: Place) -> Point
-    ensures { result ≡ placed_point kind (old positions) (old channels) t place }
+    ensures { result ≡ placed_point kind positions.now channels.now t place }
 {
     match place {
         Place::End(i) => Point {
@@ -87,7 +87,7 @@ pub fn drawn_at(
     guess: usize,
     drawn: &mut [[f32; 4]; 7],
 ) -> Point
-    ensures { Draws (old positions) (old channels) t place guess (old drawn) (new drawn) result }
+    ensures { Draws positions.now channels.now t place guess drawn.old drawn.new result }
 {
     let pair = near::pair_or(place, 0);
     follow(channels, positions.len(), guess, pair, drawn);
@@ -106,7 +106,7 @@ pub fn evaluate_along(
     guess: usize,
     drawn: &mut [[f32; 4]; 7],
 ) -> Point
-    ensures { GoesAlong (lent_ramp kind positions channels codes) t guess (old drawn) (new drawn) result }
+    ensures { GoesAlong (lent_ramp kind positions channels codes) t guess drawn.old drawn.new result }
 {
     if !segments::is_catmull_rom(kind) {
         return told_at(evaluate(kind, positions, channels, codes, t, guess), t);
@@ -137,7 +137,7 @@ fn end_at(
 ) -> Point
     requires i_le_cells { (i ≤ cells) × (check_of (task_ramp task positions channels codes) ≡ Fine) }
     requires carrying { Carrying (task_ramp task positions channels codes) guess drawn.old }
-    ensures { PointDrawn (lent_ramp task.kind positions channels codes) (task_colours task positions channels codes) (task_end task i) (new drawn) result }
+    ensures { PointDrawn (lent_ramp task.kind positions channels codes) (task_colours task positions channels codes) (task_end task i) drawn.new result }
 {
     let kind = task.kind;
     let t = edge(task.min, task.max, i);
@@ -156,7 +156,7 @@ fn left_end(
 ) -> Point
     requires i_le_cells { i ≤ cells }
     requires reaches { Reaches (task_ramp task positions channels codes) drawn.old task.min task.max i carried }
-    ensures { PointDrawn (lent_ramp task.kind positions channels codes) (task_colours task positions channels codes) (task_end task i) (new drawn) result }
+    ensures { PointDrawn (lent_ramp task.kind positions channels codes) (task_colours task positions channels codes) (task_end task i) drawn.new result }
 {
     let point = carried.point;
     if carried.known {
@@ -181,7 +181,7 @@ pub(crate) fn resample_cell(
     requires i_lt_cells { (i < cells) × ((length rows.old ≡ record_length) × (length counts.old ≡ cells)) }
     requires reaches { Reaches (task_ramp task positions channels codes) drawn.old task.min task.max i carried }
     ensures cell_carried { CellCarried (task_colours task positions channels codes) (task_far task) kept task.min task.max i (lent_body rows counts) carried result }
-    ensures carrying { Carrying (lent_ramp task.kind positions channels codes) result.point.pair (new drawn) }
+    ensures carrying { Carrying (lent_ramp task.kind positions channels codes) result.point.pair drawn.new }
 {
     if kept {
         let point = carried.point;

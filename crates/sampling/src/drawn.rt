@@ -2,7 +2,6 @@
 // was evaluated before, so a pair that is drawn already is that of an end, and each is drawn once.
 ghost use Rattle.std.specs.Prelude.{◌≡◌, cond, ◌<◌};
 ghost use Rattle.blend.specs.Chords.{chords_of};
-ghost use Rattle.stops.specs.Lent.{old, new};
 ghost use Rattle.sampling.specs.Segments.{drawn_of, curve_of, chords_at, follows, drawn_between, redrawn};
 
 use blend::{Rgba, catmull_rom};
@@ -17,7 +16,7 @@ const AFTER: usize = 6;
 
 fn chords_at(s: &[[f32; 4]; 7], i: usize) -> Rgba
     requires { i < 7 }
-    ensures { result ≡ chords_at (old s) i }
+    ensures { result ≡ chords_at s.now i }
 {
     let c = s[i];
     Rgba {
@@ -30,7 +29,7 @@ fn chords_at(s: &[[f32; 4]; 7], i: usize) -> Rgba
 
 // The segment of a drawn pair.
 pub(crate) fn curve_of(s: &[[f32; 4]; 7]) -> [[f32; 4]; 4]
-    ensures { result ≡ curve_of (old s) }
+    ensures { result ≡ curve_of s.now }
 {
     [s[0], s[1], s[2], s[3]]
 }
@@ -68,7 +67,7 @@ fn comes_after(n: usize, i: usize, k: usize) -> bool
 // The chords of two neighbours: those in a row of s, if they are there.
 fn chords_or(there: bool, s: &[[f32; 4]; 7], i: usize, p: Rgba, q: Rgba) -> Rgba
     requires { i < 7 }
-    ensures { result ≡ cond there (chords_at (old s) i) (chords_of p q) }
+    ensures { result ≡ cond there (chords_at s.now i) (chords_of p q) }
 {
     if there {
         return chords_at(s, i);
@@ -85,7 +84,7 @@ fn chords_within(
     p: Rgba,
     q: Rgba,
 ) -> Rgba
-    ensures { result ≡ cond behind (chords_at (old s) 6) (cond ahead (chords_at (old u) 4) (chords_of p q)) }
+    ensures { result ≡ cond behind (chords_at s.now 6) (cond ahead (chords_at u.now 4) (chords_of p q)) }
 {
     if behind {
         return chords_at(s, AFTER);
@@ -103,7 +102,7 @@ fn draw_between(
     u: &[[f32; 4]; 7],
     k: usize,
 ) -> [[f32; 4]; 7]
-    ensures { result ≡ drawn_between (old channels) n i (old s) j (old u) k }
+    ensures { result ≡ drawn_between channels.now n i s.now j u.now k }
 {
     let behind = comes_after(n, i, k);
     let ahead = comes_after(n, k, j);
@@ -128,7 +127,7 @@ pub(crate) fn redraw(
     u: &[[f32; 4]; 7],
     k: usize,
 ) -> [[f32; 4]; 7]
-    ensures { result ≡ redrawn (old channels) n i (old s) j (old u) k }
+    ensures { result ≡ redrawn channels.now n i s.now j u.now k }
 {
     if k == 0 {
         return *s;
@@ -144,7 +143,7 @@ pub(crate) fn redraw(
 
 // Goes on from pair i, which s has, to pair k.
 pub(crate) fn follow(channels: &[f32], n: usize, i: usize, k: usize, s: &mut [[f32; 4]; 7])
-    ensures { new s ≡ redrawn (old channels) n i (old s) 0 (old s) k }
+    ensures { s.new ≡ redrawn channels.now n i s.old 0 s.old k }
 {
     if k == 0 {
         return;

@@ -2,7 +2,6 @@
 ghost use Rattle.std.specs.Prelude.{◌≡◌, true, ◌+◌, ◌≤◌, ◌^◌, length};
 ghost use Rattle.sampling.specs.Constants.{depth, row_length};
 ghost use Rattle.sampling.specs.inner.Steps.{Between, DrawnBetween, task_ramp, task_colours, task_far, HalvesTo, RowIs};
-ghost use Rattle.stops.specs.Lent.{old, new};
 ghost use Rattle.stops.specs.Segments.{is_catmull_rom};
 
 use crate::cells::evaluate;
@@ -27,7 +26,7 @@ fn halve(
 ) -> Halved
     requires left_in_bounds { at + 2 ^ left ≤ length row.old + 1 }
     requires between { Between (task_ramp task positions channels codes) p q }
-    ensures { HalvesTo (task_colours task positions channels codes) (task_far task) left p.t q.t at (old row) (new row) result }
+    ensures { HalvesTo (task_colours task positions channels codes) (task_far task) left p.t q.t at row.old row.new result }
 {
     if left == 0 {
         return Halved { at, tries: 0 };
@@ -66,7 +65,7 @@ fn halve_drawn(
 ) -> Halved
     requires left_in_bounds { (at + 2 ^ left ≤ length row.old + 1) × (is_catmull_rom task.kind ≡ true) }
     requires drawn_between { DrawnBetween (task_ramp task positions channels codes) p q s.now u.now }
-    ensures { HalvesTo (task_colours task positions channels codes) (task_far task) left p.t q.t at (old row) (new row) result }
+    ensures { HalvesTo (task_colours task positions channels codes) (task_far task) left p.t q.t at row.old row.new result }
 {
     if left == 0 {
         return Halved { at, tries: 0 };
@@ -121,7 +120,7 @@ fn halve_cell(
 ) -> Halved
     requires row_len { length row.old ≡ row_length }
     requires drawn_between { DrawnBetween (task_ramp task positions channels codes) p q s.now u.now }
-    ensures { HalvesTo (task_colours task positions channels codes) (task_far task) depth p.t q.t 1 (old row) (new row) result }
+    ensures { HalvesTo (task_colours task positions channels codes) (task_far task) depth p.t q.t 1 row.old row.new result }
 {
     let kind = task.kind;
     let depth = Sampler::DEPTH;
@@ -145,7 +144,7 @@ pub(crate) fn row_into(
 ) -> Halved
     requires row_len { length row.old ≡ row_length }
     requires drawn_between { DrawnBetween (task_ramp task positions channels codes) p q s.now u.now }
-    ensures { RowIs (task_colours task positions channels codes) (task_far task) p.t q.t (new row) result }
+    ensures { RowIs (task_colours task positions channels codes) (task_far task) p.t q.t row.new result }
 {
     row[0] = p.t;
     let h = halve_cell(task, positions, channels, codes, row, p, q, s, u);

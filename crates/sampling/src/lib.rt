@@ -1,4 +1,6 @@
 // Sampling a ramp: cell by cell into a lent record.
+#![tactic(auto)]
+
 ghost use Rattle.std.specs.Prelude.{◌≡◌};
 ghost use Rattle.sqrt.specs.Cutoff.{IsCutoff};
 ghost use Rattle.stops.specs.Answers.{Checks};
@@ -20,7 +22,7 @@ mod pairs;
 mod resampling;
 
 // The shape of a record, the depth of the halving, the thresholds, and how far a domain may reach.
-#[derive(Drop)]
+#[derive(Clone, Copy)]
 pub struct Sampler {
     pub threshold: f32,
 }
@@ -67,7 +69,7 @@ impl Sampler {
 
 // A number and its colour, so that no point is evaluated twice, and the pair of stops that it lies in (0 for none), which the
 // next point is tried in. The colour comes first, so that a point is read in the same parts in which it was written.
-#[derive(Drop)]
+#[derive(Clone, Copy)]
 pub struct Point {
     pub colour: Rgba,
     pub t: f32,
@@ -75,7 +77,7 @@ pub struct Point {
 }
 
 // What a sampling works by, beside the ramp's lists: the ramp's kind and domain, and how far apart colours may be.
-#[derive(Drop)]
+#[derive(Clone, Copy)]
 pub(crate) struct Task {
     pub(crate) kind: Kind,
     pub(crate) cutoff: f32,
@@ -84,14 +86,14 @@ pub(crate) struct Task {
 }
 
 // Where the next point goes, and how many stretches were tried.
-#[derive(Drop)]
+#[derive(Clone, Copy)]
 pub(crate) struct Halved {
     pub(crate) at: usize,
     pub(crate) tries: usize,
 }
 
 // What one cell hands to the next: the point where that one starts, if it was evaluated, and the tries so far.
-#[derive(Drop)]
+#[derive(Clone, Copy)]
 pub(crate) struct Carried {
     pub(crate) point: Point,
     pub(crate) known: bool,
@@ -99,7 +101,7 @@ pub(crate) struct Carried {
 }
 
 // What sampling answers: the evaluations, or the number of the refusal.
-#[derive(Drop)]
+#[derive(Clone, Copy)]
 pub enum Sampled {
     Done(usize),
     Refused(u8),

@@ -1,6 +1,5 @@
 // The colour between two stops.
 ghost use Rattle.std.specs.Prelude.{◌≡◌};
-ghost use Rattle.stops.specs.Lent.{old};
 ghost use Rattle.stops.specs.Pair.{between, colour_in};
 ghost use Rattle.stops.specs.declared.Place.TheVariants.{Between};
 
@@ -10,7 +9,7 @@ use stops::{Kind, Place};
 // The colour between stop k - 1 and stop k. It is mixed here: behind the call that any place takes, the stops would go through
 // memory at each point.
 pub(crate) fn pair_at(kind: Kind, positions: &[f32], channels: &[f32], k: usize, t: f32) -> Rgba
-    ensures { result ≡ between kind (old positions) (old channels) k t }
+    ensures { result ≡ between kind positions.now channels.now k t }
 {
     let lower = stops::less(k);
     let p = stops::stop(positions, channels, lower);
@@ -35,7 +34,7 @@ pub(crate) fn pair_at(kind: Kind, positions: &[f32], channels: &[f32], k: usize,
 // The same, behind that call. Its slices are made anew: handed on as they came, they would be copied at each point of every
 // kind, and wait for both of their words.
 fn any_pair(kind: Kind, positions: &[f32], channels: &[f32], k: usize, t: f32) -> Rgba
-    ensures { result ≡ colour_in kind (old positions) (old channels) t (Between k) }
+    ensures { result ≡ colour_in kind positions.now channels.now t (Between k) }
 {
     stops::colour_in(kind, &positions[0..], &channels[0..], t, Place::Between(k))
 }

@@ -2,7 +2,7 @@
 use Rattle.std.specs.Prelude.{ℕ, ◌*◌, ◌≡◌, List, [], ◌∷◌, ◌++◌, Float}
 use Rattle.std.proofs.lemmas.List.Edits.{sets}
 use Rattle.blend.specs.Channels.{channels_of}
-use Rattle.stops.specs.Lent.{Change, change, Lent, old, new}
+use Rattle.stops.specs.Lent.{Change, change, LentMut}
 use Rattle.gradient.specs.declared.gimp.Segment.{Segment}
 
 pub record Store : Type 0 where
@@ -14,8 +14,8 @@ pub record Store : Type 0 where
 abbrev pub store_of : List Float → List Float → List ℕ → Store
 store_of ps cs ks = record { positions = ps; channels = cs; codes = ks }
 
-abbrev pub lent_store : Lent Float → Lent Float → Lent ℕ → Change Store
-lent_store ps cs ks = change (store_of (old ps) (old cs) (old ks)) (store_of (new ps) (new cs) (new ks))
+abbrev pub lent_store : LentMut Float → LentMut Float → LentMut ℕ → Change Store
+lent_store ps cs ks = change (store_of ps.entry.now cs.entry.now ks.entry.now) (store_of ps.exit.now cs.exit.now ks.exit.now)
 
 -- 3 positions, 8 channels and 2 codes of a segment
 unfoldable pub segment_positions : Segment → List Float

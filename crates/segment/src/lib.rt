@@ -1,4 +1,6 @@
 // One segment of a GIMP file: read from its line, and put in the three lists that hold segments.
+#![tactic(auto)]
+
 ghost use Rattle.std.specs.Prelude.{◌≡◌};
 ghost use Rattle.segment.specs.Line.{notation_by, kind_by, code_of, valid_codes, without_alpha, end_colour, build, SegmentAt};
 ghost use Rattle.segment.specs.inner.Steps.{segment_length};
@@ -13,14 +15,14 @@ use stops::Kind;
 pub mod store;
 
 // The rules that a file is read by: document 01's, or those for what GIMP saves.
-#[derive(Drop)]
+#[derive(Clone, Copy)]
 pub enum Rules {
     Published,
     Saved,
 }
 
 // What a line holds: a segment, or document 01's number of why it is none.
-#[derive(Drop)]
+#[derive(Clone, Copy)]
 pub enum SegmentRead {
     Valid(Segment),
     Fault(u8),
@@ -156,7 +158,7 @@ fn makes_segment(n: usize) -> bool
 }
 
 // A segment line, and where the next line starts.
-#[derive(Drop)]
+#[derive(Clone, Copy)]
 pub struct SegmentLine {
     pub read: SegmentRead,
     pub next: usize,

@@ -2,7 +2,6 @@
 // (blending, colouring) each.
 ghost use Rattle.std.specs.Prelude.{◌≡◌, ◌*◌, set};
 ghost use Rattle.std.proofs.lemmas.List.Edits.{sets};
-ghost use Rattle.stops.specs.Lent.{old, new};
 ghost use Rattle.segment.specs.Store.{segment_positions, segment_codes, lent_store, Stores};
 ghost use Rattle.segment.specs.inner.Steps.{ends_channels};
 
@@ -12,7 +11,7 @@ use slices::put;
 use stops::channels::put_colour;
 
 fn put_positions(out: &mut [f32], i: usize, g: Segment)
-    ensures { new out ≡ sets (old out) (3 * i) (segment_positions g) }
+    ensures { out.new ≡ sets out.old (3 * i) (segment_positions g) }
 {
     if i < out.len() {
         let at = 3 * i;
@@ -23,7 +22,7 @@ fn put_positions(out: &mut [f32], i: usize, g: Segment)
 }
 
 fn put_channels(out: &mut [f32], i: usize, left: Rgba, right: Rgba)
-    ensures { new out ≡ sets (old out) (8 * i) (ends_channels left right) }
+    ensures { out.new ≡ sets out.old (8 * i) (ends_channels left right) }
 {
     if i < out.len() {
         let at = 8 * i;
@@ -33,7 +32,7 @@ fn put_channels(out: &mut [f32], i: usize, left: Rgba, right: Rgba)
 }
 
 fn put_byte(out: &mut [u8], at: usize, x: u8)
-    ensures { new out ≡ set (old out) at x }
+    ensures { out.new ≡ set out.old at x }
 {
     if at < out.len() {
         out[at] = x;
@@ -41,7 +40,7 @@ fn put_byte(out: &mut [u8], at: usize, x: u8)
 }
 
 fn put_codes(out: &mut [u8], i: usize, g: Segment)
-    ensures { new out ≡ sets (old out) (2 * i) (segment_codes g) }
+    ensures { out.new ≡ sets out.old (2 * i) (segment_codes g) }
 {
     if i < out.len() {
         let at = 2 * i;

@@ -61,7 +61,7 @@ module _ (colours : List Float) (min max s : Float) (p c m : ℕ) (built : build
       record {
         sized = sized_as n (length positions) (length (sharp_channels colours n)) k.least k.most long (length_channels colours n);
         finite_at = fin_at;
-        colour_finite = λ i l. colour_of colours n i w.all_finite r.whole (omega arith);
+        colour_finite = λ i l. colour_of colours n i w.all_finite_lem r.whole (omega arith);
         rising = steady_rising max (inf true) positions w.steadily;
       }
 

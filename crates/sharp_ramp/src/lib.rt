@@ -1,7 +1,8 @@
 // How a sharp ramp is built: n colours, each a band, give 2n stops.
+#![tactic(auto)]
+
 ghost use Rattle.std.specs.Prelude.{◌≡◌, true, ◌++◌, ◌*◌, ◌<◌, ◌≤◌, length, take, drop};
 ghost use Rattle.refusals.specs.Limits.{most_colours};
-ghost use Rattle.stops.specs.Lent.{old, new};
 ghost use Rattle.sharp_ramp.specs.Sharp.{softness_of, inset_of, band_at, sharp_positions, sharp_channels, domain_fits, roomy, Builds};
 
 use blend::utils;
@@ -9,7 +10,7 @@ use refusals::{MISSHAPEN, MOST_COLOURS, NOT_BUILT, NOT_FINITE};
 use stops::is_steady;
 
 // How many stops were written, or the number of the refusal.
-#[derive(Drop)]
+#[derive(Clone, Copy)]
 pub enum Built {
     Stops(usize),
     Refused(u8),
@@ -139,7 +140,7 @@ pub fn build(
     positions: &mut [f32],
     channels: &mut [f32],
 ) -> Built
-    ensures { Builds (old colours) min max softness (old positions) (new positions) (old channels) (new channels) result }
+    ensures { Builds colours.now min max softness positions.old positions.new channels.old channels.new result }
 {
     let n = colours.len() / 4;
     if !domain_fits(n, min, max) {

@@ -1,19 +1,17 @@
 -- The list of a record, of either sort, as a sheet's answer. Assumes nothing.
 use mathlib.Core.Path.{◌≡◌, refl, ap, ◌∙◌}
-use Prim.Native.Nat.{ℕ, zero, suc, ◌+◌, ◌≤◌}
+use Prim.Native.Nat.{ℕ, zero, suc, ◌≤◌}
 use native.Mathlib.Omega.{arith}
 use lib.ListN.{length}
 use lib.Ieee.{Float}
 use Rattle.stops.specs.Lent.{Ramp, Change}
 use Rattle.stops.specs.declared.Checked.TheVariants as checked
-use Rattle.gradient.specs.Ramp.{max_of, colour_of}
+use Rattle.gradient.specs.Ramp.{max_of}
 use Rattle.sampling.specs.Lent.{Held}
-use Rattle.sampling.specs.Sampling.{far_of}
 use Rattle.sampling.proofs.Checks.{ramp_fine}
 use Rattle.records.specs.Fitness.{thin_check}
 use Rattle.records.proofs.Passing.{sample_fine}
 use Rattle.places.proofs.Following.{list_most}
-use Rattle.thinning.specs.Kept.{kept_of, refusal_of, list_evaluations}
 use Rattle.linearize.specs.Lent.{Output}
 use Rattle.linearize.specs.Desk.{evaluations_of_listed, listed_of, with_sampling, after_spending, points_in, room, thin_output}
 use Rattle.linearize.specs.Promises.{Thins}

@@ -50,6 +50,14 @@ module _ (kind : Kind) (n positions channels : ℕ) where
       let u = both_r a (b && c) h in
       record { most = leb-true n most_stops (both_l a (b && c) h); positions_there = leb-true _ positions (both_l b c u); channels_there = leb-true _ channels (both_r b c u) }
 
+  -- as many as were counted are lent
+  module _ (fits : stops_fit kind n positions channels ≡ true) where
+    pub positions_held : {p : ℕ} → p ≡ positions_for kind n → p ≤ positions
+    positions_held is = omega (arith, (fit_is fits).positions_there, is)
+
+    pub channels_held : {c : ℕ} → c ≡ channels_for kind n → c ≤ channels
+    channels_held is = omega (arith, (fit_is fits).channels_there, is)
+
 -- ---- a stop more
 module _ (n positions channels : ℕ) where
   pub no_place : positions ≤ n → false ≡ room_fits n positions channels

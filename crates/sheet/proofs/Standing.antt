@@ -1,40 +1,34 @@
 -- A sheet that stands: its ramp, its record and its list are of one ramp. It does when it is opened, and an edit, refused or not, leaves it so. Assumes nothing.
-use mathlib.Core.Path.{◌≡◌, refl, sym, ap, ◌∙◌, subst}
+use mathlib.Core.Path.{◌≡◌, refl, sym, ap, ◌∙◌}
 use mathlib.Core.Bool.{Bool, true, false, cond}
-use mathlib.Core.List.{List, [], ◌∷◌}
+use mathlib.Core.List.{List}
 use Prim.Native.Nat.{ℕ, zero, suc, ◌+◌}
 use native.Mathlib.Omega.{arith}
 use lib.ListN.{length}
 use lib.Ieee.{Float}
 use Rattle.refusals.specs.Refusals.{misshapen}
-use Rattle.stops.specs.Lent.{Ramp, change}
-use Rattle.stops.specs.Answers.{on_fine}
+use Rattle.stops.specs.Lent.{Ramp}
 use Rattle.stops.specs.declared.Kind.{Kind}
 use Rattle.stops.specs.declared.Checked.{Checked}
 use Rattle.stops.specs.declared.Checked.TheVariants as checked
-use Rattle.sampling.specs.Lent.{Held}
 use Rattle.sampling.specs.Sampling.{held_check, fresh, fresh_evaluations}
 use Rattle.linearize.specs.Desk.{listed_of, unless_refused, points_in, room}
 use Rattle.linearize.specs.declared.Listed.{Listed}
 use Rattle.linearize.specs.declared.Listed.TheVariants as listed
 use Rattle.linearize.proofs.Records.{fresh_held}
-use Rattle.refresh.specs.editing.Edited.{stops_after, edited}
+use Rattle.refresh.specs.editing.Edited.{edited}
 use Rattle.refresh.specs.editing.Rules.{edit_allowed}
-use Rattle.refresh.specs.RefreshDesk.{refresh_check, renewed, new_evaluations}
 use Rattle.refresh.specs.declared.editing.Edit.{Edit}
 use Rattle.refresh.specs.declared.editing.Edit.TheVariants.{Colour, Move, Add, Remove}
-use Rattle.refresh.proofs.RefreshAnswers.{edited_held}
-use Rattle.refresh.proofs.Theorem.{fresh-renewed}
 use Rattle.refresh.proofs.editing.EditRules.{remove_passes}
 use Rattle.sheet.specs.Room.{room_fits, fitted, stops_fit, first_of}
-use Rattle.sheet.specs.Lists.{refusal_by, stops_by, evaluations_by, written_by, listed_by}
+use Rattle.sheet.specs.Lists.{refusal_by, stops_by, evaluations_by, written_by}
 use Rattle.sheet.specs.Answers.{sheet_by, number_of_sheet, listed_of_sheet, stops_now}
-use Rattle.sheet.specs.Promises.{open_check, sheet_check, edit_answer, made_edit, made_ramp}
-use Rattle.sheet.specs.Through.{Sheet, Turn, listed_now, refusal_now, Opened, Turned}
+use Rattle.sheet.specs.Promises.{open_check}
+use Rattle.sheet.specs.Through.{Sheet, listed_now, refusal_now, Opened}
 use Rattle.sheet.specs.declared.ListSort.{ListSort}
 use Rattle.sheet.specs.declared.SheetAnswer.{SheetAnswer}
 use Rattle.sheet.specs.declared.SheetAnswer.TheVariants.{Done, Unlisted, Refused}
-use Rattle.sheet.proofs.Editing.{edit_ok, edit_fine, first_written}
 use Rattle.sheet.proofs.Rewriting.{room_stays, list_stays}
 
 -- ---- an answer's parts

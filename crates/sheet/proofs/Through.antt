@@ -1,6 +1,6 @@
 -- The theorem: whatever was lent to `open`, after any number of edits, refused ones among them, the ramp is the one that the edits that were not refused make of the first, and record, list and
 -- answer are those of flattening it afresh; and rows clear of an edit keep every byte at that step. By induction over the edits, of any results that the contracts of the calls allow. Assumes nothing.
-use mathlib.Core.Path.{◌≡◌, refl, sym, ap, ◌∙◌, subst}
+use mathlib.Core.Path.{◌≡◌, refl, sym, ◌∙◌, subst}
 use mathlib.Core.Bool.{true}
 use mathlib.Core.List.{List, [], ◌∷◌}
 use Prim.Native.Nat.{ℕ, ◌<◌}
@@ -12,7 +12,7 @@ use Rattle.stops.specs.declared.Checked.TheVariants as checked
 use Rattle.gradient.specs.Ramp.{min_of, max_of}
 use Rattle.sampling.specs.Constants.{cells}
 use Rattle.sampling.specs.Lent.{Held}
-use Rattle.sampling.specs.Sampling.{held_check, fresh, sample_held}
+use Rattle.sampling.specs.Sampling.{held_check, sample_held}
 use Rattle.sampling.proofs.Checks.{record_lengths}
 use Rattle.linearize.specs.Lent.{Output}
 use Rattle.linearize.specs.Desk.{flatten_output}
@@ -20,7 +20,7 @@ use Rattle.linearize.specs.declared.Listed.{Listed}
 use Rattle.within.specs.Lists.{flatten_within_output}
 use Rattle.refresh.specs.reach.Stretch.{cell_clear}
 use Rattle.refresh.specs.editing.Reached.{away}
-use Rattle.refresh.specs.RefreshDesk.{refresh_check, renewed, new_evaluations, refresh_answer, refresh_evaluations, refresh_held, Refreshes}
+use Rattle.refresh.specs.RefreshDesk.{refresh_check, renewed, new_evaluations, refresh_answer, refresh_evaluations, refresh_held}
 use Rattle.refresh.specs.AfterEdit.{Shaped, SameCell}
 use Rattle.refresh.specs.declared.editing.Edit.{Edit}
 use Rattle.sampling.specs.declared.Sampled.TheVariants as refreshed

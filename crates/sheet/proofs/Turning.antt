@@ -4,11 +4,10 @@ use mathlib.Core.Bool.{true}
 use Prim.Native.Nat.{ℕ, ◌+◌}
 use lib.ListN.{length}
 use lib.Ieee.{Float}
-use Rattle.stops.specs.Lent.{Ramp, change}
+use Rattle.stops.specs.Lent.{Ramp}
 use Rattle.stops.specs.declared.Checked.{Checked}
 use Rattle.stops.specs.declared.Checked.TheVariants as checked
-use Rattle.sampling.specs.Lent.{Held}
-use Rattle.sampling.specs.Sampling.{held_check, fresh}
+use Rattle.sampling.specs.Sampling.{fresh}
 use Rattle.linearize.specs.Desk.{listed_of, points_in, room}
 use Rattle.linearize.proofs.Records.{fresh_held}
 use Rattle.refresh.specs.editing.Edited.{stops_after, edited}
@@ -17,9 +16,9 @@ use Rattle.refresh.proofs.RefreshAnswers.{edited_held}
 use Rattle.refresh.proofs.Theorem.{fresh-renewed}
 use Rattle.sheet.specs.Room.{stops_fit, first_of, rewritten}
 use Rattle.sheet.specs.Lists.{refusal_by, stops_by, evaluations_by, written_by}
-use Rattle.sheet.specs.Answers.{sheet_by, number_of_sheet, listed_of_sheet, stops_now}
-use Rattle.sheet.specs.Promises.{sheet_check, edit_answer, made_edit, made_ramp, made_points}
-use Rattle.sheet.specs.Through.{Sheet, Turn, listed_now, refusal_now, Turned}
+use Rattle.sheet.specs.Answers.{sheet_by}
+use Rattle.sheet.specs.Promises.{sheet_check, edit_answer, made_edit, made_ramp}
+use Rattle.sheet.specs.Through.{Sheet, Turn, Turned}
 use Rattle.sheet.specs.declared.ListSort.{ListSort}
 use Rattle.sheet.specs.declared.SheetAnswer.TheVariants.{Refused}
 use Rattle.sheet.proofs.Editing.{edit_ok, edit_fine, first_written}

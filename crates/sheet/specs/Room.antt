@@ -1,16 +1,16 @@
 -- A ramp with room: slices of which the first so many stops are the ramp, and what lies past them is nobody's. It is written as a `Ramp` whose lists are longer.
-use Rattle.std.specs.Prelude.{Bool, cond, ◌&&◌, ℕ, ◌+◌, ◌*◌, leb, ltb, length, take, Float}
+use Rattle.std.specs.Prelude.{Bool, cond, ◌&&◌, ℕ, ◌+◌, ◌*◌, leb, ltb, take, Float}
 use Rattle.std.proofs.lemmas.List.Edits.{sets}
 use Rattle.refusals.specs.Limits.{most_stops}
-use Rattle.stops.specs.Lent.{Ramp, ramp_of, Change, change, Lent, old, new}
+use Rattle.stops.specs.Lent.{Ramp, ramp_of, Change, change, Lent, LentMut}
 use Rattle.stops.specs.declared.Kind.{Kind}
 use Rattle.gradient.specs.Ramp.{is_gimp}
 use Rattle.refresh.specs.declared.editing.Edit.{Edit}
 use Rattle.refresh.specs.declared.editing.Edit.TheVariants.{Colour, Move, Add, Remove}
 
 -- in an `ensures`, where the ramp's slices are written; the codes are not
-abbrev pub lent_room : Kind → Lent Float → Lent Float → Lent ℕ → Change Ramp
-lent_room kind ps cs ks = change (ramp_of kind (old ps) (old cs) (old ks)) (ramp_of kind (new ps) (new cs) (old ks))
+abbrev pub lent_room : Kind → LentMut Float → LentMut Float → Lent ℕ → Change Ramp
+lent_room kind ps cs ks = change (ramp_of kind ps.entry.now cs.entry.now ks.entry.now) (ramp_of kind ps.exit.now cs.exit.now ks.entry.now)
 
 -- the positions and the channels of n stops, or of n segments
 abbrev pub positions_for : Kind → ℕ → ℕ

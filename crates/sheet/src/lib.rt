@@ -1,4 +1,6 @@
 // A sheet: a ramp with room for more stops, its record and its list, which stay of one ramp through any number of edits.
+#![tactic(auto)]
+
 ghost use Rattle.stops.specs.Lent.{lent_ramp};
 ghost use Rattle.sampling.specs.Lent.{lent_held};
 ghost use Rattle.linearize.specs.Lent.{lent_output};
@@ -19,7 +21,7 @@ mod making;
 mod room;
 
 // Which list a sheet has: the one that thinning makes, or the one within a hold.
-#[derive(Drop)]
+#[derive(Clone, Copy)]
 pub enum ListSort {
     Thinned,
     Within(f32),
@@ -27,7 +29,7 @@ pub enum ListSort {
 
 // What the calls answer: how many stops the ramp has, how many the list, and the evaluations; or that the list is refused,
 // while ramp and record are those with the edit made; or that all is refused, and stays as it was.
-#[derive(Drop)]
+#[derive(Clone, Copy)]
 pub enum SheetAnswer {
     Done {
         stops: usize,

@@ -2,7 +2,6 @@
 ghost use Rattle.std.specs.Prelude.{◌≡◌, [], ◌∷◌, ◌+◌, ◌-◌, ◌*◌, ◌≤◌, length, take, drop};
 ghost use Rattle.std.proofs.lemmas.List.Edits.{sets};
 ghost use Rattle.blend.specs.Channels.{channels_of};
-ghost use Rattle.stops.specs.Lent.{old, new};
 ghost use Rattle.refresh.specs.editing.Edited.{spliced};
 ghost use Rattle.sheet.specs.inner.Making.{MayMake, Makes};
 
@@ -14,7 +13,7 @@ use stops::channels::put_colour;
 // Moves the items from `at` up to `end` on by so many places, from the last one down.
 fn open_gap(list: &mut [f32], at: usize, end: usize, by: usize)
     requires { (at ≤ end) × (end + by ≤ length list.old) }
-    ensures { new list ≡ sets (old list) (at + by) (take (end - at) (drop at (old list))) }
+    ensures { list.new ≡ sets list.old (at + by) (take (end - at) (drop at list.old)) }
 {
     let mut i = end;
     while at < i {
@@ -26,7 +25,7 @@ fn open_gap(list: &mut [f32], at: usize, end: usize, by: usize)
 // Moves the items from `at + by` up to `end` back by so many places, from the first one up.
 fn close_gap(list: &mut [f32], at: usize, end: usize, by: usize)
     requires { (at + by ≤ end) × (end ≤ length list.old) }
-    ensures { new list ≡ sets (old list) at (take (end - (at + by)) (drop (at + by) (old list))) }
+    ensures { list.new ≡ sets list.old at (take (end - (at + by)) (drop (at + by) list.old)) }
 {
     let mut i = at + by;
     while i < end {
@@ -38,8 +37,8 @@ fn close_gap(list: &mut [f32], at: usize, end: usize, by: usize)
 // Puts a stop more into a ramp of so many.
 fn insert(positions: &mut [f32], channels: &mut [f32], stops: usize, k: usize, p: f32, c: Rgba)
     requires { (k ≤ stops) × ((stops + 1 ≤ length positions.old) × (4 * stops + 4 ≤ length channels.old)) }
-    ensures positions_value { new positions ≡ sets (old positions) 0 (spliced (take stops (old positions)) k 0 (p ∷ [])) }
-    ensures channels_value { new channels ≡ sets (old channels) 0 (spliced (take (4 * stops) (old channels)) (4 * k) 0 (channels_of c)) }
+    ensures positions_value { positions.new ≡ sets positions.old 0 (spliced (take stops positions.old) k 0 (p ∷ [])) }
+    ensures channels_value { channels.new ≡ sets channels.old 0 (spliced (take (4 * stops) channels.old) (4 * k) 0 (channels_of c)) }
 {
     open_gap(positions, k, stops, 1);
     put(positions, k, p);
@@ -50,8 +49,8 @@ fn insert(positions: &mut [f32], channels: &mut [f32], stops: usize, k: usize, p
 // Takes a stop out of a ramp of so many.
 fn remove(positions: &mut [f32], channels: &mut [f32], stops: usize, k: usize)
     requires { (k + 1 ≤ stops) × ((stops ≤ length positions.old) × (4 * stops ≤ length channels.old)) }
-    ensures positions_value { new positions ≡ sets (old positions) 0 (spliced (take stops (old positions)) k 1 []) }
-    ensures channels_value { new channels ≡ sets (old channels) 0 (spliced (take (4 * stops) (old channels)) (4 * k) 4 []) }
+    ensures positions_value { positions.new ≡ sets positions.old 0 (spliced (take stops positions.old) k 1 []) }
+    ensures channels_value { channels.new ≡ sets channels.old 0 (spliced (take (4 * stops) channels.old) (4 * k) 4 []) }
 {
     close_gap(positions, k, stops, 1);
     close_gap(channels, 4 * k, 4 * stops, 4);
@@ -60,7 +59,7 @@ fn remove(positions: &mut [f32], channels: &mut [f32], stops: usize, k: usize)
 // Makes an edit in a ramp of so many stops, and tells how many it has then.
 pub(crate) fn make(positions: &mut [f32], channels: &mut [f32], stops: usize, edit: Edit) -> usize
     requires { MayMake positions.old channels.old stops edit }
-    ensures { Makes (old positions) (old channels) stops edit (new positions) (new channels) result }
+    ensures { Makes positions.old channels.old stops edit positions.new channels.new result }
 {
     match edit {
         Edit::Colour { stop, colour } => {

@@ -1,5 +1,7 @@
 // A factor bent by half a wave of the sine, as GIMP's sinusoidal segments have it: from a table, with a straight line between
 // its entries.
+#![tactic(auto)]
+
 ghost use Rattle.std.specs.Prelude.{◌≡◌, ◌*◌, ◌^◌, ◌≤◌, ◌<◌};
 ghost use Rattle.sine.specs.Table.{entry};
 ghost use Rattle.sine.specs.inner.Sum.{nearer, less, sum};

@@ -1,4 +1,6 @@
 // Stores in lent slices, each safe for any index: what lies past the end is not stored.
+#![tactic(auto)]
+
 ghost use Rattle.std.specs.Prelude.{◌≡◌, ◌-◌, length, replicate, set};
 ghost use Rattle.std.proofs.lemmas.List.Edits.{sets};
 ghost use Rattle.float.specs.F32.{f0};

@@ -1,5 +1,7 @@
 // Texts as the programs of the gate have them on standard input: a text to a line, in which | stands for LF, ^ for CR,
 // _ for tab, ~ for byte 11, ! for byte 200 and @ for a byte-order mark.
+#![tactic(auto)]
+
 ghost use Rattle.std.specs.Prelude.{◌≡◌, length, take, set};
 ghost use Rattle.spelling.specs.Spelling.{next_in, Appends, plain_of, meant_by, meant, hits};
 

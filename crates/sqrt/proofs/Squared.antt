@@ -6,7 +6,7 @@ use native.Mathlib.Nat.{le_of_lt, lt_irrefl, zero-lt-suc, mul-pos, mul-le-mul_ri
 use native.Mathlib.Omega.{arith}
 use lib.Dec.{T}
 use lib.IntN.{ℤ}
-use lib.Ieee.{Float, nan, inf, fin, up, binary32, fits, le}
+use lib.Ieee.{Float, nan, inf, fin, binary32, fits, le}
 use lib.Ieee.Exact.{units_val}
 use lib.Ieee.Fits.{up_pos}
 use lib.Ieee.Scale.{finite}

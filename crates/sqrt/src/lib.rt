@@ -1,4 +1,6 @@
 // The correctly rounded square root of an f32, for every f32, worked out from its bits.
+#![tactic(auto)]
+
 ghost use Rattle.std.specs.Prelude.{◌≡◌, ◌*◌, ◌<◌, ◌≤◌, ◌^◌};
 ghost use Rattle.sqrt.specs.Root.{nearest_root, root_of};
 ghost use Rattle.sqrt.specs.inner.Steps.{Rootable, StandsFor};
@@ -17,7 +19,7 @@ const INFINITY: u32 = 0x7f80_0000;
 const SIGN: u32 = 0x8000_0000;
 
 // What a root is taken of: n * 4 ^ k. The root is guessed at the pattern `at`.
-#[derive(Drop)]
+#[derive(Clone, Copy)]
 struct Radicand {
     n: u64,
     k: u32,

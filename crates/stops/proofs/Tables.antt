@@ -12,15 +12,8 @@ use lib.Ieee.{Float}
 use Rattle.slices.specs.Joined.{joined}
 use Rattle.slices.proofs.Joined.{length-joined, joined_next, single_of}
 use Rattle.slices.proofs.Stores.{sets-append}
-use Rattle.blend.specs.CatmullRom.{segment_at}
-use Rattle.blend.specs.Pair.{share_of}
-use Rattle.blend.specs.declared.Rgba.{Rgba}
-use Rattle.blend.specs.declared.Stop.{Stop}
-use Rattle.stops.specs.Stops.{stop_at}
-use Rattle.stops.specs.Near.{segment_for, segment_in}
+use Rattle.stops.specs.Near.{segment_for}
 use Rattle.stops.specs.Segments.{Table, segments_from, FillsTable, Segments, InHand, segment_by}
-use Rattle.stops.specs.declared.Place.TheVariants.{Between}
-use Rattle.stops.proofs.Nearby.{by_between}
 
 -- what was stored from the start on, read again
 take-sets : {A : Type 0} (l vs : List A) (k : ℕ) → length vs ≡ k → k ≤ length l → take k (sets l 0 vs) ≡ vs

@@ -6,10 +6,9 @@ use Rattle.blend.specs.Chords.{chords_of}
 use Rattle.blend.specs.declared.Rgba.{Rgba}
 use Rattle.stops.specs.Stops.{colour_at}
 use Rattle.stops.specs.Pair.{right_of}
-use Rattle.stops.specs.Near.{segment_for, segment_in}
+use Rattle.stops.specs.Near.{segment_for}
 use Rattle.stops.specs.declared.Kind.{Kind}
 use Rattle.stops.specs.declared.Window.{Window}
-use Rattle.stops.specs.declared.Place.TheVariants.{Between}
 use Rattle.stops.specs.declared.Kind.TheVariants.{Linear, Smoothstep, Sharp, Basis, CatmullRom, Gimp, GimpSaved}
 
 abbrev pub is_catmull_rom : Kind → Bool

@@ -2,7 +2,6 @@
 ghost use Rattle.std.specs.Prelude.{◌≡◌, ◌+◌, ◌≤◌, ◌<◌, length};
 ghost use Rattle.std.proofs.lemmas.List.Edits.{sets};
 ghost use Rattle.blend.specs.Channels.{channels_of};
-ghost use Rattle.stops.specs.Lent.{old, new};
 ghost use Rattle.stops.specs.Stops.{pos_at, colour_at, stop_at};
 
 use blend::{Rgba, Stop};
@@ -66,7 +65,7 @@ pub fn stop(positions: &[f32], channels: &[f32], i: usize) -> Stop
 // The four numbers of a colour from k on, where there is room for all of them.
 fn put_whole(out: &mut [f32], k: usize, c: Rgba)
     requires { k + 4 ≤ length out.old }
-    ensures { new out ≡ sets (old out) k (channels_of c) }
+    ensures { out.new ≡ sets out.old k (channels_of c) }
 {
     out[k] = c.r;
     out[k + 1] = c.g;
@@ -77,7 +76,7 @@ fn put_whole(out: &mut [f32], k: usize, c: Rgba)
 // As many of them as there is room for.
 fn put_torn(out: &mut [f32], k: usize, c: Rgba)
     requires { k < length out.old }
-    ensures { new out ≡ sets (old out) k (channels_of c) }
+    ensures { out.new ≡ sets out.old k (channels_of c) }
 {
     put(out, k, c.r);
     put(out, k + 1, c.g);
@@ -88,7 +87,7 @@ fn put_torn(out: &mut [f32], k: usize, c: Rgba)
 // Stores the four numbers of a colour from k on, as many as there is room for. Painting does so at each point: where there is
 // room for all four, none is asked after by itself.
 pub fn put_colour(out: &mut [f32], k: usize, c: Rgba)
-    ensures { new out ≡ sets (old out) k (channels_of c) }
+    ensures { out.new ≡ sets out.old k (channels_of c) }
 {
     if k < out.len() {
         if 3 < out.len() - k {

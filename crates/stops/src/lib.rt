@@ -1,5 +1,7 @@
 // Stops lent as n positions and 4n channels: how they are read, their check, the place of t among them,
 // and the colour there. No function asks anything of the slices: past an end is not-a-number.
+#![tactic(auto)]
+
 ghost use Rattle.std.specs.Prelude.{◌≡◌, ◌-◌};
 
 pub mod between;
@@ -17,7 +19,7 @@ pub use crate::search::{below, find_place};
 // The kinds of ramp. Stops are n positions and 4n channels, with no codes. GIMP segments are 3n positions
 // (left, middle, right), 8n channels (left, then right) and 2n codes (blending, colouring). `GimpSaved` takes every
 // segment that GIMP saves, `Gimp` no curved ones.
-#[derive(Drop)]
+#[derive(Clone, Copy)]
 pub enum Kind {
     Linear,
     Smoothstep,
@@ -29,14 +31,14 @@ pub enum Kind {
 }
 
 // A ramp that may be used, or the number of the refusal.
-#[derive(Drop)]
+#[derive(Clone, Copy)]
 pub enum Checked {
     Fine,
     Refused(u8),
 }
 
 // Where t lies among stops: at an end, whose stop it names, nowhere, or between stop k - 1 and stop k.
-#[derive(Drop)]
+#[derive(Clone, Copy)]
 pub enum Place {
     End(usize),
     Nowhere,
@@ -44,7 +46,7 @@ pub enum Place {
 }
 
 // The Catmull-Rom segments in hand: those of `count` pairs from `base` on stand first in a table.
-#[derive(Drop)]
+#[derive(Clone, Copy)]
 pub struct Window {
     pub base: usize,
     pub count: usize,

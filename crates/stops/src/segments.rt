@@ -1,7 +1,6 @@
 // Catmull-Rom segments worked out once for a call: those of the pairs from one on, as many as a table has room for.
 ghost use Rattle.std.specs.Prelude.{◌≡◌, cond, ◌-◌, ltb};
 ghost use Rattle.blend.specs.Chords.{chords_of};
-ghost use Rattle.stops.specs.Lent.{old, new};
 ghost use Rattle.stops.specs.Near.{segment_for};
 ghost use Rattle.stops.specs.Stops.{colour_at};
 ghost use Rattle.stops.specs.Segments.{is_catmull_rom, FillsTable, segment_by, chords_after, Chords};
@@ -41,14 +40,14 @@ fn pairs_from(n: usize, base: usize) -> usize
 
 // The chords from stop k - 1 to stop k.
 fn chords_within(channels: &[f32], k: usize) -> Rgba
-    ensures { result ≡ chords_of (colour_at (old channels) (k - 1)) (colour_at (old channels) k) }
+    ensures { result ≡ chords_of (colour_at channels.now (k - 1)) (colour_at channels.now k) }
 {
     catmull_rom::chords(colour(channels, less(k)), colour(channels, k))
 }
 
 // The chords from stop k to the stop after it, or to the mirrored one.
 fn chords_after(channels: &[f32], n: usize, k: usize) -> Rgba
-    ensures { result ≡ chords_after (old channels) n k }
+    ensures { result ≡ chords_after channels.now n k }
 {
     let p = colour(channels, less(k));
     let q = colour(channels, k);
@@ -75,7 +74,7 @@ fn segment_next(
     after: Rgba,
 ) -> [[f32; 4]; 4]
     requires { Chords channels.now k last within × (after ≡ chords_after channels.now n k) }
-    ensures { result ≡ segment_for (old channels) n k }
+    ensures { result ≡ segment_for channels.now n k }
 {
     let p = colour(channels, less(k));
     let q = colour(channels, k);
@@ -95,7 +94,7 @@ fn segment_next(
 // Writes the segments of the pairs of n stops from `base` on, until the table is full. Gives how many there are. Each pair
 // hands its chords on to the next.
 pub fn fill(channels: &[f32], n: usize, base: usize, table: &mut [[[f32; 4]; 4]]) -> usize
-    ensures { FillsTable (old channels) n base (old table) (new table) result }
+    ensures { FillsTable channels.now n base table.old table.new result }
 {
     let pairs = pairs_from(n, base);
     let mut last = chords_within(channels, less(base));
@@ -123,7 +122,7 @@ pub fn segment(
     table: &[[[f32; 4]; 4]],
     k: usize,
 ) -> [[f32; 4]; 4]
-    ensures { result ≡ segment_by (old channels) n base (old table) k }
+    ensures { result ≡ segment_by channels.now n base table.now k }
 {
     if k < base {
         return near::segment_for(channels, n, k);

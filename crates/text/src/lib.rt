@@ -1,4 +1,6 @@
 // What GIMP files and the tool read by: marks, lines, white space, fields; and how they write.
+#![tactic(auto)]
+
 ghost use Rattle.std.specs.Prelude.{◌≡◌, ◌+◌, ◌≤◌, length, take, drop};
 ghost use Rattle.text.specs.Text.{every, ascii, unmark, white, same, starts, trim, trim_end};
 ghost use Rattle.text.specs.Places.{in_class, span, LineAt};
@@ -13,7 +15,7 @@ const LF: u8 = 10;
 const CR: u8 = 13;
 
 // The classes of bytes that the reader scans for; a blank is white space within a line.
-#[derive(Drop)]
+#[derive(Clone, Copy)]
 pub enum Class {
     NotLf,
     White,
@@ -58,7 +60,7 @@ pub fn span_end(s: &[u8], from: usize, k: Class) -> usize
     i
 }
 
-#[derive(Drop)]
+#[derive(Clone, Copy)]
 pub struct Line {
     pub end: usize,
     pub next: usize,

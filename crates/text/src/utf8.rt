@@ -3,7 +3,7 @@ ghost use Rattle.std.specs.Prelude.{◌≡◌};
 ghost use Rattle.text.specs.Utf8.{due, opened, due_after, utf8};
 
 // So many more bytes of a character, the next of them from `low` to `high`.
-#[derive(Drop)]
+#[derive(Clone, Copy)]
 pub struct Due {
     pub more: u8,
     pub low: u8,

@@ -4,7 +4,7 @@ use Rattle.std.proofs.lemmas.List.Edits.{sets}
 use Rattle.float.specs.F32.{◌⊖◌, ◌⊘◌}
 use Rattle.blend.specs.Blend.{linear}
 use Rattle.sampling.specs.Midpoints.{Gradient, Far}
-use Rattle.stops.specs.Lent.{Lent, old, new}
+use Rattle.stops.specs.Lent.{LentMut}
 use Rattle.thinning.specs.Counts.{sum_of}
 use Rattle.thinning.specs.Kept.{near_of, weighs, thinned, weighed, stop_refusal, refusal_from}
 use Rattle.blend.specs.Channels.{channels_of, colours_of}
@@ -21,11 +21,11 @@ abbrev pub run : Progress → List Float → List Float → Run
 run s ps cs = record { progress = s; places = ps; colours = cs }
 
 -- with the outputs as they were lent, and as they come back
-abbrev pub run_was : Progress → Lent Float → Lent Float → Run
-run_was s ps cs = run s (old ps) (old cs)
+abbrev pub run_was : Progress → LentMut Float → LentMut Float → Run
+run_was s ps cs = run s ps.entry.now cs.entry.now
 
-abbrev pub run_is : Progress → Lent Float → Lent Float → Run
-run_is s ps cs = run s (new ps) (new cs)
+abbrev pub run_is : Progress → LentMut Float → LentMut Float → Run
+run_is s ps cs = run s ps.exit.now cs.exit.now
 
 -- a stop at p: written, or refused
 abbrev pub emit_by : ℕ → Run → Point → Run

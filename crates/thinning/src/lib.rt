@@ -1,9 +1,10 @@
 // The steps of thinning, over points that carry their colours: a point is skipped, dropped or kept, and a stop is written.
+#![tactic(auto)]
+
 ghost use Rattle.std.specs.Prelude.{◌≡◌, ◌*◌, ◌/◌, min};
 ghost use Rattle.std.proofs.lemmas.List.Edits.{sets};
 ghost use Rattle.blend.specs.Channels.{channels_of};
 ghost use Rattle.difference.specs.Difference.{exceeds};
-ghost use Rattle.stops.specs.Lent.{old, new};
 ghost use Rattle.thinning.specs.Counts.{sum_of};
 ghost use Rattle.thinning.specs.Kept.{near_of, stop_refusal};
 ghost use Rattle.thinning.specs.Walk.{weigh_of, run_was, run_is, emit_run, step_run};
@@ -18,7 +19,7 @@ use stops::channels::put_colour;
 use stops::is_finite_colour;
 
 // The last point kept, how many stops were written and how many points weighed, and the refusal (0 for none).
-#[derive(Drop)]
+#[derive(Clone, Copy)]
 pub struct Progress {
     pub last: Point,
     pub stops: usize,
@@ -27,7 +28,7 @@ pub struct Progress {
 }
 
 // What weighing a point comes to: whether it is kept, and 1 unless it is skipped.
-#[derive(Drop)]
+#[derive(Clone, Copy)]
 pub struct Weighed {
     pub kept: bool,
     pub tried: usize,
@@ -88,7 +89,7 @@ pub fn stop_refusal(room: usize, n: usize, last: f32, t: f32, c: Rgba) -> u8
 
 // The colour of stop n, as much of it as there is room for.
 fn put_stop(out: &mut [f32], n: usize, c: Rgba)
-    ensures { new out ≡ sets (old out) (4 * n) (channels_of c) }
+    ensures { out.new ≡ sets out.old (4 * n) (channels_of c) }
 {
     if n < out.len() {
         put_colour(out, 4 * n, c);

@@ -1,27 +1,25 @@
 -- The loop of the merge: what was taken and what is to come are always the same list. Assumes nothing.
 use mathlib.Core.Path.{◌≡◌, refl, sym, ap, ap₂, ◌∙◌}
-use mathlib.Core.Bool.{Bool, true, false, cond, ◌&&◌, ◌||◌, true≢false}
+use mathlib.Core.Bool.{Bool, true, false, ◌&&◌, ◌||◌, true≢false}
 use mathlib.Core.List.{List, [], ◌∷◌, ◌++◌}
-use Prim.Native.Nat.{ℕ, zero, suc, ◌+◌, ◌*◌, ◌≤◌, ◌<◌}
+use Prim.Native.Nat.{ℕ, suc, ◌+◌, ◌≤◌, ◌<◌}
 use native.Mathlib.Omega.{arith}
 use borrow.Author.Tests.{lt-ltb, le-ltb, ltb-true, ltb-false, leb-true, le-leb, lt-leb, eq-eqb, ne_eqb, eqb-true}
 use lib.Dec.{leb, eqb, ltb}
-use lib.ListN.{length, drop, length-append}
+use lib.ListN.{length, length-append}
 use lib.Seq.{sets}
 use lib.Ieee.{Float}
 use Rattle.refusals.specs.Limits.{most_stops}
 use Rattle.float.proofs.Flags.{both_l, both_r}
 use Rattle.slices.proofs.Stores.{sets-append}
-use Rattle.stops.specs.declared.Checked.{Checked}
 use Rattle.stops.specs.declared.Checked.TheVariants as checked
 use Rattle.records.specs.Fitness.{counts_good, counts_check}
 use Rattle.records.proofs.Counting.{each_good, all_good, counts_good_lem}
-use Rattle.places.specs.Places.{list_of, first_place, points_before, InRecord, Ready}
+use Rattle.places.specs.Places.{list_of, first_place, InRecord, Ready}
 use Rattle.places.proofs.Following.{first_within, first_before, list_most}
 use Rattle.weighed.specs.Points.{Site, own_of, merged}
 use Rattle.weighed.specs.Gathered.{points_of, weighable, merged_of, gathered, times_of, marks_of, Gathers}
-use Rattle.weighed.specs.inner.Joining.{beside_left, own_left, handed, record_left, steps_left, to_come, MayMerge, MergesOn}
-use Rattle.weighed.specs.declared.neighbours.Taken.{Taken}
+use Rattle.weighed.specs.inner.Joining.{beside_left, own_left, handed, steps_left, to_come, MayMerge, MergesOn}
 use Rattle.weighed.specs.declared.neighbours.Next.{Next}
 use Rattle.weighed.specs.declared.Merge.{Merge}
 use Rattle.weighed.proofs.Counting.{own_length}

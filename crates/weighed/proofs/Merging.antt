@@ -1,16 +1,16 @@
 -- The points rise; and of lists that never fall, whatever lies strictly between min and max is among them. Assumes nothing.
-use mathlib.Core.Path.{◌≡◌, refl, sym, ap, ◌∙◌, subst}
-use mathlib.Core.Bool.{Bool, true, false, cond, ◌&&◌}
+use mathlib.Core.Path.{◌≡◌, refl, sym, ◌∙◌, subst}
+use mathlib.Core.Bool.{Bool, true, false, cond}
 use mathlib.Core.List.{List, [], ◌∷◌}
 use mathlib.Core.Logic.{◌⊎◌, inl, inr}
-use Prim.Native.Nat.{ℕ, zero, suc, ◌+◌, ◌≤◌, ◌<◌}
+use Prim.Native.Nat.{ℕ, zero, suc, ◌+◌, ◌≤◌}
 use native.Mathlib.Omega.{arith}
 use lib.Dec.{T, eqb}
 use lib.ListN.{length}
 use lib.Ieee.{Float, lt, le, eq, is_nan}
 use lib.Ieee.Bits.{is_true}
 use Rattle.float.proofs.Flags.{both_l, both_r}
-use Rattle.float.proofs.Order.{as_T, lt→le, le_lt_trans, lt-le_trans, le_trans, le_antisym, le_refl, le_from_not_lt, no_nan_l, no_nan_r}
+use Rattle.float.proofs.Order.{as_T, lt→le, lt-le_trans, le_trans, le_antisym, le_refl, le_from_not_lt, no_nan_l, no_nan_r}
 use Rattle.weighed.specs.Points.{Site, site, sampled_mark, before, joined_with, inside, merged}
 
 -- the points after a rise up to max

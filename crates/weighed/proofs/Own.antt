@@ -2,7 +2,7 @@
 use mathlib.Core.Path.{◌≡◌, refl}
 use mathlib.Core.Bool.{false}
 use mathlib.Core.List.{List, [], ◌∷◌}
-use mathlib.Core.Logic.{◌⊎◌, inl, inr}
+use mathlib.Core.Logic.{inl, inr}
 use Prim.Native.Nat.{ℕ, zero, suc, ◌≤◌, ◌<◌}
 use native.Mathlib.Omega.{arith}
 use lib.Dec.{T, eqb}
@@ -11,7 +11,7 @@ use lib.Ieee.{Float, le, is_nan}
 use Rattle.float.proofs.Order.{no_nan_l}
 use Rattle.stops.specs.Stops.{pos_at}
 use Rattle.float.specs.Number.{above_of, below_of}
-use Rattle.weighed.specs.Points.{Site, site, sampled_mark, beside_mark, lent_mark, sites_by, joined_with, own_of}
+use Rattle.weighed.specs.Points.{site, sampled_mark, beside_mark, lent_mark, sites_by, joined_with, own_of}
 use Rattle.weighed.proofs.Merging.{Led, Each, Number, Marked, led_first, led_second, each_joined}
 
 -- what is made of the positions never falls; of the positions themselves this is `Rising`

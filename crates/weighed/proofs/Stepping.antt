@@ -1,26 +1,26 @@
 -- A step of the merge over a record and lent positions: what is left of them, and that what comes stays the same. Assumes nothing.
-use mathlib.Core.Path.{◌≡◌, refl, sym, ap, ap₂, ◌∙◌, subst}
+use mathlib.Core.Path.{◌≡◌, refl, sym, ap, ◌∙◌, subst}
 use mathlib.Core.Bool.{Bool, true, false, not, cond, ◌&&◌, true≢false}
-use mathlib.Core.List.{List, [], ◌∷◌, ◌++◌}
-use Prim.Native.Nat.{ℕ, zero, suc, ◌+◌, ◌≤◌, ◌<◌}
+use mathlib.Core.List.{List, [], ◌∷◌}
+use Prim.Native.Nat.{ℕ, ◌+◌, ◌≤◌, ◌<◌}
 use native.Mathlib.Numerals.{add-one}
 use native.Mathlib.Omega.{arith}
-use borrow.Author.Tests.{lt-ltb, le-ltb, ltb-true, ltb-false, not-true, not-false}
+use borrow.Author.Tests.{lt-ltb, ltb-true, ltb-false, not-true}
 use lib.Dec.{ltb}
-use lib.ListN.{length, get_or, set, drop, length-append, length-drop, get_or-append, drop_of_length-le}
-use lib.Seq.{sets, drop-cons}
+use lib.ListN.{length, get_or, set, drop, length-append, get_or-append, drop_of_length-le}
+use lib.Seq.{drop-cons}
 use lib.Ieee.{Float, nan, lt}
 use Rattle.float.proofs.Flags.{both_l, both_r}
 use Rattle.float.proofs.Order.{as_T, lt→le, not_lt_from_le}
 use Rattle.places.specs.Places.{list_of, next_place, point_at, points_before, InRecord, Ready}
 use Rattle.places.specs.declared.RowPlace.{RowPlace}
 use Rattle.places.proofs.Following.{point_is, point_end, before_next, next_within, more_follow, before_end}
-use Rattle.weighed.specs.Points.{Site, site, sampled_mark, inside, merged}
+use Rattle.weighed.specs.Points.{Site, site, sampled_mark, inside}
 use Rattle.weighed.specs.Gathered.{points_of, times_of, marks_of}
-use Rattle.weighed.specs.inner.Joining.{own_left, handed, record_left, steps_left, to_come, MayMerge, MergesOn}
+use Rattle.weighed.specs.inner.Joining.{own_left, handed, record_left, to_come, MayMerge, MergesOn}
 use Rattle.weighed.specs.declared.neighbours.Next.{Next}
 use Rattle.weighed.specs.declared.Merge.{Merge}
-use Rattle.weighed.proofs.Coming.{come, HeadIn, HeadAfter, OwnAfter, pass_record, pass_own, take_own, take_record}
+use Rattle.weighed.proofs.Coming.{HeadIn, HeadAfter, OwnAfter, pass_record, pass_own, take_own, take_record}
 
 -- ---- what is left of a record
 module _ (rows : List Float) (counts : List ℕ) (max : Float) (ok : Ready rows counts) (p : RowPlace) (w : InRecord counts p) where

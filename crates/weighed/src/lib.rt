@@ -1,8 +1,9 @@
 // The points at which a list is weighed: a record's points, the lent positions and the f32 on both sides of each, in one
 // list that rises.
+#![tactic(auto)]
+
 ghost use Rattle.std.specs.Prelude.{◌≡◌, ◌||◌, ◌≤◌, ltb, length};
 ghost use Rattle.places.specs.Places.{Ready};
-ghost use Rattle.stops.specs.Lent.{old, new};
 ghost use Rattle.sampling.specs.Constants.{cells};
 ghost use Rattle.weighed.specs.Points.{inside};
 ghost use Rattle.weighed.specs.Gathered.{weighable, merged_of, gathered, Gathers};
@@ -28,7 +29,7 @@ pub const BESIDE: u8 = 1;
 pub const LENT: u8 = 2;
 
 // What the merge has come to: how many points stand in the arrays, the last of them, and the next of both lists.
-#[derive(Drop)]
+#[derive(Clone, Copy)]
 struct Merge {
     count: usize,
     last: f32,
@@ -53,7 +54,7 @@ fn merge_step(
     marks: &mut [u8; 10753],
 ) -> Merge
     requires { MayMerge positions.now rows.now counts.now max 10753 s }
-    ensures { MergesOn (old positions) (old rows) (old counts) max (old ts) (old marks) s (new ts) (new marks) result }
+    ensures { MergesOn positions.now rows.now counts.now max ts.old marks.old s ts.new marks.new result }
 {
     let place = s.place;
     let next = s.next;
@@ -118,7 +119,7 @@ fn merge_all(
     marks: &mut [u8; 10753],
 ) -> usize
     requires { Ready rows.now counts.now × (length positions.now ≤ 2048) }
-    ensures { Gathers (merged_of (old positions) (old rows) (old counts) min max) (old ts) (old marks) (new ts) (new marks) result }
+    ensures { Gathers (merged_of positions.now rows.now counts.now min max) ts.old marks.old ts.new marks.new result }
 {
     let none = Taken {
         below: 0,
@@ -139,7 +140,7 @@ fn merge_all(
 
 // No more positions than a ramp has, and a record of the right lengths and counts.
 fn may_gather(positions: usize, rows: usize, counts: &[u8]) -> bool
-    ensures { result ≡ weighable positions rows (old counts) }
+    ensures { result ≡ weighable positions rows counts.now }
 {
     if MOST_STOPS < positions {
         return false;
@@ -167,7 +168,7 @@ pub fn gather(
     ts: &mut [f32; 10753],
     marks: &mut [u8; 10753],
 ) -> usize
-    ensures { Gathers (gathered (old positions) (old rows) (old counts) min max) (old ts) (old marks) (new ts) (new marks) result }
+    ensures { Gathers (gathered positions.now rows.now counts.now min max) ts.old marks.old ts.new marks.new result }
 {
     if !may_gather(positions.len(), rows.len(), counts) {
         return 0;

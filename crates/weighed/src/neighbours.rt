@@ -1,13 +1,12 @@
 // The lent positions and the f32 just below and just above each: three lists, of which the next is always the least.
 ghost use Rattle.std.specs.Prelude.{◌≡◌, ◌<◌, length};
-ghost use Rattle.stops.specs.Lent.{old};
 ghost use Rattle.weighed.specs.inner.Joining.{next_below, next_above, own_left, handed, NextBeside};
 
 use crate::{BESIDE, LENT};
 use float::{above, below};
 
 // How many were taken of the f32 below each position, of the positions, and of the f32 above each.
-#[derive(Drop)]
+#[derive(Clone, Copy)]
 pub(crate) struct Taken {
     pub(crate) below: usize,
     pub(crate) lent: usize,
@@ -16,7 +15,7 @@ pub(crate) struct Taken {
 
 // The next of them, if there is one, and how many are taken with it. The widest comes first: so no copy of it begins beside a
 // store, which it would wait for.
-#[derive(Drop)]
+#[derive(Clone, Copy)]
 pub(crate) struct Next {
     pub(crate) with: Taken,
     pub(crate) t: f32,
@@ -26,7 +25,7 @@ pub(crate) struct Next {
 
 fn next_below(positions: &[f32], at: Taken) -> Next
     requires { at.below < length positions.now }
-    ensures { result ≡ next_below (old positions) at }
+    ensures { result ≡ next_below positions.now at }
 {
     let b = at.below;
     let with = Taken {
@@ -44,7 +43,7 @@ fn next_below(positions: &[f32], at: Taken) -> Next
 
 fn next_above(positions: &[f32], at: Taken) -> Next
     requires { at.above < length positions.now }
-    ensures { result ≡ next_above (old positions) at }
+    ensures { result ≡ next_above positions.now at }
 {
     let a = at.above;
     let with = Taken {
@@ -62,7 +61,7 @@ fn next_above(positions: &[f32], at: Taken) -> Next
 
 // The next neighbour: at a tie the one above.
 fn next_beside(positions: &[f32], at: Taken) -> Next
-    ensures { NextBeside (old positions) at result }
+    ensures { NextBeside positions.now at result }
 {
     let n = positions.len();
     let b = at.below;
@@ -91,7 +90,7 @@ fn next_beside(positions: &[f32], at: Taken) -> Next
 
 // The next of all: at a tie the lent position.
 pub(crate) fn next_own(positions: &[f32], at: Taken) -> Next
-    ensures { own_left (old positions) at ≡ handed (own_left (old positions)) result }
+    ensures { own_left positions.now at ≡ handed (own_left positions.now) result }
 {
     let x = next_beside(positions, at);
     let l = at.lent;

@@ -1,4 +1,6 @@
 // The whole number nearest to the root of a whole number: guessed from a table, tested, and where the guess is off, walked to.
+#![tactic(auto)]
+
 ghost use Rattle.std.specs.Prelude.{◌≡◌, ◌^◌, ◌<◌};
 ghost use Rattle.wholeroot.specs.WholeRoot.{nearest_whole};
 

@@ -1,11 +1,11 @@
 -- The points in two arrays, as a list; and a test of numbers one after the other. Assumes nothing.
-use mathlib.Core.Path.{◌≡◌, refl, sym, ap, ap₂, ◌∙◌}
+use mathlib.Core.Path.{◌≡◌, refl, ap, ap₂, ◌∙◌}
 use mathlib.Core.Bool.{Bool, true, false, ◌&&◌}
 use mathlib.Core.List.{List, [], ◌∷◌, ◌++◌}
 use Prim.Native.Nat.{ℕ, zero, suc, ◌+◌, ◌-◌, ◌≤◌, ◌<◌, min}
 use native.Mathlib.Omega.{arith}
 use lib.ListN.{length, get_or, take, drop}
-use lib.Seq.{sets, sets-eq, drop_at}
+use lib.Seq.{sets, sets-eq}
 use lib.Ieee.{Float, nan}
 use Rattle.sampling.specs.Midpoints.{Gradient}
 use Rattle.weighed.specs.Points.{Site}

@@ -1,20 +1,18 @@
 -- The colours of a block: how it is filled, and that what is asked of it is asked of the ramp. Assumes nothing.
-use mathlib.Core.Path.{◌≡◌, refl, sym, ap, ap₂, ◌∙◌, subst}
-use mathlib.Core.Bool.{Bool, true, false, not, ◌&&◌, true≢false}
-use mathlib.Core.List.{List, [], ◌∷◌}
-use mathlib.Core.Logic.{◌⊎◌, inl, inr}
-use Prim.Native.Nat.{ℕ, zero, suc, ◌+◌, ◌-◌, ◌≤◌, ◌<◌, min}
-use native.Mathlib.Nat.{eq-or-lt_of_le, lt_of_not-le}
+use mathlib.Core.Path.{◌≡◌, sym, ap, ap₂, ◌∙◌}
+use mathlib.Core.Bool.{Bool, true, false, not, ◌&&◌}
+use mathlib.Core.List.{List, []}
+use Prim.Native.Nat.{ℕ, ◌+◌, ◌-◌, ◌≤◌, ◌<◌}
 use native.Mathlib.Decide.{dec_le}
 use native.Mathlib.Omega.{arith}
 use borrow.Author.Tests.{lt-ltb, le-ltb, ltb-true, eq-eqb, ne_eqb}
 use lib.Dec.{T, ltb}
 use lib.ListN.{length, get_or, set}
 use lib.Seq.{get_or-set_same, get_or-set_other}
-use lib.Ieee.{Float, nan, le, lt, is_nan}
+use lib.Ieee.{Float, nan, le, lt}
 use lib.Ieee.Bits.{is_true}
 use Rattle.float.proofs.Flags.{both_l, both_r}
-use Rattle.float.proofs.Order.{as_T, le_lt_trans, lt→le, not_lt_from_le, lt_is, no_nan_l, no_nan_r}
+use Rattle.float.proofs.Order.{as_T, le_lt_trans, lt→le, not_lt_from_le, no_nan_l, no_nan_r}
 use Rattle.float.specs.F32.{◌⊖◌, ◌⊘◌}
 use Rattle.blend.specs.Blend.{linear}
 use Rattle.blend.specs.Channels.{channels_of}
@@ -38,7 +36,7 @@ use Rattle.sampling.proofs.Nearness.{placed_is}
 use Rattle.sampling.proofs.Along.{drawn_point}
 use Rattle.difference.specs.Difference.{clamped_of, squares_of}
 use Rattle.within.specs.Shown.{Near, off_at, near_below, fairly}
-use Rattle.within.specs.inner.Weighing.{site_at, entry_at, point_fair, block_fair, fair_from, all_from, is_up_to, NearPair, ColoursInHand, Fills, Covers}
+use Rattle.within.specs.inner.Weighing.{entry_at, point_fair, block_fair, fair_from, all_from, is_up_to, ColoursInHand}
 use Rattle.within.proofs.Arrays.{same_test, one_asked}
 
 -- ---- filling

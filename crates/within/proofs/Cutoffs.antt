@@ -1,27 +1,27 @@
 -- With the cutoffs of the threshold and of the hold one comparison says the same: a difference that is not a number fails both. Assumes nothing.
-use mathlib.Core.Path.{◌≡◌, refl, sym, ap, ap₂, ◌∙◌, subst, fun_ext}
+use mathlib.Core.Path.{◌≡◌, refl, sym, ap, ◌∙◌, subst, fun_ext}
 use mathlib.Core.Bool.{Bool, true, false, not, cond}
 use mathlib.Core.Logic.{◌⊎◌, inl, inr}
-use Prim.Native.Nat.{ℕ, ◌+◌, ◌*◌, ◌≤◌, ◌<◌}
+use Prim.Native.Nat.{◌+◌, ◌*◌}
 use native.Mathlib.Nat.{mul-pos, zero-mul}
 use native.Mathlib.Omega.{arith}
 use lib.Dec.{T, eqb}
-use lib.Ieee.{Float, nan, inf, fin, binary32, up, down, fits, of_bits, add, mul, div, le, lt, is_nan}
+use lib.Ieee.{Float, nan, inf, fin, binary32, up, down, fits, of_bits, add, mul, div, le, is_nan}
 use lib.Ieee.Fits.{down_pos, add-fits}
 use lib.Ieee.Scale.{finite}
-use Rattle.float.specs.F32.{◌⊕◌, ◌⊖◌, ◌⊗◌, ◌⊘◌, f0, f2}
+use Rattle.float.specs.F32.{◌⊕◌, ◌⊖◌, ◌⊘◌, f0, f2}
 use Rattle.float.proofs.Order.{le_refl, no_nan_l, no_nan_r}
 use Rattle.float.proofs.Rounding.{dens_pos, no_con}
-use Rattle.float.proofs.SignedRound.{rounds_le, round_rounds, zero_rounds, add_rounds, half_rounds, pro, con}
-use lib.Ieee.Positive.{den, den_pos}
+use Rattle.float.proofs.SignedRound.{rounds_le, round_rounds, zero_rounds, add_rounds, half_rounds, con}
+use lib.Ieee.Positive.{den}
 use Rattle.sqrt.specs.Root.{root_of}
 use Rattle.sqrt.specs.Cutoff.{IsCutoff}
 use Rattle.sqrt.proofs.Theorems.{root_keeps_order}
 use Rattle.blend.specs.declared.Rgba.{Rgba}
-use Rattle.difference.specs.Difference.{square, clamped_of, squares_of, distance_of}
+use Rattle.difference.specs.Difference.{square, clamped_of, squares_of}
 use Rattle.stops.proofs.Choice.{le_is}
 use Rattle.weighed.specs.Points.{sampled_mark}
-use Rattle.within.specs.Shown.{off_at, near_within, near_below}
+use Rattle.within.specs.Shown.{near_within, near_below}
 
 -- not-a-number, or not below zero
 abbrev Above : Float → Type 0

@@ -1,13 +1,12 @@
 -- The scan for a lent position. Assumes nothing.
 use mathlib.Core.Path.{◌≡◌, refl, sym, ap, ◌∙◌}
-use mathlib.Core.Bool.{Bool, true, false, cond, ◌&&◌, true≢false}
+use mathlib.Core.Bool.{Bool, true, false, cond, ◌&&◌}
 use mathlib.Core.List.{List, [], ◌∷◌}
 use Prim.Native.Nat.{ℕ, zero, suc, ◌+◌, ◌-◌, ◌≤◌, ◌<◌}
 use native.Mathlib.Omega.{arith}
 use borrow.Author.Tests.{le-leb, lt-leb, leb-true, leb-false, eqb-true, eqb-false, eq-eqb, ne_eqb}
 use lib.Dec.{leb, eqb}
-use lib.ListN.{length, get_or}
-use lib.Ieee.{Float}
+use lib.ListN.{get_or}
 use Rattle.float.proofs.Flags.{both_l, both_r}
 use Rattle.weighed.specs.Points.{Site, lent_mark}
 use Rattle.within.specs.Shown.{lent_left, to_lent}

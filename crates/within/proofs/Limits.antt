@@ -1,13 +1,12 @@
 -- The hold lies between the least threshold and the threshold in force; and a finite colour is near itself. Assumes nothing.
-use mathlib.Core.Path.{◌≡◌, refl, sym, ap, ap₂, ◌∙◌, subst}
+use mathlib.Core.Path.{◌≡◌, refl, sym, ◌∙◌}
 use mathlib.Core.Bool.{Bool, true, false, cond, true≢false}
-use Prim.Native.Nat.{ℕ, ◌-◌, ◌*◌, ◌≤◌}
+use Prim.Native.Nat.{◌-◌, ◌*◌}
 use native.Mathlib.Nat.{mul-pos}
 use native.Mathlib.Omega.{arith}
 use borrow.Author.Tests.{le-ltb}
 use lib.Dec.{T}
-use lib.IntN.{pos}
-use lib.Ieee.{Float, nan, inf, fin, binary32, up, down, of_bits, add, sub, mul, div, sum, le, lt, is_nan, neg}
+use lib.Ieee.{Float, nan, inf, fin, up, down, of_bits, add, sub, mul, div, sum, le, lt, is_nan, neg}
 use lib.Ieee.Bits.{is_true}
 use lib.Ieee.Fits.{down_pos}
 use lib.Ieee.Scale.{finite}
@@ -15,7 +14,7 @@ use Rattle.float.specs.F32.{◌⊕◌, ◌⊖◌, ◌⊗◌, ◌⊘◌, f0, f1, 
 use Rattle.float.specs.Number.{clamp_of}
 use Rattle.float.proofs.Finite.{round-zero}
 use Rattle.float.proofs.Flags.{parts4}
-use Rattle.float.proofs.Order.{as_T, le_trans, not_lt_from_le, le_from_not_lt, lt_irrefl, no_nan_r, finite_between}
+use Rattle.float.proofs.Order.{le_trans, not_lt_from_le, le_from_not_lt, lt_irrefl, no_nan_r, finite_between}
 use Rattle.sqrt.specs.Root.{root_of}
 use Rattle.blend.specs.declared.Rgba.{Rgba}
 use Rattle.difference.specs.Difference.{clamped_of, squares_of, distance_of}

@@ -1,14 +1,14 @@
 -- The questions: whether two points show what they must, how far, and the step to the next point kept. Assumes nothing.
 use mathlib.Core.Path.{◌≡◌, refl, sym, ap, ap₂, ◌∙◌}
-use mathlib.Core.Bool.{Bool, true, false, cond, ◌&&◌, true≢false}
+use mathlib.Core.Bool.{Bool, true, false, cond, ◌&&◌}
 use mathlib.Core.List.{List, [], ◌∷◌}
-use mathlib.Core.Logic.{◌⊎◌, inl, inr}
+use mathlib.Core.Logic.{inl, inr}
 use Prim.Native.Nat.{ℕ, zero, suc, ◌+◌, ◌-◌, ◌*◌, ◌^◌, ◌≤◌, ◌<◌, min}
 use native.Mathlib.Nat.{pow-succ'}
 use native.Mathlib.Omega.{arith}
-use borrow.Author.Tests.{le-leb, lt-leb, leb-true, leb-false}
+use borrow.Author.Tests.{le-leb, lt-leb, leb-true}
 use lib.Dec.{leb, eqb}
-use lib.ListN.{length, get_or, take, get_or-eq_default}
+use lib.ListN.{length, get_or, get_or-eq_default}
 use lib.Pow.{pow_pos}
 use lib.Ieee.{Float, nan}
 use Rattle.float.proofs.Flags.{both_l, both_r}
@@ -18,7 +18,7 @@ use Rattle.within.specs.Shown.{Near, point_after, shown_to, lent_left, to_lent, 
 use Rattle.within.specs.Kept.{lent_shown, any_shown, step_from}
 use Rattle.within.specs.inner.Weighing.{sites_from, all_from, fair_from, points_to}
 use Rattle.within.proofs.Arrays.{sites_length, sites_get, shows_all}
-use Rattle.within.proofs.Reaching.{Reached, reached, lent_on}
+use Rattle.within.proofs.Reaching.{reached, lent_on}
 
 -- ---- the marks alone count
 same_left : (ts us : List Float) (ms : List ℕ) (i k : ℕ) → lent_left (sites_from ts ms i k) ≡ lent_left (sites_from us ms i k)

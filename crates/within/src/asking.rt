@@ -1,6 +1,6 @@
 // Whether a point and another after it show what they must.
 ghost use Rattle.std.specs.Prelude.{◌≤◌};
-ghost use Rattle.stops.specs.Lent.{ramp_in, lent_ramp, old, new};
+ghost use Rattle.stops.specs.Lent.{ramp_in, lent_ramp};
 ghost use Rattle.within.specs.inner.Weighing.{Asking, Answers, MayShow, ShowsTo};
 
 use crate::block::{point_after, refill};
@@ -11,7 +11,7 @@ use sampling::Point;
 use stops::{Kind, Window};
 
 // An answer, and the block in hand after it.
-#[derive(Drop)]
+#[derive(Clone, Copy)]
 pub(crate) struct Answer {
     pub(crate) yes: bool,
     pub(crate) w: Window,
@@ -35,7 +35,7 @@ fn shows_to(
     count: usize,
 ) -> Answer
     requires { MayShow (ramp_in kind positions channels codes) ts.now w block.old a b from to count }
-    ensures { ShowsTo (lent_ramp kind positions channels codes) offs (old ts) (old marks) a b from to (new block) result }
+    ensures { ShowsTo (lent_ramp kind positions channels codes) offs ts.now marks.now a b from to block.new result }
 {
     let mut i = from;
     let mut v = w;
@@ -66,7 +66,7 @@ pub(crate) fn ask(
     r: usize,
 ) -> Answer
     requires { Asking (ramp_in kind positions channels codes) ts.now w block.old a at × (1 ≤ r) }
-    ensures { Answers (lent_ramp kind positions channels codes) offs (old ts) (old marks) a at r (new block) result }
+    ensures { Answers (lent_ramp kind positions channels codes) offs ts.now marks.now a at r block.new result }
 {
     let k = points_to(marks, at, r);
     if k == 0 {

@@ -2,7 +2,7 @@
 ghost use Rattle.std.specs.Prelude.{◌≡◌, ◌+◌, ◌≤◌, ◌<◌, length};
 ghost use Rattle.gradient.specs.Ramp.{check_of, colour_of};
 ghost use Rattle.sampling.specs.inner.Steps.{Carrying, PointAt};
-ghost use Rattle.stops.specs.Lent.{ramp_in, lent_ramp, old, new};
+ghost use Rattle.stops.specs.Lent.{ramp_in, lent_ramp};
 ghost use Rattle.stops.specs.declared.Checked.TheVariants.{Fine};
 ghost use Rattle.within.specs.inner.Weighing.{is_up_to, NearPair, HoldsAt, ColoursInHand, InHandWith, AfterAt, Fills, Covers};
 
@@ -18,7 +18,7 @@ const BLOCK: usize = 1024;
 // Whether t lies past stop k - 1 and up to stop k, and is not the last one's. A point at a stop, or just above one, is found so,
 // where a pair without its ends would be searched for.
 fn is_up_to(positions: &[f32], t: f32, k: usize) -> bool
-    ensures { result ≡ is_up_to (old positions) t k }
+    ensures { result ≡ is_up_to positions.now t k }
 {
     let n = positions.len();
     if k == 0 {
@@ -32,7 +32,7 @@ fn is_up_to(positions: &[f32], t: f32, k: usize) -> bool
 
 // The pair of t, where it is k or the one after it; else 0.
 fn pair_near(positions: &[f32], t: f32, k: usize) -> usize
-    ensures { NearPair (old positions) t result }
+    ensures { NearPair positions.now t result }
 {
     if is_up_to(positions, t, k) {
         return k;
@@ -59,7 +59,7 @@ fn point_in(
     requires codes_value { check_of (ramp_in kind positions channels codes) ≡ Fine }
     requires carrying { Carrying (ramp_in kind positions channels codes) k drawn.old }
     ensures point_at { PointAt (colour_of (lent_ramp kind positions channels codes)) t result }
-    ensures carrying_2 { Carrying (lent_ramp kind positions channels codes) result.pair (new drawn) }
+    ensures carrying_2 { Carrying (lent_ramp kind positions channels codes) result.pair drawn.new }
 {
     if gradient::is_gimp(kind) {
         return evaluate_along(kind, positions, channels, codes, t, k, drawn);
@@ -87,7 +87,7 @@ fn fill_each(
 )
     requires codes_value { (check_of (ramp_in kind positions channels codes) ≡ Fine) × ((base + count ≤ 10753) × (count ≤ 1024)) }
     requires block_len { length block.old ≡ 1024 }
-    ensures { ColoursInHand (colour_of (lent_ramp kind positions channels codes)) (old ts) (record { base = base; count = count }) (new block) }
+    ensures { ColoursInHand (colour_of (lent_ramp kind positions channels codes)) ts.now (record { base = base; count = count }) block.new }
 {
     let mut drawn = [[0.0f32; 4]; 7];
     let mut guess = 0;
@@ -122,7 +122,7 @@ fn fill(
 ) -> Window
     requires codes_value { (check_of (ramp_in kind positions channels codes) ≡ Fine) × ((base ≤ to) × (to ≤ 10753)) }
     requires block_len { length block.old ≡ 1024 }
-    ensures { Fills (lent_ramp kind positions channels codes) (old ts) base to (new block) result }
+    ensures { Fills (lent_ramp kind positions channels codes) ts.now base to block.new result }
 {
     let count = at_most(to - base, BLOCK);
     fill_each(kind, positions, channels, codes, ts, base, count, block);
@@ -153,7 +153,7 @@ pub(crate) fn refill(
 ) -> Window
     requires codes_value { (check_of (ramp_in kind positions channels codes) ≡ Fine) × ((i < to) × (to ≤ 10753)) }
     requires colours_in_hand { ColoursInHand (colour_of (ramp_in kind positions channels codes)) ts.now w block.old }
-    ensures { Covers (lent_ramp kind positions channels codes) (old ts) i (new block) result }
+    ensures { Covers (lent_ramp kind positions channels codes) ts.now i block.new result }
 {
     if holds(w, i) {
         return w;
@@ -179,7 +179,7 @@ pub(crate) fn point_after(
 ) -> Point
     requires codes_value { (check_of (ramp_in kind positions channels codes) ≡ Fine) × ((from ≤ count) × ((count ≤ 10753) × ((1 ≤ r) × (from + r ≤ count + 1)))) }
     requires in_hand_with { InHandWith (ramp_in kind positions channels codes) ts.now w block.now end }
-    ensures { AfterAt (lent_ramp kind positions channels codes) end (old ts) (old marks) from count r result }
+    ensures { AfterAt (lent_ramp kind positions channels codes) end ts.now marks.now from count r result }
 {
     let j = from + r - 1;
     if count <= j {

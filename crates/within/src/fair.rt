@@ -1,6 +1,5 @@
 // Whether the mix of two points shows others.
 ghost use Rattle.std.specs.Prelude.{◌≡◌, ◌+◌, ◌-◌, ◌≤◌, ◌<◌};
-ghost use Rattle.stops.specs.Lent.{old};
 ghost use Rattle.within.specs.Shown.{off_at, near_below};
 ghost use Rattle.within.specs.inner.Weighing.{entry_at, point_fair, block_fair, all_from};
 
@@ -11,7 +10,7 @@ use sampling::Point;
 use weighed::SAMPLED;
 
 // The cutoffs of the threshold and of the hold.
-#[derive(Drop)]
+#[derive(Clone, Copy)]
 pub(crate) struct Allowed {
     pub(crate) threshold: f32,
     pub(crate) hold: f32,
@@ -37,7 +36,7 @@ fn is_fair(offs: Allowed, mark: u8, a: Point, b: Point, x: Point) -> bool
 // The colour of an entry of a block.
 pub(crate) fn colour_of(block: &[[f32; 4]; 1024], i: usize) -> Rgba
     requires { i < 1024 }
-    ensures { result ≡ entry_at (old block) i }
+    ensures { result ≡ entry_at block.now i }
 {
     let c = block[i];
     Rgba {
@@ -61,7 +60,7 @@ pub(crate) fn shows(
     to: usize,
 ) -> bool
     requires { (base ≤ from) × ((to ≤ base + 1024) × (to ≤ 10753)) }
-    ensures { result ≡ all_from (block_fair (near_below offs.threshold offs.hold) a b (old ts) (old marks) (old block) base) from (to - from) }
+    ensures { result ≡ all_from (block_fair (near_below offs.threshold offs.hold) a b ts.now marks.now block.now base) from (to - from) }
 {
     let mut i = from;
     while i < to {

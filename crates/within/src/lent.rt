@@ -1,7 +1,6 @@
 // The points up to the one that is asked of: the next lent position but so many, or the next point but so many.
 ghost use Rattle.std.specs.Prelude.{◌≡◌, true, cond, [], ◌-◌, ◌≤◌, eqb};
 ghost use Rattle.weighed.specs.Points.{lent_mark};
-ghost use Rattle.stops.specs.Lent.{old};
 ghost use Rattle.within.specs.inner.Weighing.{points_to, sites_from};
 
 use sampling::Point;
@@ -21,7 +20,7 @@ fn left_after(mark: u8, left: usize) -> usize
 // The points up to the r-th lent position from `from` on, max last; 0 where there is none.
 pub(crate) fn to_lent(marks: &[u8; 10753], from: usize, count: usize, r: usize) -> usize
     requires { (from ≤ count) × (count ≤ 10753) }
-    ensures { result ≡ points_to true (sites_from [] (old marks) from (count - from)) r }
+    ensures { result ≡ points_to true (sites_from [] marks.now from (count - from)) r }
 {
     if r == 0 {
         return 0;
@@ -43,7 +42,7 @@ pub(crate) fn to_lent(marks: &[u8; 10753], from: usize, count: usize, r: usize) 
 }
 
 // What lies ahead: where the points left begin, how many there are in all, max, and whether lent positions alone are asked.
-#[derive(Drop)]
+#[derive(Clone, Copy)]
 pub(crate) struct Ahead {
     pub(crate) from: usize,
     pub(crate) count: usize,
@@ -54,7 +53,7 @@ pub(crate) struct Ahead {
 // The points up to the r-th that is asked of; 0 where there is none.
 pub(crate) fn points_to(marks: &[u8; 10753], at: Ahead, r: usize) -> usize
     requires { (at.from ≤ at.count) × (at.count ≤ 10753) }
-    ensures { result ≡ points_to at.lent (sites_from [] (old marks) at.from (at.count - at.from)) r }
+    ensures { result ≡ points_to at.lent (sites_from [] marks.now at.from (at.count - at.from)) r }
 {
     if at.lent {
         return to_lent(marks, at.from, at.count, r);

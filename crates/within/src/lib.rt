@@ -1,9 +1,11 @@
 // Lists that are within a hold of their ramp at its own positions, and within the threshold at a record's points.
+#![tactic(auto)]
+
 ghost use Rattle.std.specs.Prelude.{◌≡◌};
 ghost use Rattle.gradient.specs.Ramp.{check_of};
 ghost use Rattle.places.specs.Places.{Ready};
-ghost use Rattle.sampling.specs.Lent.{lent_held};
-ghost use Rattle.stops.specs.Lent.{ramp_in, lent_ramp, old};
+ghost use Rattle.sampling.specs.Lent.{lent_held, shared_held};
+ghost use Rattle.stops.specs.Lent.{ramp_in, lent_ramp};
 ghost use Rattle.stops.specs.declared.Checked.TheVariants.{Fine};
 ghost use Rattle.linearize.specs.Lent.{lent_output};
 ghost use Rattle.within.specs.Lists.{hold_of};
@@ -61,7 +63,7 @@ fn list_within(
     colours: &mut [f32],
 ) -> Listed
     requires { Ready rows.now counts.now × (check_of (ramp_in kind positions channels codes) ≡ Fine) }
-    ensures { MakesOf (lent_ramp kind positions channels codes) threshold hold (old rows) (old counts) (lent_output places colours) result }
+    ensures { MakesOf (lent_ramp kind positions channels codes) threshold hold rows.now counts.now (lent_output places colours) result }
 {
     let offs = Allowed {
         threshold: cutoff_of(threshold),
@@ -93,7 +95,7 @@ pub fn thin_within(
     places: &mut [f32],
     colours: &mut [f32],
 ) -> Listed
-    ensures { ThinsWithin (lent_ramp kind positions channels codes) threshold hold (lent_held rows counts marks).entry (lent_output places colours) result }
+    ensures { ThinsWithin (lent_ramp kind positions channels codes) threshold hold (shared_held rows counts marks).entry (lent_output places colours) result }
 {
     match check_thin(
         kind, positions, channels, codes, threshold, rows, counts, marks,

@@ -6,7 +6,7 @@ ghost use Rattle.thinning.specs.Kept.{written_of};
 ghost use Rattle.linearize.specs.Desk.{listed_of};
 ghost use Rattle.linearize.specs.Lent.{lent_output};
 ghost use Rattle.stops.specs.declared.Checked.TheVariants.{Fine};
-ghost use Rattle.stops.specs.Lent.{ramp_in, lent_ramp, old, new};
+ghost use Rattle.stops.specs.Lent.{ramp_in, lent_ramp};
 ghost use Rattle.within.specs.inner.Weighing.{StopsAfter, AllStops};
 
 use crate::block::point_after;
@@ -39,7 +39,7 @@ fn thin_sites(
 ) -> Progress
     requires codes_value { (check_of (ramp_in kind positions channels codes) ≡ Fine) × ((count ≤ 10752) × ((start.refusal ≡ 0) × (length block.old ≡ 1024))) }
     requires coloured { Coloured (colour_of (ramp_in kind positions channels codes)) start.last × Coloured (colour_of (ramp_in kind positions channels codes)) end }
-    ensures { StopsAfter (lent_ramp kind positions channels codes) offs room start count end (old ts) (old marks) (lent_output places colours) result }
+    ensures { StopsAfter (lent_ramp kind positions channels codes) offs room start count end ts.now marks.now (lent_output places colours) result }
 {
     let mut s = start;
     let mut i = 0;
@@ -106,7 +106,7 @@ pub(crate) fn thin_all(
     colours: &mut [f32],
 ) -> Progress
     requires { (check_of (ramp_in kind positions channels codes) ≡ Fine) × (count ≤ 10752) }
-    ensures { AllStops (lent_ramp kind positions channels codes) offs room count min max (old ts) (old marks) (lent_output places colours) result }
+    ensures { AllStops (lent_ramp kind positions channels codes) offs room count min max ts.now marks.now (lent_output places colours) result }
 {
     let end = evaluate(kind, positions, channels, codes, max, 1);
     let first = evaluate(kind, positions, channels, codes, min, 1);
@@ -136,8 +136,8 @@ pub(crate) fn finish(
     colours: &mut [f32],
 ) -> Listed
     ensures value { result ≡ listed_of s.refusal s.stops evaluations }
-    ensures places_value { new places ≡ written_of s.refusal (old places) }
-    ensures colours_value { new colours ≡ written_of s.refusal (old colours) }
+    ensures places_value { places.new ≡ written_of s.refusal places.old }
+    ensures colours_value { colours.new ≡ written_of s.refusal colours.old }
 {
     let refusal = s.refusal;
     if refusal != 0 {

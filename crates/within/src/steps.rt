@@ -1,6 +1,6 @@
 // How far the next stop lies: as far as the question is answered yes.
 ghost use Rattle.std.specs.Prelude.{◌*◌, ◌^◌, ◌≤◌};
-ghost use Rattle.stops.specs.Lent.{ramp_in, lent_ramp, old, new};
+ghost use Rattle.stops.specs.Lent.{ramp_in, lent_ramp};
 ghost use Rattle.within.specs.inner.Weighing.{ahead_of, Asking, Reaches, StepsFrom};
 
 use crate::asking::ask;
@@ -10,7 +10,7 @@ use sampling::Point;
 use stops::{Kind, Window};
 
 // How far, and the block in hand.
-#[derive(Drop)]
+#[derive(Clone, Copy)]
 pub(crate) struct Reach {
     pub(crate) r: usize,
     pub(crate) w: Window,
@@ -33,7 +33,7 @@ fn reach_from(
     r: usize,
 ) -> Reach
     requires { Asking (ramp_in kind positions channels codes) ts.now w block.old a at × ((1 ≤ r) × (r * 2 ^ k ≤ 16384)) }
-    ensures { Reaches (lent_ramp kind positions channels codes) offs (old ts) (old marks) a at k r (new block) result }
+    ensures { Reaches (lent_ramp kind positions channels codes) offs ts.now marks.now a at k r block.new result }
 {
     if k == 0 {
         return Reach { r, w };
@@ -74,7 +74,7 @@ fn reach_from(
 }
 
 // How many points on the next one kept lies, and whether it is shown.
-#[derive(Drop)]
+#[derive(Clone, Copy)]
 pub(crate) struct Step {
     pub(crate) points: usize,
     pub(crate) shown: bool,
@@ -98,7 +98,7 @@ pub(crate) fn step_from(
     end: Point,
 ) -> Step
     requires { Asking (ramp_in kind positions channels codes) ts.now w block.old a (ahead_of from count end) }
-    ensures { StepsFrom (lent_ramp kind positions channels codes) offs a (old ts) (old marks) from count end (new block) result }
+    ensures { StepsFrom (lent_ramp kind positions channels codes) offs a ts.now marks.now from count end block.new result }
 {
     let own = Ahead {
         from,

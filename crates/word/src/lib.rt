@@ -1,1 +1,3 @@
 // Theorems of lists within a hold, in proofs/. There is no code here.
+
+#![tactic(auto)]

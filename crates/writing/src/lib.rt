@@ -1,6 +1,7 @@
 // What is printed.
+#![tactic(auto)]
+
 ghost use Rattle.std.specs.Prelude.{◌≡◌, ◌<◌};
-ghost use Rattle.stops.specs.Lent.{old, new};
 ghost use Rattle.text.specs.Output.{PutsFrom, Puts};
 ghost use Rattle.writing.specs.Printed.{hex_of, hex_digit, field_text, colour_text, stop_text, rows_text, line_text};
 ghost use Rattle.writing.specs.Printed.{unread_text, refused_text, list_text, reply_text};
@@ -10,7 +11,7 @@ use text::output::{DECIMALS, put, put_all, put_decimal};
 
 // What the tool has to say: which line cannot be read, why there is no list, or a list of so many stops. How many is a
 // u32, so that no text is too long to be measured.
-#[derive(Drop)]
+#[derive(Clone, Copy)]
 pub enum Reply {
     Unread(usize),
     Refused(u8),
@@ -36,7 +37,7 @@ fn hex_digit(d: u8) -> u8
 
 // The last `left` hex digits of n.
 fn put_hex(out: &mut [u8], at: usize, n: u32, left: usize) -> usize
-    ensures { PutsFrom (old out) (new out) at (hex_of left n) result }
+    ensures { PutsFrom out.old out.new at (hex_of left n) result }
 {
     if left == 0 {
         return at;
@@ -48,14 +49,14 @@ fn put_hex(out: &mut [u8], at: usize, n: u32, left: usize) -> usize
 
 // A tab, and the bits of x.
 fn put_field(out: &mut [u8], at: usize, x: f32) -> usize
-    ensures { PutsFrom (old out) (new out) at (field_text x) result }
+    ensures { PutsFrom out.old out.new at (field_text x) result }
 {
     let next = put(out, at, TAB);
     put_hex(out, next, float::to_bits(x), HEX_DIGITS)
 }
 
 fn put_colour(out: &mut [u8], at: usize, c: Rgba) -> usize
-    ensures { PutsFrom (old out) (new out) at (colour_text c) result }
+    ensures { PutsFrom out.old out.new at (colour_text c) result }
 {
     let r = put_field(out, at, c.r);
     let g = put_field(out, r, c.g);
@@ -65,7 +66,7 @@ fn put_colour(out: &mut [u8], at: usize, c: Rgba) -> usize
 
 // The line of a stop, 50 bytes.
 fn put_stop(out: &mut [u8], at: usize, s: Stop) -> usize
-    ensures { PutsFrom (old out) (new out) at (stop_text s) result }
+    ensures { PutsFrom out.old out.new at (stop_text s) result }
 {
     let word = put_all(out, at, b"stop");
     let position = put_field(out, word, s.position);
@@ -75,7 +76,7 @@ fn put_stop(out: &mut [u8], at: usize, s: Stop) -> usize
 
 // The lines of the first n stops.
 fn put_rows(out: &mut [u8], at: usize, n: usize, positions: &[f32], channels: &[f32]) -> usize
-    ensures { PutsFrom (old out) (new out) at (rows_text n (old positions) (old channels)) result }
+    ensures { PutsFrom out.old out.new at (rows_text n positions.now channels.now) result }
 {
     let mut next = at;
     let mut i = 0;
@@ -88,7 +89,7 @@ fn put_rows(out: &mut [u8], at: usize, n: usize, positions: &[f32], channels: &[
 
 // A word and a number, alone on a line.
 fn put_line(out: &mut [u8], word: &[u8], n: usize) -> usize
-    ensures { PutsFrom (old out) (new out) 0 (line_text (old word) n) result }
+    ensures { PutsFrom out.old out.new 0 (line_text word.now n) result }
 {
     let next = put_all(out, 0, word);
     let end = put_decimal(out, next, n, DECIMALS);
@@ -96,13 +97,13 @@ fn put_line(out: &mut [u8], word: &[u8], n: usize) -> usize
 }
 
 fn put_unread(out: &mut [u8], line: usize) -> usize
-    ensures { Puts (old out) (new out) 0 (unread_text line) result }
+    ensures { Puts out.old out.new 0 (unread_text line) result }
 {
     put_line(out, b"unread\t", line)
 }
 
 fn put_refused(out: &mut [u8], number: usize) -> usize
-    ensures { Puts (old out) (new out) 0 (refused_text number) result }
+    ensures { Puts out.old out.new 0 (refused_text number) result }
 {
     put_line(out, b"refused\t", number)
 }
@@ -115,7 +116,7 @@ fn put_list(
     positions: &[f32],
     channels: &[f32],
 ) -> usize
-    ensures { Puts (old out) (new out) 0 (list_text n evaluations (old positions) (old channels)) result }
+    ensures { Puts out.old out.new 0 (list_text n evaluations positions.now channels.now) result }
 {
     let word = put_all(out, 0, b"stops\t");
     let rows = n as usize;
@@ -128,7 +129,7 @@ fn put_list(
 
 // Writes a reply, and with a list the stops that are lent, as far as the output goes; how long its text is.
 pub fn write(out: &mut [u8], reply: Reply, positions: &[f32], channels: &[f32]) -> usize
-    ensures { Puts (old out) (new out) 0 (reply_text reply (old positions) (old channels)) result }
+    ensures { Puts out.old out.new 0 (reply_text reply positions.now channels.now) result }
 {
     match reply {
         Reply::Unread(line) => put_unread(out, line),

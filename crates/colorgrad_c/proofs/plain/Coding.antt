@@ -49,8 +49,8 @@ module _ {A B : Type 0} {code : ℕ} {x : Coded} {P : Kind → A → Type 0} {Q 
   of_no_kind e q h = record { shows = record { answer = a; promised = subst (λ (z : Coded). on_kind z P Q a) (sym e ∙ is) q; shown = h } }
 
 -- a number and what is told, as one answer: into one slice, and into two
-pub paired : {A B : Type 0} {a c : A} {b d : B} → (a ≡ c) × (b ≡ d) → ◌≡◌ {A = A × B} (a, b) (c, d)
-paired {A} {B} h = ap₂ (λ (x : A) (y : B). (x, y)) h.0 h.1
+pub paired : {A B : Type 0} {a c : A} {b d : B} → a ≡ c → b ≡ d → ◌≡◌ {A = A × B} (a, b) (c, d)
+paired {A} {B} e f = ap₂ (λ (x : A) (y : B). (x, y)) e f
 
-pub paired_both : {A B C : Type 0} {a d : A} {b e : B} {c f : C} → (a ≡ d) × ((b ≡ e) × (c ≡ f)) → ◌≡◌ {A = A × (B × C)} (a, (b, c)) (d, (e, f))
-paired_both h = paired (h.0, paired h.1)
+pub paired_both : {A B C : Type 0} {a d : A} {b e : B} {c f : C} → a ≡ d → b ≡ e → c ≡ f → ◌≡◌ {A = A × (B × C)} (a, (b, c)) (d, (e, f))
+paired_both e f h = paired e (paired f h)

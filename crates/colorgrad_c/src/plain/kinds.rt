@@ -19,7 +19,7 @@ pub const GIMP: u32 = 5;
 pub const GIMP_SAVED: u32 = 6;
 
 // A kind, or a code that names none.
-#[derive(Drop)]
+#[derive(Clone, Copy)]
 pub enum Coded {
     Of(Kind),
     Unknown,

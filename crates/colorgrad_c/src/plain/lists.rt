@@ -1,7 +1,6 @@
 // The answers of the calls on records and lists: the refusal, 0 for none, and the numbers that are told, 0 where it is
 // refused.
 ghost use Rattle.std.specs.Prelude.{◌≡◌};
-ghost use Rattle.stops.specs.Lent.{old, new};
 ghost use Rattle.sampling.specs.Sampling.{number_of_sampled};
 ghost use Rattle.linearize.specs.Desk.{number_of_listed};
 ghost use Rattle.colorgrad_c.specs.plain.Telling.{telling};
@@ -13,7 +12,7 @@ use linearize::{Listed, Sampled};
 // Tells the evaluations.
 pub(crate) fn tell_sampled(sampled: Sampled, told: &mut [usize]) -> u32
     ensures value { result ≡ number_of_sampled sampled }
-    ensures told_value { new told ≡ telling (sampled_told sampled) (old told) }
+    ensures told_value { told.new ≡ telling (sampled_told sampled) told.old }
 {
     match sampled {
         Sampled::Done(evaluations) => {
@@ -30,7 +29,7 @@ pub(crate) fn tell_sampled(sampled: Sampled, told: &mut [usize]) -> u32
 // Tells how many stops were written, and the evaluations.
 pub(crate) fn tell_listed(listed: Listed, told: &mut [usize]) -> u32
     ensures value { result ≡ number_of_listed listed }
-    ensures told_value { new told ≡ telling (listed_told listed) (old told) }
+    ensures told_value { told.new ≡ telling (listed_told listed) told.old }
 {
     match listed {
         Listed::Done { stops, evaluations } => {

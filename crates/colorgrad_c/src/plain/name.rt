@@ -10,5 +10,7 @@ pub(crate) fn write_name(name: &[u8], out: &mut [u8]) -> usize
     if out.len() < name.len() {
         return name.len();
     }
-    bytes::copy(name, out)
+    let n = name.len();
+    out[..n].copy_from_slice(name);
+    n
 }

@@ -1,6 +1,5 @@
 // The answers of the calls on ramps: the refusal, 0 for none, and what is told beside it, 0 where it is refused.
 ghost use Rattle.std.specs.Prelude.{◌≡◌};
-ghost use Rattle.stops.specs.Lent.{old, new};
 ghost use Rattle.stops.specs.Answers.{number_of_checked};
 ghost use Rattle.paint.specs.Answers.{number_of_at, number_of_painted};
 ghost use Rattle.sharp_ramp.specs.Sharp.{number_of_built};
@@ -33,7 +32,7 @@ pub(crate) fn painted_number(painted: Painted) -> u32
 // Tells the ends of the domain.
 pub(crate) fn tell_domain(checked: Checked, min: f32, max: f32, ends: &mut [f32]) -> u32
     ensures value { result ≡ number_of_checked checked }
-    ensures ends_value { new ends ≡ telling (ends_told checked min max) (old ends) }
+    ensures ends_value { ends.new ≡ telling (ends_told checked min max) ends.old }
 {
     match checked {
         Checked::Fine => {
@@ -50,7 +49,7 @@ pub(crate) fn tell_domain(checked: Checked, min: f32, max: f32, ends: &mut [f32]
 // Tells the four channels of the colour.
 pub(crate) fn tell_colour(answer: ColourAnswer, colour: &mut [f32]) -> u32
     ensures value { result ≡ number_of_at answer }
-    ensures colour_value { new colour ≡ telling (colour_told answer) (old colour) }
+    ensures colour_value { colour.new ≡ telling (colour_told answer) colour.old }
 {
     match answer {
         ColourAnswer::Colour(c) => {
@@ -67,7 +66,7 @@ pub(crate) fn tell_colour(answer: ColourAnswer, colour: &mut [f32]) -> u32
 // Tells how many stops were written.
 pub(crate) fn tell_built(built: Built, told: &mut [usize]) -> u32
     ensures value { result ≡ number_of_built built }
-    ensures told_value { new told ≡ telling (built_told built) (old told) }
+    ensures told_value { told.new ≡ telling (built_told built) told.old }
 {
     match built {
         Built::Stops(stops) => {

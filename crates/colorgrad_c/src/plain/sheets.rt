@@ -1,6 +1,5 @@
 // The sorts of list of a sheet by their numbers, and what is told of a sheet's answer.
 ghost use Rattle.std.specs.Prelude.{◌≡◌};
-ghost use Rattle.stops.specs.Lent.{old, new};
 ghost use Rattle.sheet.specs.Answers.{number_of_sheet};
 ghost use Rattle.colorgrad_c.specs.plain.Telling.{telling};
 ghost use Rattle.colorgrad_c.specs.plain.Sheets.{sort_of, sheet_told};
@@ -22,7 +21,7 @@ pub(crate) fn list_sort_of(list: u32, hold: f32) -> ListSort
 // and the evaluations.
 pub(crate) fn tell_sheet(stops: usize, answer: SheetAnswer, told: &mut [usize]) -> u32
     ensures value { result ≡ number_of_sheet answer }
-    ensures told_value { new told ≡ telling (sheet_told stops answer) (old told) }
+    ensures told_value { told.new ≡ telling (sheet_told stops answer) told.old }
 {
     match answer {
         SheetAnswer::Done {

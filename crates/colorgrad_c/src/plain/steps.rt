@@ -1,6 +1,5 @@
 // One stop at a time: the place that a caller keeps as three numbers, and what is told of a step.
 ghost use Rattle.std.specs.Prelude.{◌≡◌, ◌∷◌, min};
-ghost use Rattle.stops.specs.Lent.{old, new};
 ghost use Rattle.next_stop.specs.Step.{number_of_told};
 ghost use Rattle.colorgrad_c.specs.plain.Telling.{telling};
 ghost use Rattle.colorgrad_c.specs.plain.Steps.{most_plain, place_from, place_told, has_stop, stop_told, handed_told};
@@ -93,8 +92,8 @@ fn stop_told(told: Told) -> [f32; 5]
 // Tells whether there is a stop, the evaluations and the place to go on from; and the stop, 0 where there is none.
 pub(crate) fn tell_handed(handed: Handed, told: &mut [usize], stop: &mut [f32]) -> u32
     ensures value { result ≡ number_of_told handed.told }
-    ensures told_value { new told ≡ telling (handed_told handed) (old told) }
-    ensures stop_value { new stop ≡ telling (stop_told handed.told) (old stop) }
+    ensures told_value { told.new ≡ telling (handed_told handed) told.old }
+    ensures stop_value { stop.new ≡ telling (stop_told handed.told) stop.old }
 {
     let what = handed.told;
     let at = handed.place;

@@ -1,13 +1,12 @@
 // Numbers told into a lent slice: as many as it holds, from its start. What lies past the last of them stays.
 ghost use Rattle.std.specs.Prelude.{◌≡◌, set};
-ghost use Rattle.stops.specs.Lent.{old, new};
 ghost use Rattle.colorgrad_c.specs.plain.Telling.{telling};
 
 use slices::put;
 
 // Stores n at i; past the end nothing is stored.
 fn put_number(told: &mut [usize], i: usize, n: usize)
-    ensures { new told ≡ set (old told) i n }
+    ensures { told.new ≡ set told.old i n }
 {
     if i < told.len() {
         told[i] = n;
@@ -15,7 +14,7 @@ fn put_number(told: &mut [usize], i: usize, n: usize)
 }
 
 pub(crate) fn tell_numbers(told: &mut [usize], numbers: &[usize])
-    ensures { new told ≡ telling (old numbers) (old told) }
+    ensures { told.new ≡ telling numbers.now told.old }
 {
     let mut i = 0;
     while i < numbers.len() {
@@ -25,7 +24,7 @@ pub(crate) fn tell_numbers(told: &mut [usize], numbers: &[usize])
 }
 
 pub(crate) fn tell_floats(told: &mut [f32], floats: &[f32])
-    ensures { new told ≡ telling (old floats) (old told) }
+    ensures { told.new ≡ telling floats.now told.old }
 {
     let mut i = 0;
     while i < floats.len() {

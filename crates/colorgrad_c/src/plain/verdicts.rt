@@ -1,6 +1,5 @@
 // A verdict on a list: the refusal of the ramp, 0 for none, and what is told of the list.
 ghost use Rattle.std.specs.Prelude.{◌≡◌, [], ◌∷◌};
-ghost use Rattle.stops.specs.Lent.{old, new};
 ghost use Rattle.judge.specs.Verdicts.{number_of_verdict};
 ghost use Rattle.colorgrad_c.specs.plain.Telling.{telling};
 ghost use Rattle.colorgrad_c.specs.plain.Verdicts.{verdict_told, point_of};
@@ -77,8 +76,8 @@ fn point_of(verdict: Verdict) -> f32
 
 pub(crate) fn tell_verdict(verdict: Verdict, told: &mut [usize], t: &mut [f32]) -> u32
     ensures value { result ≡ number_of_verdict verdict }
-    ensures told_value { new told ≡ telling (verdict_told verdict) (old told) }
-    ensures t_value { new t ≡ telling (point_of verdict ∷ []) (old t) }
+    ensures told_value { told.new ≡ telling (verdict_told verdict) told.old }
+    ensures t_value { t.new ≡ telling (point_of verdict ∷ []) t.old }
 {
     tell_numbers(told, &verdict_told(verdict));
     tell_floats(t, &[point_of(verdict)]);

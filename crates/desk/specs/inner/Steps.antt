@@ -1,6 +1,6 @@
 -- What the functions within promise each other.
 use Rattle.std.specs.Prelude.{ℕ, ◌≡◌, List, [], length, Float}
-use Rattle.stops.specs.Lent.{Ramp, ramp_of, Lent, old}
+use Rattle.stops.specs.Lent.{Ramp, ramp_of, Lent}
 use Rattle.stops.specs.declared.Kind.{Kind}
 use Rattle.linearize.specs.declared.Listed.{Listed}
 use Rattle.linearize.specs.declared.Listed.TheVariants as listed
@@ -10,7 +10,7 @@ use Rattle.writing.specs.declared.Reply.TheVariants as reply
 
 -- a ramp of stops that are lent
 abbrev pub stop_ramp : Kind → Lent Float → Lent Float → Ramp
-stop_ramp kind ps cs = ramp_of kind (old ps) (old cs) []
+stop_ramp kind ps cs = ramp_of kind ps.entry.now cs.entry.now []
 
 -- what is said of a list
 abbrev pub reply_of : Listed → Reply

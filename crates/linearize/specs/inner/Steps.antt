@@ -1,6 +1,6 @@
 -- What the functions within promise each other.
 use Rattle.std.specs.Prelude.{◌≡◌, List, ℕ, ◌≤◌, get_or, drop, Float}
-use Rattle.stops.specs.Lent.{Ramp, Change, Lent, old}
+use Rattle.stops.specs.Lent.{Ramp, Change, Lent}
 use Rattle.gradient.specs.Ramp.{colour_of}
 use Rattle.difference.specs.Difference.{exceeds}
 use Rattle.sampling.specs.Constants.{record_length}
@@ -49,7 +49,7 @@ pub record ListMade (g : Gradient) (far : Far) (room : ℕ) (ts ps ps' cs cs' : 
 
 -- the points of a lent record
 abbrev pub points : Lent Float → Lent ℕ → Float → List Float
-points rows counts max = list_of (old rows) (old counts) max
+points rows counts max = list_of rows.entry.now counts.entry.now max
 
 abbrev pub MakesList : Ramp → Float → List Float → Change Output → Listed → Type 0
 MakesList ramp cutoff ts out r =

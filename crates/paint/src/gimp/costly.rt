@@ -1,7 +1,6 @@
 // Segments that are by hue or curved, painted as the others are, by a loop of their own: their colour is asked for by a call,
 // for which the other loop would keep the whole segment in memory.
 ghost use Rattle.std.specs.Prelude.{◌≡◌, true};
-ghost use Rattle.stops.specs.Lent.{old, new};
 ghost use Rattle.gradient.specs.Gimp.{blending_at, colouring_at, is_costly, gimp_colour};
 ghost use Rattle.paint.specs.inner.Segments.{Fits, Starts, Written};
 
@@ -22,7 +21,7 @@ pub(crate) fn paint_costly(
 ) -> usize
     requires fits { Fits positions.now channels.now codes.now ts.now out.old }
     requires starts { Starts positions.now ts.now s start end × (is_costly (blending_at codes.now s) (colouring_at codes.now s) ≡ true) }
-    ensures { Written (gimp_colour (old positions) (old channels) (old codes)) (old ts) start result (old out) (new out) }
+    ensures { Written (gimp_colour positions.now channels.now codes.now) ts.now start result out.old out.new }
 {
     let g = hold(positions, channels, codes, s);
     let pivot = gimp::place_along(g.left, g.right, g.middle);

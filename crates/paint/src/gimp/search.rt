@@ -1,6 +1,5 @@
 // The segment that t lies in: of many segments in order it is guessed, and the guess is tested.
 ghost use Rattle.std.specs.Prelude.{◌≡◌, true, ◌≤◌, ◌<◌};
-ghost use Rattle.stops.specs.Lent.{old};
 ghost use Rattle.gradient.specs.Gimp.{segments, left_at, right_at, segment_found};
 ghost use Rattle.paint.specs.inner.Segments.{segments_in_order, Orderly, strictly_inside};
 
@@ -11,7 +10,7 @@ const MANY: usize = 32;
 
 // Whether the positions rise, from 0 or later to 1 or before.
 pub(crate) fn is_orderly(positions: &[f32]) -> bool
-    ensures { result ≡ segments_in_order (old positions) }
+    ensures { result ≡ segments_in_order positions.now }
 {
     let n = positions.len();
     if n < 3 {
@@ -37,7 +36,7 @@ fn past(positions: &[f32], i: usize, t: f32) -> usize
 // About the segment that t lies in; which one it is, is not promised. No branch has to be guessed.
 fn guess(positions: &[f32], t: f32) -> usize
     requires { 1 ≤ segments positions.now }
-    ensures { result < segments (old positions) }
+    ensures { result < segments positions.now }
 {
     let mut base = 0;
     let mut left = positions.len() / 3;
@@ -62,7 +61,7 @@ fn guess(positions: &[f32], t: f32) -> usize
 // n, just where both are 1: one comparison, so that no branch has to be guessed.
 fn is_inside(positions: &[f32], i: usize, t: f32) -> bool
     requires { i < segments positions.now }
-    ensures { result ≡ strictly_inside (left_at (old positions) i) (right_at (old positions) i) t }
+    ensures { result ≡ strictly_inside (left_at positions.now i) (right_at positions.now i) t }
 {
     let n = positions.len();
     let at = 3 * i;
@@ -73,7 +72,7 @@ fn is_inside(positions: &[f32], i: usize, t: f32) -> bool
 // the search finds.
 pub(crate) fn find_segment(positions: &[f32], t: f32, orderly: bool) -> usize
     requires { (1 ≤ segments positions.now) × (orderly ≡ true → Orderly positions.now) }
-    ensures { result ≡ segment_found (old positions) t }
+    ensures { result ≡ segment_found positions.now t }
 {
     if orderly {
         if 3 * MANY <= positions.len() {

@@ -3,7 +3,6 @@ ghost use Rattle.std.specs.Prelude.{◌≡◌, [], ◌∷◌, ◌+◌, ◌*◌, 
 ghost use Rattle.std.proofs.lemmas.List.Edits.{sets};
 ghost use Rattle.refusals.specs.Limits.{most_stops};
 ghost use Rattle.blend.specs.Channels.{channels_of};
-ghost use Rattle.stops.specs.Lent.{old, new};
 ghost use Rattle.refresh.specs.editing.Edited.{spliced, stop_of, gone_of, positions_after, channels_after, stops_after};
 ghost use Rattle.refresh.specs.editing.Copied.{copy_fits, Copies};
 
@@ -14,7 +13,7 @@ use refusals::{MISSHAPEN, MOST_STOPS};
 use stops::{Checked, Kind};
 
 // What a copy answers: how many stops the ramp has now, or the number of the refusal.
-#[derive(Drop)]
+#[derive(Clone, Copy)]
 pub enum Copied {
     Stops(usize),
     Refused(u8),
@@ -23,7 +22,7 @@ pub enum Copied {
 // Stores all items from a place on.
 fn copy_run(from: &[f32], to: &mut [f32], at: usize)
     requires { at + length from.now ≤ length to.old }
-    ensures { new to ≡ sets (old to) at (old from) }
+    ensures { to.new ≡ sets to.old at from.now }
 {
     let mut i = 0;
     while i < from.len() {
@@ -35,7 +34,7 @@ fn copy_run(from: &[f32], to: &mut [f32], at: usize)
 // Copies a list with `gone` items at a place left out and others put in there.
 fn splice(from: &[f32], at: usize, gone: usize, items: &[f32], to: &mut [f32])
     requires { (at + gone ≤ length from.now) × (length from.now + length items.now ≤ length to.old) }
-    ensures { new to ≡ sets (old to) 0 (spliced (old from) at gone (old items)) }
+    ensures { to.new ≡ sets to.old 0 (spliced from.now at gone items.now) }
 {
     copy_run(&from[..at], to, 0);
     copy_run(items, to, at);
@@ -45,7 +44,7 @@ fn splice(from: &[f32], at: usize, gone: usize, items: &[f32], to: &mut [f32])
 // The same with the four channels of a colour put in.
 fn splice_colour(channels: &[f32], at: usize, gone: usize, c: Rgba, to: &mut [f32])
     requires { (at + gone ≤ length channels.now) × (length channels.now + 4 ≤ length to.old) }
-    ensures { new to ≡ sets (old to) 0 (spliced (old channels) at gone (channels_of c)) }
+    ensures { to.new ≡ sets to.old 0 (spliced channels.now at gone (channels_of c)) }
 {
     let items = [c.r, c.g, c.b, c.a];
     splice(channels, at, gone, &items, to);
@@ -54,7 +53,7 @@ fn splice_colour(channels: &[f32], at: usize, gone: usize, c: Rgba, to: &mut [f3
 // The same with one position put in.
 fn splice_position(positions: &[f32], at: usize, gone: usize, p: f32, to: &mut [f32])
     requires { (at + gone ≤ length positions.now) × (length positions.now + 1 ≤ length to.old) }
-    ensures { new to ≡ sets (old to) 0 (spliced (old positions) at gone (p ∷ [])) }
+    ensures { to.new ≡ sets to.old 0 (spliced positions.now at gone (p ∷ [])) }
 {
     let items = [p];
     splice(positions, at, gone, &items, to);
@@ -62,7 +61,7 @@ fn splice_position(positions: &[f32], at: usize, gone: usize, p: f32, to: &mut [
 
 fn copy_positions(positions: &[f32], edit: Edit, to: &mut [f32])
     requires { (stop_of edit + gone_of edit ≤ length positions.now) × (length positions.now + 1 ≤ length to.old) }
-    ensures { new to ≡ sets (old to) 0 (positions_after (old positions) edit) }
+    ensures { to.new ≡ sets to.old 0 (positions_after positions.now edit) }
 {
     match edit {
         Edit::Colour { stop: _, colour: _ } => copy_run(positions, to, 0),
@@ -78,7 +77,7 @@ fn copy_positions(positions: &[f32], edit: Edit, to: &mut [f32])
 
 fn copy_channels(channels: &[f32], edit: Edit, to: &mut [f32])
     requires { (4 * stop_of edit + 4 * gone_of edit ≤ length channels.now) × (length channels.now + 4 ≤ length to.old) }
-    ensures { new to ≡ sets (old to) 0 (channels_after (old channels) edit) }
+    ensures { to.new ≡ sets to.old 0 (channels_after channels.now edit) }
 {
     match edit {
         Edit::Colour { stop, colour } => splice_colour(channels, 4 * stop, 4, colour, to),
@@ -141,7 +140,7 @@ pub fn copy(
     places: &mut [f32],
     colours: &mut [f32],
 ) -> Copied
-    ensures { Copies kind (old positions) (old channels) edit (old places) (old colours) (new places) (new colours) result }
+    ensures { Copies kind positions.now channels.now edit places.old colours.old places.new colours.new result }
 {
     match check(kind, positions, edit) {
         Checked::Refused(number) => Copied::Refused(number),

@@ -1,7 +1,6 @@
 // Whether an edit may be made: refusal 6, then 1, then 3.
 ghost use Rattle.std.specs.Prelude.{◌≡◌};
 ghost use Rattle.stops.specs.Answers.{Checks};
-ghost use Rattle.stops.specs.Lent.{old};
 ghost use Rattle.refresh.specs.editing.Rules.{refreshable, movable, is_inner, is_next, order_check, edit_allowed};
 ghost use Rattle.refresh.specs.declared.editing.Edit.TheVariants.{Colour, Move, Add, Remove};
 
@@ -63,7 +62,7 @@ fn is_next(n: usize, k: usize) -> bool
 
 // Refusal 3 of a position between stops i and j.
 fn check_order(positions: &[f32], i: usize, j: usize, p: f32) -> Checked
-    ensures { result ≡ order_check (old positions) i j p }
+    ensures { result ≡ order_check positions.now i j p }
 {
     if p < item(positions, i) {
         return Checked::Refused(FALLING);
@@ -75,7 +74,7 @@ fn check_order(positions: &[f32], i: usize, j: usize, p: f32) -> Checked
 }
 
 fn check_colour(kind: Kind, positions: &[f32], stop: usize, colour: Rgba) -> Checked
-    ensures { result ≡ edit_allowed kind (old positions) (Colour stop colour) }
+    ensures { result ≡ edit_allowed kind positions.now (Colour stop colour) }
 {
     if !is_refreshable(kind) {
         return Checked::Refused(BAD_EDIT);
@@ -90,7 +89,7 @@ fn check_colour(kind: Kind, positions: &[f32], stop: usize, colour: Rgba) -> Che
 }
 
 fn check_move(kind: Kind, positions: &[f32], stop: usize, position: f32) -> Checked
-    ensures { result ≡ edit_allowed kind (old positions) (Move stop position) }
+    ensures { result ≡ edit_allowed kind positions.now (Move stop position) }
 {
     if !is_movable(kind) {
         return Checked::Refused(BAD_EDIT);
@@ -105,7 +104,7 @@ fn check_move(kind: Kind, positions: &[f32], stop: usize, position: f32) -> Chec
 }
 
 fn check_add(kind: Kind, positions: &[f32], stop: usize, position: f32, colour: Rgba) -> Checked
-    ensures { result ≡ edit_allowed kind (old positions) (Add stop position colour) }
+    ensures { result ≡ edit_allowed kind positions.now (Add stop position colour) }
 {
     if !is_movable(kind) {
         return Checked::Refused(BAD_EDIT);
@@ -126,7 +125,7 @@ fn check_add(kind: Kind, positions: &[f32], stop: usize, position: f32, colour: 
 }
 
 fn check_remove(kind: Kind, positions: &[f32], stop: usize) -> Checked
-    ensures { result ≡ edit_allowed kind (old positions) (Remove stop) }
+    ensures { result ≡ edit_allowed kind positions.now (Remove stop) }
 {
     if !is_movable(kind) {
         return Checked::Refused(BAD_EDIT);
@@ -139,7 +138,7 @@ fn check_remove(kind: Kind, positions: &[f32], stop: usize) -> Checked
 
 // The refusals of an edit of a ramp that is fine.
 pub(crate) fn check(kind: Kind, positions: &[f32], edit: Edit) -> Checked
-    ensures { Checks (edit_allowed kind (old positions) edit) result }
+    ensures { Checks (edit_allowed kind positions.now edit) result }
 {
     match edit {
         Edit::Colour { stop, colour } => check_colour(kind, positions, stop, colour),

@@ -1,7 +1,6 @@
 // The stretch that an edit reaches, which points lie outside it, and which cells are clear of it.
 ghost use Rattle.std.specs.Prelude.{◌≡◌};
 ghost use Rattle.float.specs.Number.{Within};
-ghost use Rattle.stops.specs.Lent.{old};
 ghost use Rattle.refresh.specs.reach.Stretch.{reach_of, left_end, own_end, right_end, colour_stretch, stretch_between, before_of, after_of, outside_of, mids_outside, clear_of};
 
 use sampling::Sampler;
@@ -9,7 +8,7 @@ use stops::{Kind, item};
 
 // A point is before the stretch at `low` or below, where it lies below `below` too; it is after the stretch above `high`.
 // Where no stop stands, the end is not-a-number: no point is outside on that side.
-#[derive(Drop)]
+#[derive(Clone, Copy)]
 pub struct Stretch {
     pub low: f32,
     pub below: f32,
@@ -33,7 +32,7 @@ fn reach_of(kind: Kind) -> usize
 
 // The position so many places to the left of stop k.
 fn left_end(positions: &[f32], reach: usize, k: usize) -> f32
-    ensures { result ≡ left_end reach (old positions) k }
+    ensures { result ≡ left_end reach positions.now k }
 {
     if k < reach {
         return 0.0 / 0.0; // no stop stands there; the pair at the end reads a mirrored one
@@ -44,7 +43,7 @@ fn left_end(positions: &[f32], reach: usize, k: usize) -> f32
 
 // The position of stop k where it is the last one, and else more than every position.
 fn own_end(positions: &[f32], k: usize) -> f32
-    ensures { result ≡ own_end (old positions) k }
+    ensures { result ≡ own_end positions.now k }
 {
     if positions.len() <= k {
         return 0.0 / 0.0;
@@ -57,7 +56,7 @@ fn own_end(positions: &[f32], k: usize) -> f32
 
 // The position so many places to the right of stop k. What is left of the stops is compared, so that no sum can wrap.
 fn right_end(positions: &[f32], reach: usize, k: usize) -> f32
-    ensures { result ≡ right_end reach (old positions) k }
+    ensures { result ≡ right_end reach positions.now k }
 {
     if positions.len() <= k {
         return 0.0 / 0.0;
@@ -70,7 +69,7 @@ fn right_end(positions: &[f32], reach: usize, k: usize) -> f32
 
 // The stretch of a change of the colour of stop k.
 pub(crate) fn colour_stretch(kind: Kind, positions: &[f32], k: usize) -> Stretch
-    ensures { result ≡ colour_stretch (reach_of kind) (old positions) k }
+    ensures { result ≡ colour_stretch (reach_of kind) positions.now k }
 {
     let reach = reach_of(kind);
     let low = left_end(positions, reach, k);
@@ -81,7 +80,7 @@ pub(crate) fn colour_stretch(kind: Kind, positions: &[f32], k: usize) -> Stretch
 
 // The stretch from stop i to stop j.
 pub(crate) fn stretch_between(positions: &[f32], i: usize, j: usize) -> Stretch
-    ensures { result ≡ stretch_between (old positions) i j }
+    ensures { result ≡ stretch_between positions.now i j }
 {
     let low = item(positions, i);
     let high = item(positions, j);

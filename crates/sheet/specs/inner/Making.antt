@@ -2,7 +2,7 @@
 use Rattle.std.specs.Prelude.{◌≡◌, List, ℕ, ◌+◌, ◌*◌, ◌≤◌, length, take, Float}
 use Rattle.std.proofs.lemmas.List.Edits.{sets}
 use Rattle.refusals.specs.Limits.{most_stops}
-use Rattle.stops.specs.Lent.{Ramp, Change, Lent, old}
+use Rattle.stops.specs.Lent.{Ramp, Change, Lent}
 use Rattle.sampling.specs.Lent.{Held, held_of}
 use Rattle.linearize.specs.Lent.{Output}
 use Rattle.linearize.specs.Desk.{after_spending}
@@ -30,7 +30,7 @@ pub record Makes (ps cs : List Float) (n : ℕ) (e : Edit) (ps' cs' : List Float
 
 -- in an `ensures`, a record that is only read
 abbrev pub read_held : Lent Float → Lent ℕ → Lent ℕ → Held
-read_held rows counts marks = held_of (old rows) (old counts) (old marks)
+read_held rows counts marks = held_of rows.entry.now counts.entry.now marks.entry.now
 
 -- the answer of a list that was made after so many evaluations
 pub record ListsBy (sort : ListSort) (ramp : Ramp) (asked : Float) (was : Held) (out : Change Output) (stops spent : ℕ) (r : SheetAnswer) : Type 0 where

@@ -1,0 +1,11 @@
+-- `from_rgb::smaller` meets its contract: each branch of the code is a branch of the definition. Assumes nothing.
+use Rattle.hsv.specs.There.{smaller}
+use Rattle.hsv.proofs.from_rgb.smaller.Goals as goal
+
+pub returns-then-y-x : goal.returns-then-y-x
+unfolding smaller
+returns-then-y-x c = simp c.if-y-x.true
+
+pub returns : goal.returns
+unfolding smaller
+returns c = simp c.if-y-x.false

@@ -1,0 +1,12 @@
+-- `close_gap` meets its contract: the items up to i are moved already. Assumes nothing.
+use mathlib.Core.Path.{◌≡◌}
+use Prim.Native.Nat.{◌+◌, ◌-◌, ◌≤◌}
+use lib.ListN.{length, take, drop}
+use lib.Seq.{sets}
+use Rattle.sheet.proofs.making.close_gap.Given as goal
+
+abbrev pub invariant-loop-i : goal.invariant-loop-i
+invariant-loop-i l = (l.at + l.by ≤ l.i) × (l.i ≤ l.end) × (length l.list ≡ length l.initial.list) × (l.list ≡ sets l.initial.list l.at (take (l.i - (l.at + l.by)) (drop (l.at + l.by) l.initial.list)))
+
+abbrev pub decreases-loop-i : goal.decreases-loop-i
+decreases-loop-i l = l.end - l.i

@@ -1,0 +1,6 @@
+-- `next_above` meets its contract. Assumes nothing.
+use Rattle.weighed.proofs.Neighbouring.{next_same}
+use Rattle.weighed.proofs.neighbours.next_above.Goals as goal
+
+pub returns : goal.returns
+returns c = next_same _ _ c.above.ensures
