@@ -4,7 +4,5 @@ fn main() {
     let folder = std::env::var("LIBRARY").expect("compare/run names the library's folder");
     println!("cargo:rustc-link-search=native={folder}");
     println!("cargo:rustc-link-lib=static=colorgrad_c");
-    // `%` of two f32 is a call of fmodf
-    println!("cargo:rustc-link-lib=m");
     println!("cargo:rerun-if-changed={folder}/libcolorgrad_c.a");
 }

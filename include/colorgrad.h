@@ -1,7 +1,7 @@
 /* Guineaplume: colour ramps checked, evaluated, flattened to lists of stops, and refreshed after an edit.
  *
- * C99, and usable from C++. Link libcolorgrad_c.a, out of the folder that `./library` prints, and C's own -lm, for the
- * remainder of two floats. The library has no state and takes nothing from the heap: any threads may call it at once.
+ * C99, and usable from C++. Link libcolorgrad_c.a, out of the folder that `./library` prints; it needs no other library. It
+ * has no state and takes nothing from the heap: any threads may call it at once.
  *
  * A slice is a pointer and how many items it has. No call needs a check before it: with length 0 the pointer may be null,
  * lengths may disagree, numbers may be anything; what cannot be used is refused with a number below. The one thing to keep

@@ -17,8 +17,6 @@ fn main() {
     }
     println!("cargo:rustc-link-search=native={}", folder.display());
     println!("cargo:rustc-link-lib=static=colorgrad_c");
-    // `%` of two f32 is a call of fmodf
-    println!("cargo:rustc-link-lib=m");
 }
 
 /// In the repository that this package is a part of.

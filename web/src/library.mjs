@@ -1,7 +1,5 @@
 // The library as WebAssembly, which `./library wasm` makes: memory to lend, and its calls.
 
-// the remainder of two f32 is an f32, so JavaScript's of two doubles is exact
-const imports = { env: { fmodf: (x, y) => x % y } };
 // taken at once: memory that grows later would leave every view of it empty
 const PAGES = 64;
 
@@ -10,7 +8,7 @@ let top;
 
 /** Takes the library's bytes; nothing else may be asked before. */
 export async function start(bytes) {
-    const { instance } = await WebAssembly.instantiate(bytes, imports);
+    const { instance } = await WebAssembly.instantiate(bytes);
     exports = instance.exports;
     exports.memory.grow(PAGES);
     top = exports.__heap_base.value;

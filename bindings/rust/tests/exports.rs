@@ -5,7 +5,7 @@ use std::{fs, iter};
 
 const HEADER: &str = include_str!("../../../include/colorgrad_calls.h");
 const TABLE: &str = include_str!("../src/ffi.rs");
-const SOURCE: &str = concat!(env!("CARGO_MANIFEST_DIR"), "/../../crates/colorgrad_c/src");
+const SOURCE: &str = concat!(env!("CARGO_MANIFEST_DIR"), "/../../crates/colorgrad_exports/src");
 
 /// An export: its name, the name and the type of each parameter, and the type of its answer.
 #[derive(PartialEq, Debug)]
@@ -100,8 +100,7 @@ fn of_table() -> Vec<Export> {
 
 fn of_source() -> Vec<Export> {
     let files = fs::read_dir(Path::new(SOURCE)).expect("the library's source");
-    // the exports stand in the files of this folder; a folder in it has what they are made of
-    let files = files.map(|file| file.expect("a file").path()).filter(|path| path.is_file());
+    let files = files.map(|file| file.expect("a file").path());
     let texts: Vec<String> = files.map(|path| fs::read_to_string(path).expect("its text")).collect();
     let exports = texts.iter().flat_map(|text| text.split("pub extern \"C\" fn ").skip(1));
     sorted(exports.map(of_rust).collect())
