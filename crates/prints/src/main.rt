@@ -2,10 +2,8 @@
 // A number is 8 hex digits of its bits.
 #![tactic(auto)]
 
-ghost use Rattle.std.specs.Prelude.{◌+◌, ◌≤◌, ◌<◌, length};
-
 use crate::show::{bits, refused, row};
-use blend::Rgba;
+use crate::texts::counted;
 use decimal::Token;
 use linearize::{Listed, Sampler};
 use paint::ColourAnswer;
@@ -15,6 +13,7 @@ use stops::Kind;
 use streams::StandardOutput;
 
 mod show;
+mod texts;
 
 // The first channel of a ramp at t.
 fn red(
@@ -193,59 +192,6 @@ fn too_many_stops(out: &mut StandardOutput) {
         b"",
         0.5,
     );
-}
-
-// n bytes of the text from `at` on are those of s, over and over.
-fn fill(text: &mut [u8], at: usize, s: &[u8], n: usize)
-    requires { (at + n ≤ length text.old) × (0 < length s.now) }
-{
-    let mut i = 0;
-    while i < n {
-        text[at + i] = s[i % s.len()];
-        i += 1;
-    }
-}
-
-fn read(out: &mut StandardOutput, label: &[u8], text: &[u8]) {
-    let black = Rgba {
-        r: 0.0,
-        g: 0.0,
-        b: 0.0,
-        a: 1.0,
-    };
-    let mut positions = [9.0f32; 771];
-    let mut channels = [9.0f32; 2056];
-    let mut codes = [9u8; 514];
-    out.put(label);
-    out.put(b"\t");
-    match colorgrad::read(
-        text,
-        black,
-        black,
-        &mut positions,
-        &mut channels,
-        &mut codes,
-    ) {
-        ggr::Answer::Read(n) => {
-            out.put(b"read ");
-            out.decimal(n as u64);
-        }
-        ggr::Answer::Refused(n, line) => {
-            refused(out, n);
-            out.put(b" line ");
-            out.decimal(line as u64);
-        }
-    }
-    out.put(b"\n");
-}
-
-// A GIMP file whose line 3 counts so many segments, with 257 lines for them, of which all but the first have no length.
-fn counted(out: &mut StandardOutput, label: &[u8], header: &[u8; 29]) {
-    let mut text = [0u8; 6712];
-    fill(&mut text, 0, header, 29);
-    fill(&mut text, 29, b"0 .5 1 0 0 0 1 1 1 1 1 0 0\n", 27);
-    fill(&mut text, 56, b"1 1 1 0 0 0 1 1 1 1 1 0 0\n", 6656);
-    read(out, label, &text);
 }
 
 fn main(rt: HostRuntime) -> io::Result<()> {
