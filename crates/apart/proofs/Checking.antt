@@ -1,5 +1,5 @@
 -- The refusals, test by test; and what a call that is not refused was lent. Assumes nothing.
-use mathlib.Core.Path.{◌≡◌, refl, sym, ap, ap₂, ◌∙◌}
+use mathlib.Core.Path.{◌≡◌, refl, sym, ap, ◌∙◌}
 use mathlib.Core.Bool.{Bool, true, false, not, cond, ◌&&◌, true≢false}
 use mathlib.Core.List.{List}
 use Prim.Native.Nat.{ℕ, ◌-◌, ◌≤◌, ◌<◌}
@@ -28,32 +28,9 @@ use Rattle.judge.proofs.Shaping.{shape_sound}
 use Rattle.apart.specs.Checks.{is_yes, good_list, good_depth, first_bad_depth, good_depths, good_step, asked_check, given_check, lent_check, apart_check}
 
 -- ---- a depth
-pub as_lt : {p q p' q' : Float} {b : Bool} → p ≡ p' → q ≡ q' → lt p q ≡ b → lt p' q' ≡ b
-as_lt e f h = ap₂ lt (sym e) (sym f) ∙ h
-
-module _ (lo hi : Float) (ds : List Float) (i : ℕ) where
-  pub not_finite : finite (pos_at ds i) ≡ false → false ≡ good_depth lo hi ds i
-  unfolding good_depth
-  not_finite h = simp h
-
-  module _ (number : finite (pos_at ds i) ≡ true) where
-    pub below : lt (pos_at ds i) lo ≡ true → false ≡ good_depth lo hi ds i
-    unfolding good_depth
-    below h = simp (number, h)
-
-    module _ (low : lt (pos_at ds i) lo ≡ false) where
-      pub above : lt hi (pos_at ds i) ≡ true → false ≡ good_depth lo hi ds i
-      unfolding good_depth
-      above h = simp (number, low, h)
-
-      module _ (high : lt hi (pos_at ds i) ≡ false) where
-        pub falls : lt (pos_at ds i) (pos_at ds (i - 1)) ≡ true → false ≡ good_depth lo hi ds i
-        unfolding good_depth
-        falls h = simp (number, low, high, h)
-
-        pub holds : lt (pos_at ds i) (pos_at ds (i - 1)) ≡ false → true ≡ good_depth lo hi ds i
-        unfolding good_depth
-        holds h = simp (number, low, high, h)
+pub holds : (lo hi : Float) (ds : List Float) (i : ℕ) → finite (pos_at ds i) ≡ true → lt (pos_at ds i) lo ≡ false → lt hi (pos_at ds i) ≡ false → lt (pos_at ds i) (pos_at ds (i - 1)) ≡ false → true ≡ good_depth lo hi ds i
+unfolding good_depth
+holds lo hi ds i number low high h = simp (number, low, high, h)
 
 pub begun : (lo hi : Float) (ds : List Float) → first_failing (good_depth lo hi ds) (length ds - 0) 0 ≡ first_bad_depth lo hi ds
 unfolding first_bad_depth
@@ -61,27 +38,11 @@ begun lo hi ds = from_start (good_depth lo hi ds) (length ds)
 
 -- ---- 23, then 24
 module _ (lo hi : Float) (ds : List Float) (step : Float) where
-  pub no_depth : length ds ≡ 0 → checked.Refused bad_depths ≡ asked_check lo hi ds step
-  unfolding asked_check good_depths
-  no_depth h = simp (le-ltb 0 (length ds) (omega arith))
-
   module _ (some : length ds ≡ 0 → ⊥) {k : ℕ} (e : k ≡ first_bad_depth lo hi ds) where
-    pub bad_depth : k < length ds → checked.Refused bad_depths ≡ asked_check lo hi ds step
-    unfolding asked_check good_depths
-    bad_depth h = simp (lt-ltb 0 (length ds) (omega (arith, some)), ← e, lt-ltb k (length ds) h)
-
     module _ (past : length ds ≤ k) where
       good : good_depths lo hi ds ≡ true
       unfolding good_depths
       good = simp (lt-ltb 0 (length ds) (omega (arith, some)), ← e, le-ltb k (length ds) past)
-
-      pub step_not_finite : finite step ≡ false → checked.Refused bad_step ≡ asked_check lo hi ds step
-      unfolding asked_check good_step
-      step_not_finite h = simp (good, h)
-
-      pub step_below : finite step ≡ true → lt step f0 ≡ true → checked.Refused bad_step ≡ asked_check lo hi ds step
-      unfolding asked_check good_step
-      step_below n h = simp (good, n, h)
 
       pub asked_fine : finite step ≡ true → lt step f0 ≡ false → checked.Fine ≡ asked_check lo hi ds step
       unfolding asked_check good_step

@@ -20,15 +20,6 @@ pub flag_most : (n : ℕ) (b : Bool) → flag n b ≤ n
 flag_most n true = omega arith
 flag_most n false = omega arith
 
-pub bit_most : (n : ℕ) (b : Bool) {r : ℕ} → r ≡ flag n b → r ≤ n
-bit_most n b e = rw e (flag_most n b)
-
-pub one_more : (n : ℕ) {b : Bool} → b ≡ true → n + 1 ≡ n + flag 1 b
-one_more n h = rw h
-
-pub no_more : (n : ℕ) {b : Bool} → b ≡ false → n ≡ n + flag 1 b
-no_more n h = rw h (omega arith)
-
 -- ---- how many
 pub how_many_most : (test : ℕ → Bool) (n : ℕ) → how_many test n ≤ n
 unfolding summed
@@ -100,18 +91,3 @@ module _ (moved close merged : ℕ → Bool) where
   pub counts_next : (i : ℕ) → tally_next (counts_of i) i (record { moved = moved i; close = close i; merged = merged i }) ≡ counts_of (i + 1)
   counts_next i =
       counts_same (summed_next (λ j. flag 1 (moved j)) i) (summed_next (λ j. flag 1 (close j)) i) (summed_next (λ j. flag 1 (merged j)) i) (first_next_lem i)
-
--- ---- the first merged one, test by test
-module _ (first i : ℕ) (merged : Bool) where
-  pub was_first : first < i → first ≡ first_next first i merged
-  unfolding first_next
-  was_first h = rw (lt-ltb first i h)
-
-  module _ (none : i ≤ first) where
-    pub is_first : merged ≡ true → i ≡ first_next first i merged
-    unfolding first_next
-    is_first h = rw (le-ltb first i none, h)
-
-    pub not_first : merged ≡ false → i + 1 ≡ first_next first i merged
-    unfolding first_next
-    not_first h = rw (le-ltb first i none, h)

@@ -12,33 +12,19 @@ fn is_good(min: f32, max: f32, depths: &[f32], i: usize) -> bool
     ensures { result ≡ good_depth min max depths.now i }
 {
     let d = item(depths, i);
-    if !float::is_finite(d) {
-        return false;
-    }
-    if d < min {
-        return false;
-    }
-    if max < d {
-        return false;
-    }
-    if d < item(depths, less(i)) {
-        return false;
-    }
-    true
+    float::is_finite(d) && !(d < min) && !(max < d) && !(d < item(depths, less(i)))
 }
 
 // The first depth that is not, and the number of depths where all are.
 fn first_bad(min: f32, max: f32, depths: &[f32]) -> usize
     ensures { result ≡ first_bad_depth min max depths.now }
 {
-    let mut i = 0;
-    while i < depths.len() {
+    for i in 0..depths.len() {
         if !is_good(min, max, depths, i) {
             return i;
         }
-        i += 1;
     }
-    i
+    depths.len()
 }
 
 // 23 of the depths, then 24 of the step.
@@ -46,19 +32,13 @@ fn check_asked(min: f32, max: f32, depths: &[f32], step: f32) -> Checked
     ensures { result ≡ asked_check min max depths.now step }
 {
     let n = depths.len();
-    if n == 0 {
-        return Checked::Refused(BAD_DEPTHS);
+    if n == 0 || first_bad(min, max, depths) < n {
+        Checked::Refused(BAD_DEPTHS)
+    } else if !float::is_finite(step) || step < 0.0 {
+        Checked::Refused(BAD_STEP)
+    } else {
+        Checked::Fine
     }
-    if first_bad(min, max, depths) < n {
-        return Checked::Refused(BAD_DEPTHS);
-    }
-    if !float::is_finite(step) {
-        return Checked::Refused(BAD_STEP);
-    }
-    if step < 0.0 {
-        return Checked::Refused(BAD_STEP);
-    }
-    Checked::Fine
 }
 
 // 22 of the list, then the others.

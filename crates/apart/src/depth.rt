@@ -1,8 +1,7 @@
 // What is wrong at one depth, its byte, and the counts with it.
-ghost use Rattle.std.specs.Prelude.{◌≡◌, not, ◌&&◌, ◌+◌, ◌<◌};
+ghost use Rattle.std.specs.Prelude.{◌≡◌, not, ◌&&◌, ◌<◌};
 ghost use Rattle.std.specs.Float.Ieee.{le};
 ghost use Rattle.difference.specs.Difference.{distance_of, differs};
-ghost use Rattle.apart.specs.Faults.{flag};
 ghost use Rattle.apart.specs.inner.Steps.{most_count, fault_from, byte_of, first_next, tally_next, Countable};
 
 use crate::told::{Fault, Seen, Tally};
@@ -27,10 +26,7 @@ fn is_told(step: f32, x: Rgba, y: Rgba) -> bool
 fn is_merged(told: bool, kept: bool) -> bool
     ensures { result ≡ (told && not kept) }
 {
-    if !told {
-        return false;
-    }
-    !kept
+    told && !kept
 }
 
 // What is wrong at depth i, with what was seen at the depth before; the first has none before it.
@@ -41,49 +37,31 @@ pub(crate) fn fault_of(threshold: f32, step: f32, i: usize, before: Seen, here: 
     let list = here.list;
     let near = is_near(threshold, ramp, list);
     if i == 0 {
-        return Fault {
+        Fault {
             moved: !near,
             close: false,
             merged: false,
-        };
-    }
-    let ramp_before = before.ramp;
-    let list_before = before.list;
-    let told = is_told(step, ramp_before, ramp);
-    let kept = is_told(step, list_before, list);
-    Fault {
-        moved: !near,
-        close: !told,
-        merged: is_merged(told, kept),
+        }
+    } else {
+        let ramp_before = before.ramp;
+        let list_before = before.list;
+        let told = is_told(step, ramp_before, ramp);
+        let kept = is_told(step, list_before, list);
+        Fault {
+            moved: !near,
+            close: !told,
+            merged: is_merged(told, kept),
+        }
     }
 }
 
-// What a fault adds to the byte where it is there.
-fn bit(value: u8, holds: bool) -> u8
-    ensures { result ≡ flag value holds }
-{
-    if holds {
-        return value;
+impl Fault {
+    // The byte of a depth: the sum of what holds.
+    pub(crate) fn byte(self) -> u8
+        ensures { result ≡ byte_of self }
+    {
+        u8::from(self.moved) + 2 * u8::from(self.close) + 4 * u8::from(self.merged)
     }
-    0
-}
-
-// The byte of a depth: the sum of what holds.
-pub(crate) fn byte_of(fault: Fault) -> u8
-    ensures { result ≡ byte_of fault }
-{
-    bit(1, fault.moved) + bit(2, fault.close) + bit(4, fault.merged)
-}
-
-// One more, where it holds.
-fn more(n: usize, holds: bool) -> usize
-    requires { n < most_count }
-    ensures { result ≡ n + flag 1 holds }
-{
-    if holds {
-        return n + 1;
-    }
-    n
 }
 
 // The first merged one of the depths up to i, where `first` is that of those before.
@@ -92,23 +70,25 @@ fn first_with(first: usize, i: usize, merged: bool) -> usize
     ensures { result ≡ first_next first i merged }
 {
     if first < i {
-        return first;
+        first
+    } else if merged {
+        i
+    } else {
+        i + 1
     }
-    if merged {
-        return i;
-    }
-    i + 1
 }
 
-// The counts with depth i, where `tally` has those before.
-pub(crate) fn counted(tally: Tally, i: usize, fault: Fault) -> Tally
-    requires { Countable tally i }
-    ensures { result ≡ tally_next tally i fault }
-{
-    Tally {
-        moved: more(tally.moved, fault.moved),
-        close: more(tally.close, fault.close),
-        merged: more(tally.merged, fault.merged),
-        first: first_with(tally.first, i, fault.merged),
+impl Tally {
+    // These counts, of the depths before, with depth i.
+    pub(crate) fn with(self, i: usize, fault: Fault) -> Tally
+        requires { Countable self i }
+        ensures { result ≡ tally_next self i fault }
+    {
+        Tally {
+            moved: self.moved + usize::from(fault.moved),
+            close: self.close + usize::from(fault.close),
+            merged: self.merged + usize::from(fault.merged),
+            first: first_with(self.first, i, fault.merged),
+        }
     }
 }

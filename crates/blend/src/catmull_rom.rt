@@ -18,10 +18,7 @@ fn tangent_of(w: f32, x: f32, y: f32, z: f32, t0: f32, t1: f32, t2: f32) -> f32
     ensures { result ≡ tangent w x y z t0 t1 t2 }
 {
     let m = (1.0 - 0.0) * w * ((x - y) / (t0 - t1) - (x - z) / (t0 - t2) + (y - z) / (t1 - t2));
-    if m != m {
-        return 0.0;
-    }
-    m
+    if m != m { 0.0 } else { m }
 }
 
 fn cubic_of(v1: f32, v2: f32, m1: f32, m2: f32) -> [f32; 4]
@@ -39,12 +36,7 @@ fn cubic_of(v1: f32, v2: f32, m1: f32, m2: f32) -> [f32; 4]
 pub fn chords(p: Rgba, q: Rgba) -> Rgba
     ensures { result ≡ chords_of p q }
 {
-    Rgba {
-        r: chord_of(p.r, q.r),
-        g: chord_of(p.g, q.g),
-        b: chord_of(p.b, q.b),
-        a: chord_of(p.a, q.a),
-    }
+    p.zip_with(q, chord_of)
 }
 
 fn coefficients(

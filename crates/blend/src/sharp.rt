@@ -9,7 +9,8 @@ pub fn pair_colour(lower: usize, p: Stop, q: Stop, t: f32) -> Rgba
     ensures { result ≡ sharp_pair lower p q t }
 {
     if lower % 2 == 0 {
-        return p.colour;
+        p.colour
+    } else {
+        smoothstep::pair_colour(p, q, t)
     }
-    smoothstep::pair_colour(p, q, t)
 }

@@ -1,11 +1,14 @@
 // The public face: every call of the library under one name, with the theorems on them (proofs/Refreshing). It has no
-// code of its own. A ramp is lent as slices, and every call answers for any slices at all.
+// code of its own. A ramp is lent as a `Ramp`, of slices, and every call answers for any slices at all.
 
 // Making a ramp: sharp bands, and a GIMP text's segments and name, by document 01's rules or as GIMP saves it.
 #![tactic(auto)]
 
 pub use ggr::{name, name_saved, read, read_saved};
 pub use sharp_ramp::build;
+
+// A ramp, lent.
+pub use gradient::Ramp;
 
 // Its colour at a point, and at many.
 pub use paint::{at, paint};

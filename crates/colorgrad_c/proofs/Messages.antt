@@ -2,13 +2,13 @@
 use mathlib.Core.Path.{◌≡◌, refl, sym, ap, ◌∙◌}
 use mathlib.Core.Bool.{Bool, true, false, cond, ◌&&◌}
 use mathlib.Core.List.{List, [], ◌∷◌, ◌++◌}
-use Prim.Native.Nat.{ℕ, zero, suc, ◌+◌, ◌-◌, ◌≤◌, ◌<◌}
+use Prim.Native.Nat.{ℕ, zero, suc, ◌+◌, ◌-◌, ◌≤◌, ◌<◌, min}
 use Prim.Native.String.{String, [] as empty}
 use native.Mathlib.Nat.{sub-zero}
 use native.Mathlib.Omega.{arith}
 use lib.Dec.{leb, ltb}
 use lib.ListN.{length, get_or, take, drop}
-use borrow.Author.Tests.{leb-true, ltb-true, ltb-false, lt-ltb, le-ltb}
+use borrow.Author.Tests.{leb-true, ltb-true, ltb-false}
 use Rattle.float.proofs.Flags.{both_l, both_r}
 use Rattle.text.specs.Text.{every, lines, first_of, rest_of}
 use Rattle.text.specs.Places.{LineAt}
@@ -95,11 +95,11 @@ chosen ts other n = go (ltb n (length ts)) refl where
   go true e = among ts other n (ltb-true n (length ts) e)
   go false e = other_last ts other ∙ sym (past ts other n (ltb-false n (length ts) e))
 
-pub text_in : {n most : ℕ} → n < most → n ≡ cond (ltb n most) n most
-text_in {n} {most} h = rw (lt-ltb n most h)
-
-pub text_out : {n most : ℕ} → most ≤ n → most ≡ cond (ltb n most) n most
-text_out {n} {most} h = rw (le-ltb n most h)
+pub text_least : (n most : ℕ) → min n most ≡ cond (ltb n most) n most
+text_least n most = go (ltb n most) refl where
+  go : (t : Bool) → ltb n most ≡ t → min n most ≡ cond t n most
+  go true e = omega (arith, ltb-true n most e)
+  go false e = omega (arith, ltb-false n most e)
 
 -- line k of texts is the text of the number n
 pub text_is : (ts : List String) (other : String) (n : ℕ) {k : ℕ} (all : List ℕ) → all ≡ joined_texts (ts ++ (other ∷ [])) → all_show (ts ++ (other ∷ [])) ≡ true

@@ -29,11 +29,7 @@ pub extern "C" fn colorgrad_version() -> u32
 fn text_number(n: u32, most: usize) -> usize
     ensures { result ≡ cond (ltb n most) n most }
 {
-    let i = n as usize;
-    if i < most {
-        return i;
-    }
-    most
+    (n as usize).min(most)
 }
 
 // Line k, counted from 0; empty past the last.
@@ -41,11 +37,8 @@ fn line(texts: &[u8], k: usize) -> &[u8]
     ensures { result.now ≡ get_or (lines texts.now) k [] }
 {
     let mut at = 0;
-    let mut i = 0;
-    while i < k {
-        let l = line_at(texts, at);
-        at = l.next;
-        i += 1;
+    for _i in 0..k {
+        at = line_at(texts, at).next;
     }
     let l = line_at(texts, at);
     let end = l.end;

@@ -7,9 +7,9 @@ ghost use Rattle.colorgrad_c.specs.Lists.{lent};
 ghost use Rattle.colorgrad_c.specs.Edits.{CodedRefreshes, CodedRelists};
 
 use crate::plain::edits::edit_of;
-use crate::plain::kinds;
-use crate::plain::kinds::Coded;
+use crate::plain::kinds::kind_of;
 use crate::plain::lists::{tell_listed, tell_sampled};
+use gradient::Ramp;
 use linearize::Listed;
 use refusals::MISSHAPEN;
 use sampling::Sampled;
@@ -36,17 +36,22 @@ pub extern "C" fn colorgrad_edit_told(
 ) -> u32
     ensures { CodedRefreshes (ramp_by kind positions channels codes) (edit_of sort stop at r g b a) threshold (lent_held rows counts marks) (reply result told) }
 {
-    let Coded::Of(known) = kinds::kind_of(kind) else {
+    let Some(known) = kind_of(kind) else {
         return tell_sampled(Sampled::Refused(MISSHAPEN), told);
     };
+    let ramp = Ramp {
+        positions,
+        channels,
+        codes,
+        kind: known,
+    };
     let edit = edit_of(sort, stop, at, r, g, b, a);
-    let refreshed = refresh::refresh(
-        known, positions, channels, codes, edit, threshold, rows, counts, marks,
-    );
+    let refreshed = refresh::refresh(&ramp, edit, threshold, rows, counts, marks);
     tell_sampled(refreshed, told)
 }
 
-// Tells how many stops were written, and the evaluations.
+// Tells how many stops were written, and the evaluations. What it has in common with the call above is `kind_of` and `edit_of`;
+// one function over the rest would take all that C hands over, and a closure.
 #[unsafe(no_mangle)]
 pub extern "C" fn colorgrad_edit_list_told(
     kind: u32,
@@ -70,12 +75,18 @@ pub extern "C" fn colorgrad_edit_list_told(
 ) -> u32
     ensures { CodedRelists (ramp_by kind positions channels codes) (edit_of sort stop at r g b a) threshold (lent rows counts marks places colours told) result }
 {
-    let Coded::Of(known) = kinds::kind_of(kind) else {
+    let Some(known) = kind_of(kind) else {
         return tell_listed(Listed::Refused(MISSHAPEN), told);
+    };
+    let ramp = Ramp {
+        positions,
+        channels,
+        codes,
+        kind: known,
     };
     let edit = edit_of(sort, stop, at, r, g, b, a);
     let listed = refresh::refresh_list(
-        known, positions, channels, codes, edit, threshold, rows, counts, marks, places, colours,
+        &ramp, edit, threshold, rows, counts, marks, places, colours,
     );
     tell_listed(listed, told)
 }

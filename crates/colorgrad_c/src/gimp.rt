@@ -9,7 +9,7 @@ ghost use Rattle.colorgrad_c.specs.plain.Name.{named};
 ghost use Rattle.colorgrad_c.specs.Gimp.{ShowsRead};
 
 use crate::plain::name::write_name;
-use crate::plain::telling::tell_numbers;
+use crate::plain::telling::tell;
 use blend::Rgba;
 use ggr::Answer;
 
@@ -20,11 +20,11 @@ fn tell_read(answer: Answer, told: &mut [usize]) -> u32
 {
     match answer {
         Answer::Read(segments) => {
-            tell_numbers(told, &[0, segments]);
+            tell(told, &[0, segments]);
             0
         }
         Answer::Refused(n, line) => {
-            tell_numbers(told, &[line, 0]);
+            tell(told, &[line, 0]);
             n as u32
         }
     }
@@ -60,7 +60,7 @@ pub extern "C" fn colorgrad_read_told(
     tell_read(answer, told)
 }
 
-// The same of a file as GIMP saves it.
+// The same of a file as GIMP saves it. One function over the reader would take all these parameters too, and the reader.
 #[unsafe(no_mangle)]
 pub extern "C" fn colorgrad_read_saved_told(
     text: &[u8],

@@ -6,11 +6,11 @@ ghost use Rattle.colorgrad_c.specs.plain.Telling.{telling, reply, replies};
 ghost use Rattle.colorgrad_c.specs.plain.Kinds.{ramp_by};
 ghost use Rattle.colorgrad_c.specs.Judging.{CodedJudges, CodedTellsApart, apart_told};
 
-use crate::plain::kinds;
-use crate::plain::kinds::Coded;
-use crate::plain::telling::tell_numbers;
+use crate::plain::kinds::kind_of;
+use crate::plain::telling::tell;
 use crate::plain::verdicts::tell_verdict;
 use apart::Apart;
+use gradient::Ramp;
 use judge::Verdict;
 use refusals::MISSHAPEN;
 
@@ -29,12 +29,16 @@ pub extern "C" fn colorgrad_judge_told(
 ) -> u32
     ensures { CodedJudges (ramp_by kind positions channels codes) threshold (lent_offer places colours) (replies result told t) }
 {
-    let Coded::Of(known) = kinds::kind_of(kind) else {
+    let Some(known) = kind_of(kind) else {
         return tell_verdict(Verdict::Refused(MISSHAPEN), told, t);
     };
-    let verdict = judge::judge(
-        known, positions, channels, codes, threshold, places, colours,
-    );
+    let ramp = Ramp {
+        positions,
+        channels,
+        codes,
+        kind: known,
+    };
+    let verdict = judge::judge(&ramp, threshold, places, colours);
     tell_verdict(verdict, told, t)
 }
 
@@ -50,11 +54,11 @@ fn tell_apart(apart: Apart, told: &mut [usize]) -> u32
             merged,
             first_merged,
         } => {
-            tell_numbers(told, &[moved, close, merged, first_merged]);
+            tell(told, &[moved, close, merged, first_merged]);
             0
         }
         Apart::Refused(n) => {
-            tell_numbers(told, &[0, 0, 0, 0]);
+            tell(told, &[0, 0, 0, 0]);
             n as u32
         }
     }
@@ -77,11 +81,15 @@ pub extern "C" fn colorgrad_apart_told(
 ) -> u32
     ensures { CodedTellsApart (ramp_by kind positions channels codes) threshold step (lent_offer places colours) depths.now faults (reply result told) }
 {
-    let Coded::Of(known) = kinds::kind_of(kind) else {
+    let Some(known) = kind_of(kind) else {
         return tell_apart(Apart::Refused(MISSHAPEN), told);
     };
-    let apart = apart::apart(
-        known, positions, channels, codes, threshold, step, depths, places, colours, faults,
-    );
+    let ramp = Ramp {
+        positions,
+        channels,
+        codes,
+        kind: known,
+    };
+    let apart = apart::apart(&ramp, threshold, step, depths, places, colours, faults);
     tell_apart(apart, told)
 }

@@ -9,7 +9,7 @@ ghost use Rattle.within.specs.Lists.{hold_of};
 ghost use Rattle.colorgrad_c.specs.plain.Telling.{telling};
 ghost use Rattle.colorgrad_c.specs.Leaves.{is_number, value_told};
 
-use crate::plain::telling::tell_floats;
+use crate::plain::telling::tell;
 use decimal::Token;
 use linearize::Sampler;
 
@@ -19,11 +19,11 @@ fn tell_token(token: Token, value: &mut [f32]) -> u32
 {
     match token {
         Token::Number(x) => {
-            tell_floats(value, &[x]);
+            tell(value, &[x]);
             1
         }
         Token::NoNumber => {
-            tell_floats(value, &[0.0]);
+            tell(value, &[0.0]);
             0
         }
     }

@@ -1,13 +1,14 @@
 // Sampling a ramp into a record, thinning a record to a list of stops, and both at once; the same of lists that keep their word.
+// C fixes the parameters of each; a body is `kind_of`, one call and `tell_listed`, which one function over the call would not shorten.
 ghost use Rattle.sampling.specs.Lent.{lent_held, shared_held};
 ghost use Rattle.linearize.specs.Lent.{lent_output};
 ghost use Rattle.colorgrad_c.specs.plain.Telling.{reply};
 ghost use Rattle.colorgrad_c.specs.plain.Kinds.{ramp_by};
 ghost use Rattle.colorgrad_c.specs.Lists.{CodedSamples, CodedThins, CodedFlattens, CodedThinsWithin, CodedFlattensWithin, lent, lent_beside};
 
-use crate::plain::kinds;
-use crate::plain::kinds::Coded;
+use crate::plain::kinds::kind_of;
 use crate::plain::lists::{tell_listed, tell_sampled};
+use gradient::Ramp;
 use linearize::{Listed, Sampled};
 use refusals::MISSHAPEN;
 
@@ -26,12 +27,16 @@ pub extern "C" fn colorgrad_sample_told(
 ) -> u32
     ensures { CodedSamples (ramp_by kind positions channels codes) threshold (lent_held rows counts marks) (reply result told) }
 {
-    let Coded::Of(known) = kinds::kind_of(kind) else {
+    let Some(known) = kind_of(kind) else {
         return tell_sampled(Sampled::Refused(MISSHAPEN), told);
     };
-    let sampled = linearize::sample(
-        known, positions, channels, codes, threshold, rows, counts, marks,
-    );
+    let ramp = Ramp {
+        positions,
+        channels,
+        codes,
+        kind: known,
+    };
+    let sampled = linearize::sample(&ramp, threshold, rows, counts, marks);
     tell_sampled(sampled, told)
 }
 
@@ -52,12 +57,16 @@ pub extern "C" fn colorgrad_thin_told(
 ) -> u32
     ensures { CodedThins (ramp_by kind positions channels codes) threshold (shared_held rows counts marks) (lent_output places colours) (reply result told) }
 {
-    let Coded::Of(known) = kinds::kind_of(kind) else {
+    let Some(known) = kind_of(kind) else {
         return tell_listed(Listed::Refused(MISSHAPEN), told);
     };
-    let listed = linearize::thin(
-        known, positions, channels, codes, threshold, rows, counts, marks, places, colours,
-    );
+    let ramp = Ramp {
+        positions,
+        channels,
+        codes,
+        kind: known,
+    };
+    let listed = linearize::thin(&ramp, threshold, rows, counts, marks, places, colours);
     tell_listed(listed, told)
 }
 
@@ -78,12 +87,16 @@ pub extern "C" fn colorgrad_flatten_told(
 ) -> u32
     ensures { CodedFlattens (ramp_by kind positions channels codes) threshold (lent_held rows counts marks) (lent_output places colours) (reply result told) }
 {
-    let Coded::Of(known) = kinds::kind_of(kind) else {
+    let Some(known) = kind_of(kind) else {
         return tell_listed(Listed::Refused(MISSHAPEN), told);
     };
-    let listed = linearize::flatten(
-        known, positions, channels, codes, threshold, rows, counts, marks, places, colours,
-    );
+    let ramp = Ramp {
+        positions,
+        channels,
+        codes,
+        kind: known,
+    };
+    let listed = linearize::flatten(&ramp, threshold, rows, counts, marks, places, colours);
     tell_listed(listed, told)
 }
 
@@ -105,12 +118,16 @@ pub extern "C" fn colorgrad_thin_within_told(
 ) -> u32
     ensures { CodedThinsWithin (ramp_by kind positions channels codes) threshold hold (lent_beside rows counts marks places colours told) result }
 {
-    let Coded::Of(known) = kinds::kind_of(kind) else {
+    let Some(known) = kind_of(kind) else {
         return tell_listed(Listed::Refused(MISSHAPEN), told);
     };
-    let listed = within::thin_within(
-        known, positions, channels, codes, threshold, hold, rows, counts, marks, places, colours,
-    );
+    let ramp = Ramp {
+        positions,
+        channels,
+        codes,
+        kind: known,
+    };
+    let listed = within::thin_within(&ramp, threshold, hold, rows, counts, marks, places, colours);
     tell_listed(listed, told)
 }
 
@@ -132,11 +149,17 @@ pub extern "C" fn colorgrad_flatten_within_told(
 ) -> u32
     ensures { CodedFlattensWithin (ramp_by kind positions channels codes) threshold hold (lent rows counts marks places colours told) result }
 {
-    let Coded::Of(known) = kinds::kind_of(kind) else {
+    let Some(known) = kind_of(kind) else {
         return tell_listed(Listed::Refused(MISSHAPEN), told);
     };
+    let ramp = Ramp {
+        positions,
+        channels,
+        codes,
+        kind: known,
+    };
     let listed = within::flatten_within(
-        known, positions, channels, codes, threshold, hold, rows, counts, marks, places, colours,
+        &ramp, threshold, hold, rows, counts, marks, places, colours,
     );
     tell_listed(listed, told)
 }

@@ -5,9 +5,9 @@ ghost use Rattle.colorgrad_c.specs.plain.Telling.{reply};
 ghost use Rattle.colorgrad_c.specs.plain.Kinds.{ramp_by};
 ghost use Rattle.colorgrad_c.specs.Ramps.{CodedChecks, CodedDomain, CodedAt, CodedPaints, ShowsBuilt};
 
-use crate::plain::kinds;
-use crate::plain::kinds::Coded;
+use crate::plain::kinds::kind_of;
 use crate::plain::ramps::{checked_number, painted_number, tell_built, tell_colour, tell_domain};
+use gradient::Ramp;
 use paint::ColourAnswer;
 use refusals::MISSHAPEN;
 use stops::Checked;
@@ -22,10 +22,16 @@ pub extern "C" fn colorgrad_check(
 ) -> u32
     ensures { CodedChecks (ramp_by kind positions channels codes) result }
 {
-    let Coded::Of(known) = kinds::kind_of(kind) else {
+    let Some(known) = kind_of(kind) else {
         return MISSHAPEN as u32;
     };
-    checked_number(gradient::check(known, positions, channels, codes))
+    let ramp = Ramp {
+        positions,
+        channels,
+        codes,
+        kind: known,
+    };
+    checked_number(ramp.check())
 }
 
 // Tells the ends of the domain.
@@ -39,12 +45,18 @@ pub extern "C" fn colorgrad_domain_told(
 ) -> u32
     ensures { CodedDomain (ramp_by kind positions channels codes) (reply result ends) }
 {
-    let Coded::Of(known) = kinds::kind_of(kind) else {
+    let Some(known) = kind_of(kind) else {
         return tell_domain(Checked::Refused(MISSHAPEN), 0.0, 0.0, ends);
     };
-    let checked = gradient::check(known, positions, channels, codes);
-    let min = gradient::min_of(known, positions);
-    let max = gradient::max_of(known, positions);
+    let ramp = Ramp {
+        positions,
+        channels,
+        codes,
+        kind: known,
+    };
+    let checked = ramp.check();
+    let min = ramp.min();
+    let max = ramp.max();
     tell_domain(checked, min, max, ends)
 }
 
@@ -60,10 +72,16 @@ pub extern "C" fn colorgrad_at_told(
 ) -> u32
     ensures { CodedAt (ramp_by kind positions channels codes) t (reply result colour) }
 {
-    let Coded::Of(known) = kinds::kind_of(kind) else {
+    let Some(known) = kind_of(kind) else {
         return tell_colour(ColourAnswer::Refused(MISSHAPEN), colour);
     };
-    tell_colour(paint::at(known, positions, channels, codes, t), colour)
+    let ramp = Ramp {
+        positions,
+        channels,
+        codes,
+        kind: known,
+    };
+    tell_colour(paint::at(&ramp, t), colour)
 }
 
 // 0, or the refusal.
@@ -78,10 +96,16 @@ pub extern "C" fn colorgrad_paint(
 ) -> u32
     ensures { CodedPaints (ramp_by kind positions channels codes) ts.now (change out.old out.new) result }
 {
-    let Coded::Of(known) = kinds::kind_of(kind) else {
+    let Some(known) = kind_of(kind) else {
         return MISSHAPEN as u32;
     };
-    painted_number(paint::paint(known, positions, channels, codes, ts, out))
+    let ramp = Ramp {
+        positions,
+        channels,
+        codes,
+        kind: known,
+    };
+    painted_number(paint::paint(&ramp, ts, out))
 }
 
 // Tells how many stops were written.

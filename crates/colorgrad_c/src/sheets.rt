@@ -6,9 +6,9 @@ ghost use Rattle.colorgrad_c.specs.Lists.{lent};
 ghost use Rattle.colorgrad_c.specs.Sheets.{room_by, CodedOpens, CodedEdits};
 
 use crate::plain::edits::edit_of;
-use crate::plain::kinds;
-use crate::plain::kinds::Coded;
+use crate::plain::kinds::kind_of;
 use crate::plain::sheets::{list_sort_of, tell_sheet};
+use gradient::Ramp;
 use refusals::MISSHAPEN;
 use sheet::SheetAnswer;
 
@@ -32,14 +32,17 @@ pub extern "C" fn colorgrad_sheet_open_told(
 ) -> u32
     ensures { CodedOpens stops threshold (sort_of list hold) (lent rows counts marks places colours told) (ramp_by kind positions channels codes) result }
 {
-    let Coded::Of(known) = kinds::kind_of(kind) else {
+    let Some(known) = kind_of(kind) else {
         return tell_sheet(stops, SheetAnswer::Refused(MISSHAPEN), told);
     };
-    let answer = sheet::open(
-        known,
+    let ramp = Ramp {
         positions,
         channels,
         codes,
+        kind: known,
+    };
+    let answer = sheet::open(
+        &ramp,
         stops,
         threshold,
         list_sort_of(list, hold),
@@ -80,7 +83,7 @@ pub extern "C" fn colorgrad_sheet_edit_told(
     ensures { CodedEdits stops threshold (sort_of list hold) (lent rows counts marks places colours told)
         (room_by kind positions channels codes) (edit_of sort stop at r g b a) result }
 {
-    let Coded::Of(known) = kinds::kind_of(kind) else {
+    let Some(known) = kind_of(kind) else {
         return tell_sheet(stops, SheetAnswer::Refused(MISSHAPEN), told);
     };
     let edit = edit_of(sort, stop, at, r, g, b, a);

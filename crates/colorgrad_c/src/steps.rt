@@ -4,9 +4,9 @@ ghost use Rattle.colorgrad_c.specs.plain.Telling.{replies};
 ghost use Rattle.colorgrad_c.specs.plain.Kinds.{ramp_by};
 ghost use Rattle.colorgrad_c.specs.Steps.{CodedHandsOut};
 
-use crate::plain::kinds;
-use crate::plain::kinds::Coded;
+use crate::plain::kinds::kind_of;
 use crate::plain::steps::{place_from, tell_handed};
+use gradient::Ramp;
 use next_stop::{Handed, Told};
 use refusals::MISSHAPEN;
 
@@ -30,7 +30,7 @@ pub extern "C" fn colorgrad_next_stop_told(
     ensures { CodedHandsOut (ramp_by kind positions channels codes) threshold (shared_held rows counts marks) state row index (replies result told stop) }
 {
     let place = place_from(state, row, index);
-    let Coded::Of(known) = kinds::kind_of(kind) else {
+    let Some(known) = kind_of(kind) else {
         let refused = Handed {
             told: Told::Refused(MISSHAPEN),
             evaluations: 0,
@@ -38,8 +38,12 @@ pub extern "C" fn colorgrad_next_stop_told(
         };
         return tell_handed(refused, told, stop);
     };
-    let handed = next_stop::next_stop(
-        known, positions, channels, codes, threshold, rows, counts, marks, place,
-    );
+    let ramp = Ramp {
+        positions,
+        channels,
+        codes,
+        kind: known,
+    };
+    let handed = next_stop::next_stop(&ramp, threshold, rows, counts, marks, place);
     tell_handed(handed, told, stop)
 }

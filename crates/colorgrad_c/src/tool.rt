@@ -9,8 +9,7 @@ fn bytes_of(desked: Desked) -> usize
     ensures { result ≡ bytes_of desked }
 {
     match desked {
-        Desked::Printed(bytes) => bytes,
-        Desked::Short(bytes) => bytes,
+        Desked::Printed(bytes) | Desked::Short(bytes) => bytes,
     }
 }
 

@@ -8,7 +8,7 @@ ghost use Rattle.colorgrad_c.specs.plain.Name.{named};
 ghost use Rattle.colorgrad_c.specs.Writer.{ShowsWritten};
 
 use crate::plain::name::write_name;
-use crate::plain::telling::tell_numbers;
+use crate::plain::telling::tell;
 use ggr_writing::WriteAnswer;
 
 fn tell_written(answer: WriteAnswer, told: &mut [usize]) -> u32
@@ -17,11 +17,11 @@ fn tell_written(answer: WriteAnswer, told: &mut [usize]) -> u32
 {
     match answer {
         WriteAnswer::Written(bytes) => {
-            tell_numbers(told, &[bytes]);
+            tell(told, &[bytes]);
             0
         }
         WriteAnswer::Refused(n) => {
-            tell_numbers(told, &[0]);
+            tell(told, &[0]);
             n as u32
         }
     }

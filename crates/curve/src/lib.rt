@@ -8,8 +8,7 @@ ghost use Rattle.float.specs.F32.{f0, f1};
 ghost use Rattle.curve.specs.Depth.{series_of, part_of, level_of, depth_of};
 ghost use Rattle.curve.specs.Factor.{power_of, lowered_of, fall_of, factor_of};
 
-// The weight of the exponent's field in a pattern.
-const FIELD: u32 = 0x0080_0000;
+use float::FIELD;
 
 // The pattern of 1/2.
 const HALF: u32 = 0x3f00_0000;
@@ -45,11 +44,12 @@ fn depth(x: f32) -> f32
     requires { T (lt f0 x) × T (lt x f1) }
     ensures { result ≡ depth_of x }
 {
-    let b = f32::to_bits(x);
+    let b = x.to_bits();
     if b < FIELD {
-        return level(f32::to_bits(x * LIFT), 150);
+        level((x * LIFT).to_bits(), 150)
+    } else {
+        level(b, 126)
     }
-    level(b, 126)
 }
 
 // 2 to the power u, from 0 to 1.
@@ -73,9 +73,10 @@ fn fall(r: f32) -> f32
     ensures { result ≡ fall_of r }
 {
     if r >= 32.0 {
-        return 0.0;
+        0.0
+    } else {
+        lowered(r, float::whole(r) as u32)
     }
-    lowered(r, float::whole(r) as u32)
 }
 
 // The factor at a place of a curved segment, both it and the middle counted from 0 at the left end to 1 at the right. It is 0 up

@@ -18,12 +18,6 @@ use Rattle.decimal.specs.inner.Steps.{DigitRun}
 pub digit : (b : ℕ) → 48 ≤ b → b ≤ 57 → is_digit b ≡ true
 digit b l h = simp (le-leb 48 b l, le-leb b 57 h)
 
-pub too_low : (b : ℕ) → b < 48 → is_digit b ≡ false
-too_low b l = simp (lt-leb 48 b l)
-
-pub too_high : (b : ℕ) → 57 < b → is_digit b ≡ false
-too_high b l = let low : 48 ≤ b = omega arith in simp (le-leb 48 b low, lt-leb b 57 l)
-
 pub no_digit : (b c : ℕ) → is_digit b ≡ true → is_digit c ≡ false → eqb b c ≡ false
 no_digit b c h k = ne_eqb b c (λ (e : b ≡ c). let z : ◌≡◌ {A = ℕ} 0 1 = apart (sym k ∙ ap is_digit (sym e) ∙ h) in omega arith)
   where

@@ -3,7 +3,7 @@ use mathlib.Core.Path.{◌≡◌, refl, sym, ap, ◌∙◌, subst}
 use mathlib.Core.Bool.{Bool, true, false}
 use mathlib.Core.List.{List, [], ◌∷◌, ◌++◌, append-nil}
 use Prim.Native.Nat.{ℕ, suc, ◌+◌, ◌-◌, ◌*◌, ◌^◌, ◌≤◌, ◌<◌}
-use native.Mathlib.Nat.{lt_irrefl, le_antisymm, le_of_eq}
+use native.Mathlib.Nat.{lt_irrefl, le_antisymm, le_of_eq, le_of_lt, lt_of_lt_of_le}
 use native.Mathlib.Numerals.{add-one}
 use native.Mathlib.Omega.{arith}
 use lib.ListN.{length, take, drop, get_or, length-append, length-drop}
@@ -25,41 +25,34 @@ at-end s i a b = ap (λ (x : ℕ). drop x s) (le_antisymm a b) ∙ drop-length s
 -- what holds at the loop's head: the digits from `from` to i make value
 pub record Held (s : List ℕ) (from before value five i : ℕ) : Type 0 where
   pub run : DigitRun before (drop from s) value (drop i s)
-  pub past : from ≤ i
-  pub within : i ≤ length s
   pub fives : five ≡ 5 ^ (i - from)
   pub small : value < 10 ^ i
 
-pub held_start : (s : List ℕ) (from before : ℕ) → from ≤ length s → before < 10 ^ from → Held s from before before 1 from
-held_start s from before h l = record { run = digits_none before (drop from s); past = omega arith; within = h; fives = sym (ap (λ (x : ℕ). 5 ^ x) (none from)); small = l }
+pub held_start : (s : List ℕ) (from before : ℕ) → before < 10 ^ from → Held s from before before 1 from
+held_start s from before l = record { run = digits_none before (drop from s); fives = sym (ap (λ (x : ℕ). 5 ^ x) (none from)); small = l }
   where
     none : (x : ℕ) → x - x ≡ 0
     none x = omega arith
 
 module _ (s : List ℕ) (from before value five i : ℕ) (h : Held s from before value five i) where
-  pub held_next : i < length s → 48 ≤ get_or s i 0 → get_or s i 0 ≤ 57 → Held s from before (value * 10 + (get_or s i 0 - 48)) (five * 5) (i + 1)
-  held_next l a b =
+  pub held_next : from ≤ i → i < length s → 48 ≤ get_or s i 0 → get_or s i 0 ≤ 57 → Held s from before (value * 10 + (get_or s i 0 - 48)) (five * 5) (i + 1)
+  held_next past l a b =
       let t : 10 ^ (i + 1) ≡ 10 ^ i * 10 = pow-add 10 i 1 in
       let v = h.small in
       record {
         run = digits_more before (drop from s) value (get_or s i 0) (drop (i + 1) s) (subst (DigitRun before (drop from s) value) (at_byte s i l) h.run) (digit (get_or s i 0) a b);
-        past = omega arith;
-        within = omega arith;
-        fives = ap (λ (x : ℕ). x * 5) h.fives ∙ sym (pow-add 5 (i - from) 1) ∙ ap (λ (x : ℕ). 5 ^ x) (further i from h.past);
+        fives = ap (λ (x : ℕ). x * 5) h.fives ∙ sym (pow-add 5 (i - from) 1) ∙ ap (λ (x : ℕ). 5 ^ x) (further i from past);
         small = omega arith;
       }
     where
       further : (x y : ℕ) → y ≤ x → x - y + 1 ≡ x + 1 - y
       further x y g = omega arith
 
-  pub held_stop : is_digit (get_or s i 0) ≡ false → RunsTo s from before value five i
-  held_stop e = record { run = h.run; within = h.within; fives = h.fives; stops = λ l. e; small = h.small }
+  pub held_stop : i < length s → is_digit (get_or s i 0) ≡ false → RunsTo s from before value five i
+  held_stop l e = record { run = h.run; within = le_of_lt l; fives = h.fives; stops = λ l. e; small = h.small }
 
-  pub held_end : length s ≤ i → RunsTo s from before value five i
-  held_end l = record { run = h.run; within = h.within; fives = h.fives; stops = λ (g : i < length s). absurd (less (length s) i l g); small = h.small }
-    where
-      less : (n j : ℕ) → n ≤ j → j < n → ⊥
-      less n j a b = omega arith
+  pub held_end : i ≡ length s → RunsTo s from before value five (length s)
+  held_end e = subst (RunsTo s from before value five) e (record { run = h.run; within = le_of_eq e; fives = h.fives; stops = λ (g : i < length s). absurd (lt_irrefl i (lt_of_lt_of_le g (le_of_eq (sym e)))); small = h.small })
 
 -- ---- the digits from the start, up to `at`
 module _ (neg : Bool) (s : List ℕ) (v five at : ℕ) (w : RunsTo s 0 0 v five at) where

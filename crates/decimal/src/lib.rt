@@ -12,6 +12,7 @@ mod near;
 mod quotient;
 mod shift;
 mod tally;
+mod three_words;
 mod wide;
 
 pub use crate::long::read_long;
@@ -80,17 +81,9 @@ fn digits(s: &[u8], from: usize, before: u64) -> Run
 {
     let mut value = before;
     let mut five: u64 = 1;
-    let mut i = from;
-    while i < s.len() {
+    for i in from..s.len() {
         let b = s[i];
-        if b < b'0' {
-            return Run {
-                value,
-                five,
-                end: i,
-            };
-        }
-        if b'9' < b {
+        if !b.is_ascii_digit() {
             return Run {
                 value,
                 five,
@@ -98,13 +91,12 @@ fn digits(s: &[u8], from: usize, before: u64) -> Run
             };
         }
         value = value * 10 + (b - b'0') as u64;
-        five = five * 5;
-        i += 1;
+        five *= 5;
     }
     Run {
         value,
         five,
-        end: i,
+        end: s.len(),
     }
 }
 

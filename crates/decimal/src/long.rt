@@ -174,19 +174,17 @@ fn power_at(s: &[u8], from: usize) -> Power
     ensures { PowerTo s.now from result.value result.end }
 {
     let mut value: u64 = 0;
-    let mut i = from;
-    while i < s.len() {
+    for i in from..s.len() {
         let b = s[i];
-        if b < b'0' {
-            return Power { value, end: i };
-        }
-        if b'9' < b {
+        if !b.is_ascii_digit() {
             return Power { value, end: i };
         }
         value = ten_times(value, b);
-        i += 1;
     }
-    Power { value, end: i }
+    Power {
+        value,
+        end: s.len(),
+    }
 }
 
 fn ten_times(value: u64, b: u8) -> u64

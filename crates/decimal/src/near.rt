@@ -5,25 +5,19 @@ ghost use Rattle.decimal.specs.inner.Near.{FirstForty, NearOf};
 
 use crate::quotient::{fitted, rounded};
 
-// The bits of the nearest f32 but for the sign's, or that they cannot be told so.
-#[derive(Clone, Copy)]
-pub(crate) enum Near {
-    Bits(u32),
-    Unsure,
-}
-
-// d / 10 ^ down. Below the normal numbers, and near a quotient that is a tie or has no rest, the digits left out could matter.
-pub(crate) fn near_magnitude(d: u64, down: u64) -> Near
+// d / 10 ^ down: its bits but for the sign's, or none where they cannot be told so. Below the normal numbers, and near a quotient
+// that is a tie or has no rest, the digits left out could matter.
+pub(crate) fn near_magnitude(d: u64, down: u64) -> Option<u32>
     requires { (0 < d) × (down ≤ 64) }
     ensures { NearOf d (10 ^ down) result }
 {
     let zeros = u64::leading_zeros(d);
     let taken = zeros as u64 + down + down * 4755 / 2048;
     if 188 < taken {
-        return Near::Unsure;
+        return None;
     }
     if down < 18 {
-        return Near::Unsure;
+        return None;
     }
     let num = d << zeros;
     let by = fitted(num, first_forty(down));
@@ -31,15 +25,15 @@ pub(crate) fn near_magnitude(d: u64, down: u64) -> Near
     let m = num / den;
     let rest = num % den;
     if rest < 2 * m {
-        return Near::Unsure;
+        return None;
     }
     if den <= rest * 2 {
         if rest * 2 - den <= 4 * m + 2 {
-            return Near::Unsure;
+            return None;
         }
     }
     let q = rounded(m, rest, den);
-    Near::Bits(((188 + by.up - taken) * 8388608 + q) as u32)
+    Some(((188 + by.up - taken) * 8388608 + q) as u32)
 }
 
 // The first 40 binary digits of 5 ^ n. Up to 5 ^ 17 there are no more, and past 5 ^ 56 no normal number is left. An array would

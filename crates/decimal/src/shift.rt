@@ -5,7 +5,7 @@ ghost use Rattle.std.specs.Float.{binary32};
 ghost use Rattle.decimal.specs.inner.Steps.{BitsOf};
 ghost use Rattle.decimal.specs.inner.Counted.{Cancels, MovedIs};
 
-use crate::near::{Near, near_magnitude};
+use crate::near::near_magnitude;
 use crate::quotient::magnitude;
 use crate::signed;
 use crate::wide::long_magnitude;
@@ -80,25 +80,8 @@ fn down_magnitude(d: u64, down: u64) -> u32
     ensures { BitsOf d (10 ^ down) result }
 {
     match near_magnitude(d, down) {
-        Near::Bits(b) => b,
-        Near::Unsure => {
-            if down <= 27 {
-                return magnitude(d, down as usize, five_to(down));
-            }
-            long_magnitude(d, 0, down)
-        }
+        Some(bits) => bits,
+        None if down <= 27 => magnitude(d, down as usize, 5u64.pow(down as u32)),
+        None => long_magnitude(d, 0, down),
     }
-}
-
-fn five_to(n: u64) -> u64
-    requires { n ≤ 27 }
-    ensures { result ≡ 5 ^ n }
-{
-    let mut five: u64 = 1;
-    let mut i: u64 = 0;
-    while i < n {
-        five = five * 5;
-        i += 1;
-    }
-    five
 }

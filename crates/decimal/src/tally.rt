@@ -35,14 +35,12 @@ fn past_zeros(s: &[u8], from: usize, count: u32) -> usize
     if 0 < count {
         return from;
     }
-    let mut i = from;
-    while i < s.len() {
+    for i in from..s.len() {
         if s[i] != b'0' {
             return i;
         }
-        i += 1;
     }
-    i
+    s.len()
 }
 
 // Digits that count, up to the 19th.
@@ -53,19 +51,10 @@ fn count_first(s: &[u8], from: usize, value: u64, count: u32, zeros: usize) -> C
 {
     let mut v = value;
     let mut c = count;
-    let mut i = from;
     let stop = stop_of(from, s.len(), count);
-    while i < stop {
+    for i in from..stop {
         let b = s[i];
-        if b < b'0' {
-            return Counted {
-                value: v,
-                count: c,
-                zeros,
-                end: i,
-            };
-        }
-        if b'9' < b {
+        if !b.is_ascii_digit() {
             return Counted {
                 value: v,
                 count: c,
@@ -75,13 +64,12 @@ fn count_first(s: &[u8], from: usize, value: u64, count: u32, zeros: usize) -> C
         }
         v = v * 10 + (b - b'0') as u64;
         c += 1;
-        i += 1;
     }
     Counted {
         value: v,
         count: c,
         zeros,
-        end: i,
+        end: stop,
     }
 }
 
@@ -108,18 +96,9 @@ fn count_more(s: &[u8], from: usize, value: u64, count: u32, zeros: usize) -> Co
 {
     let mut c = count;
     let mut z = zeros;
-    let mut i = from;
-    while i < s.len() {
+    for i in from..s.len() {
         let b = s[i];
-        if b < b'0' {
-            return Counted {
-                value,
-                count: c,
-                zeros: z,
-                end: i,
-            };
-        }
-        if b'9' < b {
+        if !b.is_ascii_digit() {
             return Counted {
                 value,
                 count: c,
@@ -132,12 +111,11 @@ fn count_more(s: &[u8], from: usize, value: u64, count: u32, zeros: usize) -> Co
         } else {
             c = MOST_SIGNIFICANT + 1;
         }
-        i += 1;
     }
     Counted {
         value,
         count: c,
         zeros: z,
-        end: i,
+        end: s.len(),
     }
 }

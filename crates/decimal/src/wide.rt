@@ -1,19 +1,12 @@
 // The nearest f32 to a number of up to 64 binary digits times a power of ten: a long division of whole numbers below 2 ^ 180.
-ghost use Rattle.std.specs.Prelude.{◌≡◌, ltb};
+ghost use Rattle.std.specs.Prelude.{◌≡◌};
 ghost use Prim.Native.Nat.{◌+◌, ◌*◌, ◌^◌, ◌<◌, ◌≤◌, compare};
 ghost use Rattle.std.specs.Float.Ieee as Ieee;
 ghost use Rattle.decimal.specs.inner.Steps.{BitsOf};
-ghost use Rattle.decimal.specs.inner.Wide.{word, value_of, IsWide, Roomy, RaisesTo, LongDivides, OneMore};
+ghost use Rattle.decimal.specs.inner.Wide.{word, value_of, Roomy, Raised, LongDivides, OneMore};
 
-const WORD: u64 = 1152921504606846976;
-
-// Three words of 60 binary digits.
-#[derive(Clone, Copy)]
-struct Wide {
-    hi: u64,
-    mid: u64,
-    lo: u64,
-}
+use crate::three_words::{WORD, Wide};
+use std::cmp::Ordering;
 
 // The bits of the f32 nearest to d * 10 ^ up / 10 ^ down, but for the sign's. The twos of the tens go into the exponent:
 // the division is of d * 5 ^ up by 5 ^ down.
@@ -35,28 +28,34 @@ pub(crate) fn long_magnitude(d: u64, up: u64, down: u64) -> u32
     (unit * 8388608 + q) as u32
 }
 
+impl From<u64> for Wide {
+    ghost from_gives = { λ d w. value_of w ≡ d };
+
+    fn from(d: u64) -> Wide {
+        Wide {
+            hi: 0,
+            mid: d / WORD,
+            lo: d % WORD,
+        }
+    }
+}
+
 // d times 5 ^ n.
 fn fives(d: u64, n: u64) -> Wide
     requires { Roomy (d * 5 ^ n) }
-    ensures { IsWide (d * 5 ^ n) result.hi result.mid result.lo }
+    ensures { value_of result ≡ d * 5 ^ n }
 {
-    let mut w = Wide {
-        hi: 0,
-        mid: d / WORD,
-        lo: d % WORD,
-    };
-    let mut i: u64 = 0;
-    while i < n {
+    let mut w = Wide::from(d);
+    for _ in 0..n {
         w = times(w, 5);
-        i += 1;
     }
     w
 }
 
 // Each word takes what the one below it is over.
 fn times(w: Wide, k: u64) -> Wide
-    requires { (w.hi < 2 * word) × ((w.mid < word) × ((w.lo < word) × (k ≤ 5))) }
-    ensures { IsWide (value_of w * k) result.hi result.mid result.lo }
+    requires { (w.hi < 2 * word) × (k ≤ 5) }
+    ensures { value_of result ≡ value_of w * k }
 {
     let lo = w.lo * k;
     let mid = w.mid * k + lo / WORD;
@@ -68,25 +67,11 @@ fn times(w: Wide, k: u64) -> Wide
     }
 }
 
-fn is_less(a: Wide, b: Wide) -> bool
-    requires { (a.mid < word) × ((a.lo < word) × ((b.mid < word) × (b.lo < word))) }
-    ensures { result ≡ ltb (value_of a) (value_of b) }
-{
-    if a.hi != b.hi {
-        return a.hi < b.hi;
-    }
-    if a.mid != b.mid {
-        return a.mid < b.mid;
-    }
-    a.lo < b.lo
-}
-
 // The difference of a and b, which is no more: each word borrows one of the word above it, and gives it back where it is over.
 fn without(a: Wide, b: Wide) -> Wide
-    requires hi_bound { (a.hi < 4 * word) × ((a.mid < word) × ((a.lo < word) × ((b.mid < word) × (b.lo < word)))) }
+    requires hi_bound { a.hi < 4 * word }
     requires b_bound { value_of b ≤ value_of a }
-    ensures mid_lt_word { (result.mid < word) × (result.lo < word) }
-    ensures b_value { value_of result + value_of b ≡ value_of a }
+    ensures { value_of result + value_of b ≡ value_of a }
 {
     let lo = a.lo + WORD - b.lo;
     let mid = a.mid + WORD - b.mid - (1 - lo / WORD);
@@ -107,13 +92,12 @@ struct Above {
 
 // den doubled until it is more than num.
 fn raised(num: Wide, den: Wide) -> Above
-    requires mid_lt_word { (num.mid < word) × ((num.lo < word) × ((den.mid < word) × (den.lo < word))) }
-    requires den_nonzero { (0 < value_of den) × ((den.hi < word) × Roomy (value_of num)) }
-    ensures { RaisesTo (value_of num) (value_of den) result.den.hi result.den.mid result.den.lo result.up }
+    requires { (0 < value_of den) × ((den.hi < word) × Roomy (value_of num)) }
+    ensures { Raised (value_of num) (value_of den) result.den result.up }
 {
     let mut d = den;
     let mut up: u64 = 0;
-    while !is_less(num, d) {
+    while d <= num {
         d = times(d, 2);
         up += 1;
     }
@@ -130,9 +114,8 @@ struct Divided {
 
 // Until the quotient has 24 digits, or most places were taken.
 fn long_divided(num: Wide, den: Wide, most: u64) -> Divided
-    requires mid_lt_word { (num.mid < word) × ((num.lo < word) × ((den.mid < word) × (den.lo < word))) }
-    requires num_bound { (value_of num < value_of den) × (den.hi < 2 * word) }
-    ensures hi_bound { (result.rest.hi < 2 * word) × ((result.rest.mid < word) × (result.rest.lo < word)) }
+    requires { (value_of num < value_of den) × (den.hi < 2 * word) }
+    ensures hi_bound { result.rest.hi < 2 * word }
     ensures long_divides { LongDivides (value_of num) (value_of den) most result.m (value_of result.rest) result.down }
 {
     let mut m: u64 = 0;
@@ -158,13 +141,11 @@ struct Longer {
 }
 
 fn next_digit(m: u64, rest: Wide, den: Wide) -> Longer
-    requires mid_lt_word { (rest.mid < word) × ((rest.lo < word) × ((den.mid < word) × (den.lo < word))) }
-    requires rest_bound { (value_of rest < value_of den) × ((den.hi < 2 * word) × (m < 8388608)) }
-    ensures mid_lt_word_2 { (result.rest.mid < word) × (result.rest.lo < word) }
-    ensures one_more { OneMore m (value_of rest) (value_of den) result.m (value_of result.rest) }
+    requires { (value_of rest < value_of den) × ((den.hi < 2 * word) × (m < 8388608)) }
+    ensures { OneMore m (value_of rest) (value_of den) result.m (value_of result.rest) }
 {
     let two = times(rest, 2);
-    if is_less(two, den) {
+    if two < den {
         return Longer {
             m: m * 2,
             rest: two,
@@ -178,16 +159,13 @@ fn next_digit(m: u64, rest: Wide, den: Wide) -> Longer
 
 // m, or the next number up where the rest is more than half of den, or half of it and m is odd.
 fn long_rounded(m: u64, rest: Wide, den: Wide) -> u64
-    requires hi_bound { (rest.hi < 2 * word) × ((rest.mid < word) × ((rest.lo < word) × ((den.mid < word) × (den.lo < word)))) }
+    requires hi_bound { rest.hi < 2 * word }
     requires m_bound { m < 16777216 }
     ensures { result ≡ Ieee.nearest m (compare (value_of rest * 2) (value_of den)) }
 {
-    let two = times(rest, 2);
-    if is_less(two, den) {
-        return m;
+    match times(rest, 2).cmp(&den) {
+        Ordering::Less => m,
+        Ordering::Equal => m + m % 2,
+        Ordering::Greater => m + 1,
     }
-    if is_less(den, two) {
-        return m + 1;
-    }
-    m + m % 2
 }

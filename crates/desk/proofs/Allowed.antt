@@ -16,7 +16,7 @@ use Rattle.entries.specs.Input.{input, input_of}
 use Rattle.desk.specs.Recoloured.{recoloured, SameStopLines}
 use Rattle.desk.specs.Tool.{desk_of, desk_answer, desk_output, most_printed, Desks, Prints}
 use Rattle.entries.specs.declared.fields.Recolour.{Recolour}
-use Rattle.entries.specs.declared.reading.Edited.TheVariants as edit
+use Rattle.std.specs.Prelude.{Some, None}
 use Rattle.desk.specs.declared.Desked.{Desked}
 use Rattle.desk.specs.declared.Desked.TheVariants as desked
 use Rattle.desk.proofs.Fits.{desk_most}
@@ -46,7 +46,7 @@ never_short {s} {out} h w = w.answer ∙ rw (le-ltb (length out) (length (desk_o
 
 -- ---- two calls: s has an edit of a stop that is there; s' has the same stops with that one changed, and no edit
 module _ {s s' : List ℕ} {kind : Kind} {asked : Float} {stops : List Stop} {e : Recolour}
-    (with_edit : input_of s ≡ input kind asked stops (edit.By e)) (there : e.stop < length stops) (without : input_of s' ≡ input kind asked (recoloured stops e.stop e.colour) edit.Not)
+    (with_edit : input_of s ≡ input kind asked stops (Some e)) (there : e.stop < length stops) (without : input_of s' ≡ input kind asked (recoloured stops e.stop e.colour) None)
     {out out' : List ℕ} {n : ℕ} {other other' : List ℕ} {m : ℕ} where
   pub desks_same : Desks s out out' (desked.Printed n) → Desks s' other other' (desked.Printed m) → SameStopLines (take n out') (take m other')
   desks_same w v = rw (desk_holds w, desk_holds v) (edited_text s s' with_edit there without)

@@ -8,6 +8,7 @@ use lib.ListN.{length, drop, get_or}
 use lib.Dec.{eqb}
 use lib.Ieee.{Float, nan}
 use borrow.Author.Tests.{eq-eqb, eqb-true}
+use Rattle.std.specs.Prelude.{Option, Some, None}
 use Rattle.decimal.specs.declared.Token.TheVariants.{Number}
 use Rattle.blend.specs.declared.Rgba.{Rgba}
 use Rattle.blend.specs.declared.Stop.{Stop}
@@ -15,8 +16,6 @@ use Rattle.stops.specs.declared.Kind.TheVariants.{Linear, Smoothstep}
 use Rattle.text.specs.Text.{first_of, rest_of, same, starts, fields}
 use Rattle.rows.specs.declared.Notation.TheVariants.{Short}
 use Rattle.rows.specs.Rows.{Numbers, all, none, add_number, numbers}
-use Rattle.rows.specs.declared.digits.Digits.{Digits}
-use Rattle.rows.specs.declared.digits.Digits.TheVariants.{Bad, Is}
 use Rattle.entries.specs.Entries.{exactly, channels_at, to_threshold, threshold_entry, to_stop, stop_entry, stop_index_of, to_change, change_entry, edit_entry, stop_tag, threshold_tag, edit_tag, kind_linear, kind_smoothstep, entry_of}
 use Rattle.desk.specs.Recoloured.{to_tab, after_tab, changed_line}
 use Rattle.entries.specs.declared.fields.Recolour.{Recolour}
@@ -82,9 +81,9 @@ edit_not_stop : (fs : List (List ℕ)) → is_stop (edit_entry fs) ≡ false
 unfolding edit_entry change_entry
 edit_not_stop [] = refl
 edit_not_stop (f ∷ fs) = go (stop_index_of f) where
-  go : (c : Digits) → is_stop (change_entry c fs) ≡ false
-  go Bad = refl
-  go (Is k) = exactly_not is_stop 4 (to_change k) (numbers Short fs) refl (λ xs. refl)
+  go : (c : Option ℕ) → is_stop (change_entry c fs) ≡ false
+  go None = refl
+  go (Some k) = exactly_not is_stop 4 (to_change k) (numbers Short fs) refl (λ xs. refl)
 
 stop_not_change : (fs : List (List ℕ)) → is_change (stop_entry fs) ≡ false
 unfolding stop_entry
@@ -138,9 +137,9 @@ channels_of : (fs : List (List ℕ)) {e : Recolour} → edit_entry fs ≡ entry.
 unfolding edit_entry change_entry rest_of
 channels_of [] h = absurd (true≢false (sym (ap is_change h)))
 channels_of (f ∷ fs) {e} h = go (stop_index_of f) h where
-  go : (c : Digits) → change_entry c fs ≡ entry.Change e → Channels (f ∷ fs) e.colour
-  go Bad h = absurd (true≢false (sym (ap is_change h)))
-  go (Is k) h =
+  go : (c : Option ℕ) → change_entry c fs ≡ entry.Change e → Channels (f ∷ fs) e.colour
+  go None h = absurd (true≢false (sym (ap is_change h)))
+  go (Some k) h =
       let m = made_of is_change 4 (to_change k) (numbers Short fs) refl refl h in
       record { ys = m.xs; is = m.is; long = m.long; many = omega (arith, numbers_long Short fs m.xs m.is, m.long); colour = ap (colour_in e.colour) m.made }
 

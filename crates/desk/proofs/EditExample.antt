@@ -19,7 +19,7 @@ use Rattle.entries.specs.Input.{input, from_end, from_edit, stops_of, after_stop
 use Rattle.desk.specs.Recoloured.{to_tab, after_tab, changed_line, changed_lines, SameStopLines, EditMade}
 use Rattle.desk.specs.Tool.{desk_of}
 use Rattle.entries.specs.declared.fields.Recolour.{Recolour}
-use Rattle.entries.specs.declared.reading.Edited.TheVariants as edit
+use Rattle.std.specs.Prelude.{Some}
 use Rattle.desk.proofs.EditedLines.{edited_lines}
 
 bytes : String → List ℕ
@@ -38,7 +38,7 @@ green = record { stop = 1; colour = record { r = f0; g = f1; b = f0; a = f1 } }
 both : List Stop
 both = record { position = f0; colour = record { r = f0; g = f0; b = f0; a = f1 } } ∷ record { position = f1; colour = record { r = f1; g = f1; b = f1; a = f1 } } ∷ []
 
-reads : input_of by_edit ≡ input Linear default_threshold both (edit.By green)
+reads : input_of by_edit ≡ input Linear default_threshold both (Some green)
 unfolding by_edit green both bytes input_of lines at_lf on_first from_kind from_threshold from_stops stops_of after_stops from_edit from_end entry_of starts same fields exactly stop_entry threshold_entry edit_entry change_entry stop_index_of digits_with digits_of every numbers add_number token_of read_of unsigned_of number_of before_point after_point value_after are_digits round of_bits
 reads = refl
 

@@ -20,14 +20,14 @@ use Rattle.desk.specs.Tool.{desk_of}
 use Rattle.entries.specs.declared.fields.Recolour.{Recolour}
 use Rattle.entries.specs.declared.fields.Entry.{Entry}
 use Rattle.entries.specs.declared.fields.Entry.TheVariants as entry
-use Rattle.entries.specs.declared.reading.Edited.TheVariants as edit
+use Rattle.std.specs.Prelude.{Some, None}
 use Rattle.desk.proofs.ChangedLines.{changed_entry}
 use Rattle.desk.proofs.EditedText.{edited_text}
 
 -- an input with the stop changed and no edit
 abbrev redone : ℕ → Rgba → Input → Input
 redone k c (unread line) = unread line
-redone k c (input kind x stops e) = input kind x (recoloured stops k c) edit.Not
+redone k c (input kind x stops e) = input kind x (recoloured stops k c) None
 
 abbrev many_stops : Input → ℕ
 many_stops (unread line) = 0
@@ -100,9 +100,9 @@ module _ (d : List ℕ) (e : Recolour) (last : entry_of d ≡ entry.Change e) wh
   from_stops_lem k kind x line ls h =
       let clear = only_stops kind x (stops_of (ls ++ d ∷ [])) (line + length (stops_of (ls ++ d ∷ []))) ls (omega arith) in
       let u = up_to_edit ls clear in
-      let whole : from_stops kind x line (ls ++ d ∷ []) ≡ input kind x (stops_of ls) (edit.By e) = rw (u.0, u.1, last) in
+      let whole : from_stops kind x line (ls ++ d ∷ []) ≡ input kind x (stops_of ls) (Some e) = rw (u.0, u.1, last) in
       let c = changed_stops k ls clear (omega (arith, ap many_stops whole)) in
-      let done : from_stops kind x line (changed_lines k d ls) ≡ input kind x (recoloured (stops_of ls) k e.colour) edit.Not = rw (c.0, c.1) in
+      let done : from_stops kind x line (changed_lines k d ls) ≡ input kind x (recoloured (stops_of ls) k e.colour) None = rw (c.0, c.1) in
       done ∙ sym (ap (redone k e.colour) whole)
 
   changed_none : (k : ℕ) → changed_lines k d [] ≡ []
@@ -191,15 +191,15 @@ module _ (d : List ℕ) (e : Recolour) (last : entry_of d ≡ entry.Change e) wh
     go entry.Unread g = absurd (let none : many_stops (from_kind (l ∷ (ls ++ d ∷ []))) ≡ 0 = rw g in omega arith)
 
 -- ---- the texts
-module _ (s s' : List ℕ) {kind : Kind} {asked : Float} {stops : List Stop} {e : Recolour} (with_edit : input_of s ≡ input kind asked stops (edit.By e)) (there : e.stop < length stops) (w : EditMade s s' e) where
-  whole : from_kind (w.body ++ w.last ∷ []) ≡ input kind asked stops (edit.By e)
+module _ (s s' : List ℕ) {kind : Kind} {asked : Float} {stops : List Stop} {e : Recolour} (with_edit : input_of s ≡ input kind asked stops (Some e)) (there : e.stop < length stops) (w : EditMade s s' e) where
+  whole : from_kind (w.body ++ w.last ∷ []) ≡ input kind asked stops (Some e)
   unfolding input_of
   whole = go (leb (length s) most_bytes) with_edit where
-    go : (t : Bool) → cond t (from_kind (lines s)) (unread 0) ≡ input kind asked stops (edit.By e) → from_kind (w.body ++ w.last ∷ []) ≡ input kind asked stops (edit.By e)
+    go : (t : Bool) → cond t (from_kind (lines s)) (unread 0) ≡ input kind asked stops (Some e) → from_kind (w.body ++ w.last ∷ []) ≡ input kind asked stops (Some e)
     go true h = ap from_kind (sym w.before) ∙ h
     go false h = absurd (omega (arith, ap many_stops h, there))
 
-  pub lines_read : input_of s' ≡ input kind asked (recoloured stops e.stop e.colour) edit.Not
+  pub lines_read : input_of s' ≡ input kind asked (recoloured stops e.stop e.colour) None
   unfolding input_of
   lines_read =
       rw (le-leb (length s') most_bytes w.fits)

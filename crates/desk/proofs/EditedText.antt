@@ -39,7 +39,7 @@ use Rattle.entries.specs.Input.{input, most_kept, input_of}
 use Rattle.writing.specs.Printed.{refused_text}
 use Rattle.desk.specs.Recoloured.{recoloured, SameStopLines}
 use Rattle.desk.specs.Tool.{list_room, made_text, fresh_text, relist_text, edit_text, blank, input_text, desk_of}
-use Rattle.entries.specs.declared.reading.Edited.TheVariants as edit
+use Rattle.std.specs.Prelude.{Some, None}
 use Rattle.entries.proofs.Inputs.{length_positions, length_channels}
 use Rattle.desk.proofs.Plain.{read_finite}
 use Rattle.desk.proofs.Heads.{same_text, same_answers}
@@ -121,7 +121,7 @@ same_either true a b c h = h
 same_either false a b c h = same_text refl
 
 -- s has an edit of a stop that is there; s' has the same stops with that one changed, and no edit
-pub edited_text : (s s' : List ℕ) {kind : Kind} {asked : Float} {stops : List Stop} {e : Recolour} → input_of s ≡ input kind asked stops (edit.By e) → e.stop < length stops → input_of s' ≡ input kind asked (recoloured stops e.stop e.colour) edit.Not → SameStopLines (desk_of s) (desk_of s')
+pub edited_text : (s s' : List ℕ) {kind : Kind} {asked : Float} {stops : List Stop} {e : Recolour} → input_of s ≡ input kind asked stops (Some e) → e.stop < length stops → input_of s' ≡ input kind asked (recoloured stops e.stop e.colour) None → SameStopLines (desk_of s) (desk_of s')
 unfolding desk_of input_text
 edited_text s s' {kind} {asked} {stops} {e} i h j =
     let f = read_finite s i in

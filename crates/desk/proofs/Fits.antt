@@ -33,7 +33,7 @@ use Rattle.entries.specs.Input.{Input, unread, input, most_kept, input_of}
 use Rattle.text.specs.Output.{Puts}
 use Rattle.writing.specs.Printed.{refused_text, list_text}
 use Rattle.desk.specs.Tool.{list_room, listed_text, made_text, on_sampled, fresh_text, relist_text, edit_text, blank, input_text, desk_of, most_printed, Prints}
-use Rattle.entries.specs.declared.reading.Edited.TheVariants as edit
+use Rattle.std.specs.Prelude.{Some, None}
 use Rattle.text.proofs.Putting.{few_digits}
 use Rattle.writing.proofs.Lengths.{length_unread, length_refused, length_list}
 use Rattle.desk.proofs.Making.{sets_front}
@@ -93,8 +93,8 @@ either_most false text number h = refused_most number
 input_most : (i : Input) → length (input_text i) ≤ most_printed
 unfolding input_text
 input_most (unread line) = omega (arith, length_unread line)
-input_most (input kind asked stops edit.Not) = either_most (leb (length stops) most_kept) _ misshapen (fresh_most (ramp_of kind (positions_in stops) (channels_in stops) []) asked blank)
-input_most (input kind asked stops (edit.By e)) = either_most (leb (length stops) most_kept) _ misshapen (edit_most (ramp_of kind (positions_in stops) (channels_in stops) []) (Colour e.stop e.colour) asked blank)
+input_most (input kind asked stops None) = either_most (leb (length stops) most_kept) _ misshapen (fresh_most (ramp_of kind (positions_in stops) (channels_in stops) []) asked blank)
+input_most (input kind asked stops (Some e)) = either_most (leb (length stops) most_kept) _ misshapen (edit_most (ramp_of kind (positions_in stops) (channels_in stops) []) (Colour e.stop e.colour) asked blank)
 
 -- the theorem: no input prints more
 pub desk_most : (s : List ℕ) → length (desk_of s) ≤ most_printed

@@ -42,8 +42,7 @@ use Rattle.writing.specs.declared.Reply.{Reply}
 use Rattle.writing.specs.declared.Reply.TheVariants as reply
 use Rattle.desk.specs.inner.Steps.{reply_of, Says, Room}
 use Rattle.desk.specs.Tool.{list_room, listed_text, kept_in, made_text, fresh_text, new_points, relist_text, edit_text, blank, ramp_text, desk_of, desk_answer, desk_output, Desks}
-use Rattle.entries.specs.declared.reading.Edited.{Edited}
-use Rattle.entries.specs.declared.reading.Edited.TheVariants as edit
+use Rattle.std.specs.Prelude.{Option, Some, None}
 use Rattle.desk.specs.declared.Desked.TheVariants as desked
 use Rattle.text.proofs.Putting.{puts_size}
 
@@ -174,11 +173,11 @@ module _ {ramp : Ramp} (e : Edit) {asked : Float} {held : Change Held} {r : Samp
           ∙ rw (sym w.answer ∙ i) (ap (λ (h : Held). relist_text ramp e asked h n) w.left)
 
 -- ---- a ramp with or without an edit
-module _ (ramp : Ramp) (asked : Float) {e : Edited} where
-  pub ramp_fresh : e ≡ edit.Not → fresh_text ramp asked blank ≡ ramp_text ramp asked e
+module _ (ramp : Ramp) (asked : Float) {e : Option Recolour} where
+  pub ramp_fresh : e ≡ None → fresh_text ramp asked blank ≡ ramp_text ramp asked e
   ramp_fresh i = sym (ap (ramp_text ramp asked) i)
 
-  pub ramp_edited : {d : Recolour} → e ≡ edit.By d → edit_text ramp (Colour d.stop d.colour) asked blank ≡ ramp_text ramp asked e
+  pub ramp_edited : {d : Recolour} → e ≡ Some d → edit_text ramp (Colour d.stop d.colour) asked blank ≡ ramp_text ramp asked e
   ramp_edited i = sym (ap (ramp_text ramp asked) i)
 
 -- ---- the output

@@ -9,6 +9,7 @@ use lib.Dec.{leb, eqb}
 use lib.Ieee.{Float, nan}
 use lib.Ieee.Scale.{finite}
 use borrow.Author.Tests.{eqb-true, not-true}
+use Rattle.std.specs.Prelude.{Option, Some, None}
 use Rattle.float.proofs.Flags.{both_l, both_r, parts4}
 use Rattle.blend.specs.Channels.{channels_in}
 use Rattle.blend.specs.Finite.{all_finite}
@@ -19,8 +20,6 @@ use Rattle.gradient.specs.Ramp.{is_gimp}
 use Rattle.text.specs.Text.{same, starts, fields, lines}
 use Rattle.rows.specs.declared.Notation.TheVariants.{Short}
 use Rattle.rows.specs.Rows.{Numbers, all, none, numbers}
-use Rattle.rows.specs.declared.digits.Digits.{Digits}
-use Rattle.rows.specs.declared.digits.Digits.TheVariants.{Bad, Is}
 use Rattle.rows.proofs.Read.{Finite, numbers_finite}
 use Rattle.sampling.specs.Constants.{default_threshold}
 use Rattle.refresh.specs.editing.Rules.{refreshable}
@@ -29,8 +28,7 @@ use Rattle.entries.specs.Input.{Input, unread, input, most_bytes, if_ramp, if_th
 use Rattle.entries.specs.declared.fields.Recolour.{Recolour}
 use Rattle.entries.specs.declared.fields.Entry.{Entry}
 use Rattle.entries.specs.declared.fields.Entry.TheVariants as entry
-use Rattle.entries.specs.declared.reading.Edited.{Edited}
-use Rattle.entries.specs.declared.reading.Edited.TheVariants as edit
+use Rattle.std.specs.Prelude.{Option, Some, None}
 
 -- ---- entries
 
@@ -62,10 +60,10 @@ threshold_plain : (fs : List (List ℕ)) → plain_entry (threshold_entry fs) �
 unfolding threshold_entry
 threshold_plain fs = exactly_plain 1 to_threshold (numbers Short fs) (numbers_finite Short fs) (λ xs h e. refl)
 
-change_plain : (c : Digits) (fs : List (List ℕ)) → plain_entry (change_entry c fs) ≡ true
+change_plain : (c : Option ℕ) (fs : List (List ℕ)) → plain_entry (change_entry c fs) ≡ true
 unfolding change_entry
-change_plain Bad fs = refl
-change_plain (Is k) fs = exactly_plain 4 (to_change k) (numbers Short fs) (numbers_finite Short fs) (λ xs h e.
+change_plain None fs = refl
+change_plain (Some k) fs = exactly_plain 4 (to_change k) (numbers Short fs) (numbers_finite Short fs) (λ xs h e.
     rw (h 0 (omega arith), h 1 (omega arith), h 2 (omega arith), h 3 (omega arith)))
 
 edit_plain : (fs : List (List ℕ)) → plain_entry (edit_entry fs) ≡ true
@@ -99,9 +97,9 @@ stops_plain (l ∷ ls) = go (entry_of l) (entry_plain l) (stops_plain ls) where
   go (entry.Change e) h r = refl
   go entry.Unread h r = refl
 
-abbrev plain_edit : Edited → Bool
-plain_edit edit.Not = true
-plain_edit (edit.By e) = finite_rgba e.colour
+abbrev plain_edit : Option Recolour → Bool
+plain_edit None = true
+plain_edit (Some e) = finite_rgba e.colour
 
 abbrev plain_input : Input → Bool
 plain_input (unread line) = true
@@ -164,7 +162,7 @@ pub record ReadFinite (kind : Kind) (stops : List Stop) (e : Recolour) : Type 0 
   pub channels_fine : all_finite (channels_in stops) ≡ true
   pub colour_fine : finite_rgba e.colour ≡ true
 
-pub read_finite : (s : List ℕ) {kind : Kind} {asked : Float} {stops : List Stop} {e : Recolour} → input_of s ≡ input kind asked stops (edit.By e) → ReadFinite kind stops e
+pub read_finite : (s : List ℕ) {kind : Kind} {asked : Float} {stops : List Stop} {e : Recolour} → input_of s ≡ input kind asked stops (Some e) → ReadFinite kind stops e
 read_finite s {kind} {asked} {stops} {e} i =
     let h : (plain_kind kind && (all_finite (channels_in stops) && finite_rgba e.colour)) ≡ true = sym (ap plain_input i) ∙ input_plain s in
     let k = both_l (plain_kind kind) (all_finite (channels_in stops) && finite_rgba e.colour) h in

@@ -21,7 +21,7 @@ use Rattle.desk.specs.Tool.{desk_of}
 use Rattle.entries.specs.declared.fields.Recolour.{Recolour}
 use Rattle.entries.specs.declared.fields.Entry.{Entry}
 use Rattle.entries.specs.declared.fields.Entry.TheVariants as entry
-use Rattle.entries.specs.declared.reading.Edited.TheVariants as edit
+use Rattle.std.specs.Prelude.{Some}
 use Rattle.desk.proofs.ChangedLines.{edit_fields}
 use Rattle.desk.proofs.EditedLines.{edited_lines}
 
@@ -154,20 +154,20 @@ unfolding text_of_lines
 length_text [] d = length-append d (10 ∷ []) ∙ omega arith
 length_text (l ∷ ls) d = omega (arith, length-append l (10 ∷ text_of_lines ls), length-append l (10 ∷ text_of_lines (ls ++ d ∷ [])), length_text ls d)
 
-few_bytes : (s : List ℕ) {kind : Kind} {asked : Float} {stops : List Stop} {e : Recolour} → input_of s ≡ input kind asked stops (edit.By e) → length s ≤ most_bytes
+few_bytes : (s : List ℕ) {kind : Kind} {asked : Float} {stops : List Stop} {e : Recolour} → input_of s ≡ input kind asked stops (Some e) → length s ≤ most_bytes
 unfolding input_of
 few_bytes s {kind} {asked} {stops} {e} i = go (leb (length s) most_bytes) refl i where
   is_read : Input → Bool
   is_read (unread line) = false
   is_read (input k x ss d) = true
 
-  go : (t : Bool) → leb (length s) most_bytes ≡ t → cond t (from_kind (lines s)) (unread 0) ≡ input kind asked stops (edit.By e) → length s ≤ most_bytes
+  go : (t : Bool) → leb (length s) most_bytes ≡ t → cond t (from_kind (lines s)) (unread 0) ≡ input kind asked stops (Some e) → length s ≤ most_bytes
   go true h i = leb-true (length s) most_bytes h
   go false h i = absurd (true≢false (sym (ap is_read i)))
 
 -- of the lines `body` and the edit's line d: the text with both, and the text with the stop's line changed and without d
 pub edited_writing : (body : List (List ℕ)) (d : List ℕ) {kind : Kind} {asked : Float} {stops : List Stop} {e : Recolour}
-    → unbroken (body ++ d ∷ []) ≡ true → entry_of d ≡ entry.Change e → input_of (text_of_lines (body ++ d ∷ [])) ≡ input kind asked stops (edit.By e) → e.stop < length stops
+    → unbroken (body ++ d ∷ []) ≡ true → entry_of d ≡ entry.Change e → input_of (text_of_lines (body ++ d ∷ [])) ≡ input kind asked stops (Some e) → e.stop < length stops
     → SameStopLines (desk_of (text_of_lines (body ++ d ∷ []))) (desk_of (text_of_lines (changed_lines e.stop d body)))
 edited_writing body d {kind} {asked} {stops} {e} whole says i h =
     let w = unbroken_parts body d whole in

@@ -1,5 +1,5 @@
 -- The tool as a whole: the calls that it makes, and what it prints of them. Document 01, 'Tools read standard input ..'.
-use Rattle.std.specs.Prelude.{ℕ, ◌+◌, ◌≤◌, ◌≡◌, cond, List, [], ◌++◌, length, drop, replicate, leb, ltb, Float}
+use Rattle.std.specs.Prelude.{ℕ, ◌+◌, ◌≤◌, ◌≡◌, cond, List, [], ◌++◌, length, drop, replicate, leb, ltb, Float, Option, Some, None}
 use Rattle.float.specs.F32.{f0}
 use Rattle.refusals.specs.Refusals.{misshapen}
 use Rattle.stops.specs.Lent.{Ramp, ramp_of}
@@ -21,8 +21,7 @@ use Rattle.entries.specs.Input.{Input, unread, input, most_kept, input_of}
 use Rattle.writing.specs.Printed.{unread_text, refused_text, list_text}
 use Rattle.refresh.specs.declared.editing.Edit.{Edit}
 use Rattle.refresh.specs.declared.editing.Edit.TheVariants.{Colour}
-use Rattle.entries.specs.declared.reading.Edited.{Edited}
-use Rattle.entries.specs.declared.reading.Edited.TheVariants as edit
+use Rattle.entries.specs.declared.fields.Recolour.{Recolour}
 use Rattle.desk.specs.declared.Desked.{Desked}
 use Rattle.desk.specs.declared.Desked.TheVariants as desked
 
@@ -76,9 +75,9 @@ module _ (ramp : Ramp) (e : Edit) (asked : Float) where
 abbrev pub blank : Held
 blank = held_of (replicate record_length f0) (replicate cells 0) (replicate marks_length 0)
 
-abbrev pub ramp_text : Ramp → Float → Edited → List ℕ
-ramp_text ramp asked edit.Not = fresh_text ramp asked blank
-ramp_text ramp asked (edit.By e) = edit_text ramp (Colour e.stop e.colour) asked blank
+abbrev pub ramp_text : Ramp → Float → Option Recolour → List ℕ
+ramp_text ramp asked None = fresh_text ramp asked blank
+ramp_text ramp asked (Some e) = edit_text ramp (Colour e.stop e.colour) asked blank
 
 -- more stops than the tool keeps are refused, whatever the library allows
 unfoldable pub input_text : Input → List ℕ

@@ -4,7 +4,8 @@ ghost use Rattle.linearize.specs.Desk.{stops_of_listed};
 ghost use Rattle.desk.specs.Tool.{list_room, fresh_text, edit_text, ramp_text, blank};
 ghost use Rattle.desk.specs.inner.Steps.{stop_ramp, reply_of, Says, Room};
 
-use entries::reading::Edited;
+use entries::Recolour;
+use gradient::Ramp;
 use linearize::{Listed, Sampled, Sampler};
 use refresh::editing::Edit;
 use stops::Kind;
@@ -41,11 +42,14 @@ fn fresh(
     let mut rows = [0.0f32; Sampler::CELLS * Sampler::ROW];
     let mut counts = [0u8; Sampler::CELLS];
     let mut marks = [0u32; Sampler::MARKS];
-    let made = linearize::flatten(
-        kind,
+    let ramp = Ramp {
         positions,
         channels,
-        b"",
+        codes: b"",
+        kind,
+    };
+    let made = linearize::flatten(
+        &ramp,
         threshold,
         &mut rows,
         &mut counts,
@@ -72,23 +76,17 @@ fn edited_list(
     let mut rows = [0.0f32; Sampler::CELLS * Sampler::ROW];
     let mut counts = [0u8; Sampler::CELLS];
     let mut marks = [0u32; Sampler::MARKS];
-    match linearize::sample(
-        kind,
+    let ramp = Ramp {
         positions,
         channels,
-        b"",
-        threshold,
-        &mut rows,
-        &mut counts,
-        &mut marks,
-    ) {
+        codes: b"",
+        kind,
+    };
+    match linearize::sample(&ramp, threshold, &mut rows, &mut counts, &mut marks) {
         Sampled::Refused(number) => Reply::Refused(number),
         Sampled::Done(n) => {
             let made = refresh::refresh_list(
-                kind,
-                positions,
-                channels,
-                b"",
+                &ramp,
                 edit,
                 threshold,
                 &mut rows,
@@ -106,7 +104,7 @@ fn edited_list(
 pub(crate) fn list_of(
     kind: Kind,
     threshold: f32,
-    edited: Edited,
+    edited: Option<Recolour>,
     positions: &[f32],
     channels: &[f32],
     places: &mut [f32],
@@ -116,8 +114,8 @@ pub(crate) fn list_of(
     ensures { Says (ramp_text (stop_ramp kind positions channels) threshold edited) result places.new colours.new }
 {
     match edited {
-        Edited::Not => fresh(kind, positions, channels, threshold, places, colours),
-        Edited::By(change) => {
+        None => fresh(kind, positions, channels, threshold, places, colours),
+        Some(change) => {
             let stop = change.stop;
             let colour = change.colour;
             let edit = Edit::Colour { stop, colour };

@@ -6,7 +6,7 @@ ghost use Rattle.desk.specs.Tool.{desk_of, Desks, Prints};
 ghost use Rattle.desk.specs.inner.Steps.{Says, Room};
 
 use calls::{ROOM, list_of};
-use entries::reading::{Asked, MOST_KEPT, read};
+use entries::reading::{MOST_KEPT, read};
 use refusals::MISSHAPEN;
 use slices::zero_bytes;
 use writing::{Reply, write};
@@ -31,22 +31,18 @@ fn reply_to(input: &[u8], places: &mut [f32], colours: &mut [f32]) -> Reply
     let mut positions = [0.0f32; MOST_KEPT];
     let mut channels = [0.0f32; 4 * MOST_KEPT];
     match read(input, &mut positions, &mut channels) {
-        Asked::Unread(line) => Reply::Unread(line),
-        Asked::Ramp {
-            kind,
-            threshold,
-            stops,
-            edited,
-        } => {
+        Err(unread) => Reply::Unread(unread.line),
+        Ok(asked) => {
+            let stops = asked.stops;
             // Those beyond were read and not kept.
             if MOST_KEPT < stops {
                 return Reply::Refused(MISSHAPEN);
             }
             let m = 4 * stops;
             list_of(
-                kind,
-                threshold,
-                edited,
+                asked.kind,
+                asked.threshold,
+                asked.edited,
                 &positions[..stops],
                 &channels[..m],
                 places,

@@ -7,6 +7,7 @@ ghost use Rattle.difference.specs.Difference.{clamped_of, squares_of, distance_o
 
 use blend::Rgba;
 
+// Channel by channel: nothing else here does the same to each, so a method that takes what is to be done would be no plainer.
 fn clamped(x: Rgba) -> Rgba
     ensures { result ≡ clamped_of x }
 {

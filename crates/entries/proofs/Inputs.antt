@@ -22,8 +22,7 @@ use Rattle.entries.specs.inner.Steps.{StepAt, StartAt, BlockAt, ending_of, EndsA
 use Rattle.entries.specs.declared.fields.Recolour.{Recolour}
 use Rattle.entries.specs.declared.fields.Entry.{Entry}
 use Rattle.entries.specs.declared.fields.Entry.TheVariants as entry
-use Rattle.entries.specs.declared.reading.Edited.TheVariants as edited
-use Rattle.entries.specs.declared.reading.Ending.TheVariants as ending
+use Rattle.std.specs.Prelude.{Some, None, Ok, Err}
 use Rattle.entries.proofs.Others.{not_threshold, not_stop, not_change}
 
 few_stops : (ls : List (List ℕ)) → length (stops_of ls) ≤ length ls
@@ -179,7 +178,7 @@ module _ {s : List ℕ} {from n at : ℕ} {ps ps' cs cs' : List Float} (w : Take
 
 -- ---- the end
 module _ (s : List ℕ) (at line : ℕ) where
-  pub ending_none : length s ≤ at → EndsAs s at line (ending.Whole edited.Not)
+  pub ending_none : length s ≤ at → EndsAs s at line (Ok None)
   unfolding from_edit ending_of
   ending_none h = record { is = λ k x stops. ap (from_edit k x stops line) (no_lines s at h) }
 
@@ -190,7 +189,7 @@ module _ (s : List ℕ) (at line : ℕ) where
         ap (from_edit k x stops line) (opened s at h w)
         ∙ ap (λ (d : Entry). if_change d (λ y. from_end k x stops y (line + 1) (lines (drop next s))) (unread line)) (sym w.is)
 
-    pub ending_other : ((y : Recolour) → e ≡ entry.Change y → ⊥) → EndsAs s at line (ending.Unread line)
+    pub ending_other : ((y : Recolour) → e ≡ entry.Change y → ⊥) → EndsAs s at line (Err (record { line = line }))
     unfolding ending_of
     ending_other o = record { is = λ k x stops. first_edit k x stops ∙ not_change e _ _ o }
 
@@ -198,10 +197,10 @@ module _ (s : List ℕ) (at line : ℕ) where
       to_end : (k : Kind) (x : Float) (stops : List Stop) → from_edit k x stops line (lines (drop at s)) ≡ from_end k x stops d (line + 1) (lines (drop next s))
       to_end k x stops = first_edit k x stops ∙ ap (λ (f : Entry). if_change f (λ y. from_end k x stops y (line + 1) (lines (drop next s))) (unread line)) i
 
-      pub ending_more : next < length s → EndsAs s at line (ending.Unread (line + 1))
+      pub ending_more : next < length s → EndsAs s at line (Err (record { line = line + 1 }))
       unfolding from_end ending_of
       ending_more l = record { is = λ k x stops. to_end k x stops ∙ ap (from_end k x stops d (line + 1)) (some_lines s next l) }
 
-      pub ending_last : length s ≤ next → EndsAs s at line (ending.Whole (edited.By d))
+      pub ending_last : length s ≤ next → EndsAs s at line (Ok (Some d))
       unfolding from_end ending_of
       ending_last l = record { is = λ k x stops. to_end k x stops ∙ ap (from_end k x stops d (line + 1)) (no_lines s next l) }

@@ -8,9 +8,8 @@ use lib.ListN.{length, take, drop, get_or, length-drop}
 use lib.Seq.{length-take-le, get_or-take}
 use lib.Ieee.{Float, nan}
 use borrow.Author.Tests.{eq-eqb, ne_eqb, le-leb, lt-leb}
+use Rattle.std.specs.Prelude.{Option, Some, None}
 use Rattle.text.specs.declared.Class.TheVariants.{NotTab}
-use Rattle.rows.specs.declared.digits.Digits.{Digits}
-use Rattle.rows.specs.declared.digits.Digits.TheVariants.{Bad, Is}
 use Rattle.rows.specs.declared.Notation.TheVariants.{Short}
 use Rattle.rows.specs.declared.Parting.TheVariants.{Tabs}
 use Rattle.text.specs.Text.{fields, same, starts}
@@ -82,10 +81,10 @@ module _ (l : List ℕ) (from end : ℕ) (h : from ≤ length l) (e : end ≡ fr
   abbrev index : List ℕ
   index = take (end - from) (drop from l)
 
-  change_none : (c : Digits) → entry.Unread ≡ change_entry c []
+  change_none : (c : Option ℕ) → entry.Unread ≡ change_entry c []
   unfolding change_entry exactly numbers
-  change_none Bad = refl
-  change_none (Is k) = refl
+  change_none None = refl
+  change_none (Some k) = refl
 
   pub edit_alone : length l ≤ end → entry.Unread ≡ edit_entry (fields (drop from l))
   unfolding edit_entry
@@ -95,26 +94,26 @@ module _ (l : List ℕ) (from end : ℕ) (h : from ≤ length l) (e : end ≡ fr
   index_long k = length-take-le (end - from) (drop from l) (omega (arith, length-drop from l))
 
   module _ (k : end < length l) where
-    by_index : (c : Digits) → stop_index_of index ≡ c → change_entry c (fields (drop (end + 1) l)) ≡ edit_entry (fields (drop from l))
+    by_index : (c : Option ℕ) → stop_index_of index ≡ c → change_entry c (fields (drop (end + 1) l)) ≡ edit_entry (fields (drop from l))
     unfolding edit_entry
-    by_index c i = ap (λ (x : Digits). change_entry x (fields (drop (end + 1) l))) (sym i) ∙ ap edit_entry (sym (field_more l from end h e k))
+    by_index c i = ap (λ (x : Option ℕ). change_entry x (fields (drop (end + 1) l))) (sym i) ∙ ap edit_entry (sym (field_more l from end h e k))
 
     pub edit_long : index_digits < end - from → entry.Unread ≡ edit_entry (fields (drop from l))
     unfolding stop_index_of change_entry
-    edit_long m = by_index Bad (rw (lt-leb (length index) index_digits (omega (arith, index_long k))))
+    edit_long m = by_index None (rw (lt-leb (length index) index_digits (omega (arith, index_long k))))
 
     module _ (m : end - from ≤ index_digits) where
       short : stop_index_of index ≡ digits_with false index
       unfolding stop_index_of
       short = rw (le-leb (length index) index_digits (omega (arith, index_long k)))
 
-      pub edit_bad : digits_with false index ≡ Bad → entry.Unread ≡ edit_entry (fields (drop from l))
+      pub edit_bad : digits_with false index ≡ None → entry.Unread ≡ edit_entry (fields (drop from l))
       unfolding change_entry
-      edit_bad b = by_index Bad (short ∙ b)
+      edit_bad b = by_index None (short ∙ b)
 
-      pub edit_row : {x : ℕ} {r : Entry} → digits_with false index ≡ Is x → r ≡ exactly 4 (to_change x) (numbers Short (fields (drop (end + 1) l))) → r ≡ edit_entry (fields (drop from l))
+      pub edit_row : {x : ℕ} {r : Entry} → digits_with false index ≡ Some x → r ≡ exactly 4 (to_change x) (numbers Short (fields (drop (end + 1) l))) → r ≡ edit_entry (fields (drop from l))
       unfolding change_entry
-      edit_row {x} b g = g ∙ by_index (Is x) (short ∙ b)
+      edit_row {x} b g = g ∙ by_index (Some x) (short ∙ b)
 
 -- ---- the line
 module _ (l : List ℕ) where

@@ -23,16 +23,15 @@ use Rattle.entries.specs.Input.{Input, unread, input, most_bytes, if_ramp, if_th
 use Rattle.entries.specs.inner.Steps.{StepAt, StartAt, BlockAt, ending_of, EndsAs}
 use Rattle.entries.specs.declared.fields.Entry.{Entry}
 use Rattle.entries.specs.declared.fields.Entry.TheVariants as entry
-use Rattle.entries.specs.declared.reading.Edited.{Edited}
-use Rattle.entries.specs.declared.reading.Ending.{Ending}
-use Rattle.entries.specs.declared.reading.Ending.TheVariants as ending
-use Rattle.entries.specs.declared.reading.Asked.TheVariants as asked
+use Rattle.entries.specs.declared.reading.Asked.{Asked}
+use Rattle.entries.specs.declared.reading.Unread.{Unread}
+use Rattle.std.specs.Prelude.{Option, Result, Ok, Err}
 use Rattle.entries.proofs.Others.{not_ramp}
 use Rattle.entries.proofs.Inputs.{opened}
 
 -- ---- no stop is read
 module _ (s : List ℕ) {lent : Output} where
-  none_read : {line : ℕ} → input_of s ≡ unread line → stops_in s ≡ [] → Reads s (change lent lent) (asked.Unread line)
+  none_read : {line : ℕ} → input_of s ≡ unread line → stops_in s ≡ [] → Reads s (change lent lent) (Err (record { line = line }))
   unfolding positions_in channels_in
   none_read i e = record {
     answer = sym (ap asked_of i);
@@ -40,11 +39,11 @@ module _ (s : List ℕ) {lent : Output} where
     channels = ap (λ (l : List Stop). sets lent.channels 0 (channels_in l)) (sym e);
   }
 
-  pub many_bytes : most_bytes < length s → Reads s (change lent lent) (asked.Unread 0)
+  pub many_bytes : most_bytes < length s → Reads s (change lent lent) (Err (record { line = 0 }))
   unfolding input_of stops_in
   many_bytes h = none_read (rw (lt-leb (length s) most_bytes h)) (rw (lt-leb (length s) most_bytes h))
 
-  pub no_bytes : length s ≡ 0 → Reads s (change lent lent) (asked.Unread 1)
+  pub no_bytes : length s ≡ 0 → Reads s (change lent lent) (Err (record { line = 1 }))
   unfolding input_of from_kind stops_in stops_from
   no_bytes h =
       let few = le-leb (length s) most_bytes (omega arith) in
@@ -63,10 +62,10 @@ module _ (s : List ℕ) (h : 0 < length s) (m : length s ≤ most_bytes) {e : En
   first_stops = rw (le-leb (length s) most_bytes m)
       (ap stops_from (opened s 0 h w) ∙ ap (λ (d : Entry). if_ramp d (λ k. stops_of (after_threshold (lines (drop next s)))) []) (sym w.is))
 
-  pub no_kind : {lent : Output} → ((y : Kind) → e ≡ entry.Ramp y → ⊥) → Reads s (change lent lent) (asked.Unread 1)
+  pub no_kind : {lent : Output} → ((y : Kind) → e ≡ entry.Ramp y → ⊥) → Reads s (change lent lent) (Err (record { line = 1 }))
   no_kind o = none_read s (first_kind ∙ not_ramp e _ _ o) (first_stops ∙ not_ramp e _ _ o)
 
-  module _ {k : Kind} (i : e ≡ entry.Ramp k) {x : Float} {from line : ℕ} (t : StartAt s next x from line) {n at : ℕ} {lent : Change Output} (b : BlockAt s from n at lent) {r : Ending} (z : EndsAs s at (line + n) r) where
+  module _ {k : Kind} (i : e ≡ entry.Ramp k) {x : Float} {from line : ℕ} (t : StartAt s next x from line) {n at : ℕ} {lent : Change Output} (b : BlockAt s from n at lent) {r : Result (Option Recolour) Unread} (z : EndsAs s at (line + n) r) where
     abbrev here : List Stop
     here = stops_of (lines (drop from s))
 
@@ -80,7 +79,7 @@ module _ (s : List ℕ) (h : 0 < length s) (m : length s ≤ most_bytes) {e : En
     stored : here ≡ stops_in s
     stored = sym (first_stops ∙ ap (λ (d : Entry). if_ramp d (λ y. stops_of (after_threshold (lines (drop next s)))) []) i ∙ ap stops_of (sym t.rest))
 
-    pub whole_unread : {l : ℕ} → r ≡ ending.Unread l → Reads s lent (asked.Unread l)
+    pub whole_unread : {u : Unread} → r ≡ Err u → Reads s lent (Err u)
     unfolding ending_of
     whole_unread j = record {
       answer = sym (ap asked_of (whole ∙ ap (ending_of k x here) j));
@@ -88,13 +87,15 @@ module _ (s : List ℕ) (h : 0 < length s) (m : length s ≤ most_bytes) {e : En
       channels = b.channels ∙ ap (λ (l : List Stop). sets lent.entry.channels 0 (channels_in l)) stored;
     }
 
-    pub whole_ready : {d : Edited} → r ≡ ending.Whole d → Reads s lent (asked.Ramp k x n d)
+    pub whole_ready : {d : Option Recolour} → r ≡ Ok d → Reads s lent (Ok (record { kind = k; threshold = x; stops = n; edited = d }))
     unfolding ending_of
     whole_ready {d} j = record {
-      answer = ap (λ (c : ℕ). asked.Ramp k x c d) b.count ∙ sym (ap asked_of (whole ∙ ap (ending_of k x here) j));
+      answer = ap (λ (c : ℕ). Ok (asking c)) b.count ∙ sym (ap asked_of (whole ∙ ap (ending_of k x here) j));
       positions = b.positions ∙ ap (λ (l : List Stop). sets lent.entry.positions 0 (positions_in l)) stored;
       channels = b.channels ∙ ap (λ (l : List Stop). sets lent.entry.channels 0 (channels_in l)) stored;
-    }
+    } where
+      asking : ℕ → Asked
+      asking c = record { kind = k; threshold = x; stops = c; edited = d }
 
 -- ---- the stops of an input that can be read are those that are stored
 abbrev Same : List Stop → Input → Type 0
@@ -151,5 +152,5 @@ same_input s = go (leb (length s) most_bytes) where
   go true = same_kind (lines s)
   go false = tt
 
-pub stops_are : (s : List ℕ) {k : Kind} {x : Float} {stops : List Stop} {e : Edited} → input_of s ≡ input k x stops e → stops ≡ stops_in s
+pub stops_are : (s : List ℕ) {k : Kind} {x : Float} {stops : List Stop} {e : Option Recolour} → input_of s ≡ input k x stops e → stops ≡ stops_in s
 stops_are s i = subst (Same (stops_in s)) i (same_input s)

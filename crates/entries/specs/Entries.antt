@@ -1,5 +1,5 @@
 -- A line of the input. Document 01, 'Tools read standard input ..': fields parted by tabs, a word first, then what belongs to it.
-use Rattle.std.specs.Prelude.{ℕ, ◌+◌, false, cond, List, [], ◌∷◌, length, drop, get_or, leb, eqb, Float}
+use Rattle.std.specs.Prelude.{ℕ, ◌+◌, false, cond, List, [], ◌∷◌, length, drop, get_or, leb, eqb, Float, Option, Some, None}
 use Rattle.std.specs.Float.{nan}
 use Rattle.blend.specs.declared.Rgba.{Rgba}
 use Rattle.stops.specs.declared.Kind.TheVariants.{Linear, Smoothstep}
@@ -7,8 +7,6 @@ use Rattle.text.specs.Text.{fields, same, starts}
 use Rattle.rows.specs.Digits.{digits_with}
 use Rattle.rows.specs.Rows.{Numbers, all, none, numbers}
 use Rattle.rows.specs.declared.Notation.TheVariants.{Short}
-use Rattle.rows.specs.declared.digits.Digits.{Digits}
-use Rattle.rows.specs.declared.digits.Digits.TheVariants.{Bad, Is}
 use Rattle.entries.specs.declared.fields.Entry.{Entry}
 use Rattle.entries.specs.declared.fields.Entry.TheVariants as entry
 
@@ -40,15 +38,15 @@ stop_entry fs = exactly 5 to_stop (numbers Short fs)
 abbrev pub index_digits : ℕ
 index_digits = 18
 
-unfoldable pub stop_index_of : List ℕ → Digits
-stop_index_of f = cond (leb (length f) index_digits) (digits_with false f) Bad
+unfoldable pub stop_index_of : List ℕ → Option ℕ
+stop_index_of f = cond (leb (length f) index_digits) (digits_with false f) None
 
 abbrev pub to_change : ℕ → List Float → Entry
 to_change k xs = entry.Change (record { stop = k; colour = channels_at xs 0 })
 
-unfoldable pub change_entry : Digits → List (List ℕ) → Entry
-change_entry Bad fs = entry.Unread
-change_entry (Is k) fs = exactly 4 (to_change k) (numbers Short fs)
+unfoldable pub change_entry : Option ℕ → List (List ℕ) → Entry
+change_entry None fs = entry.Unread
+change_entry (Some k) fs = exactly 4 (to_change k) (numbers Short fs)
 
 unfoldable pub edit_entry : List (List ℕ) → Entry
 edit_entry [] = entry.Unread

@@ -1,5 +1,5 @@
 -- The input as a whole. Document 01, 'Tools read standard input ..': in this order `kind`, optional `threshold`, `stop`s, optional `edit`.
-use Rattle.std.specs.Prelude.{ℕ, ◌+◌, ◌≡◌, cond, List, [], ◌∷◌, length, leb, Float}
+use Rattle.std.specs.Prelude.{ℕ, ◌+◌, ◌≡◌, cond, List, [], ◌∷◌, length, leb, Float, Option, Some, None, Result, Ok, Err}
 use Rattle.std.proofs.lemmas.List.Edits.{sets}
 use Rattle.blend.specs.declared.Stop.{Stop}
 use Rattle.stops.specs.Lent.{Change}
@@ -12,10 +12,8 @@ use Rattle.entries.specs.declared.fields.Recolour.{Recolour}
 use Rattle.entries.specs.Entries.{entry_of}
 use Rattle.entries.specs.declared.fields.Entry.{Entry}
 use Rattle.entries.specs.declared.fields.Entry.TheVariants as entry
-use Rattle.entries.specs.declared.reading.Edited.{Edited}
-use Rattle.entries.specs.declared.reading.Edited.TheVariants as edited
 use Rattle.entries.specs.declared.reading.Asked.{Asked}
-use Rattle.entries.specs.declared.reading.Asked.TheVariants as asked
+use Rattle.entries.specs.declared.reading.Unread.{Unread}
 
 -- at most this many bytes
 abbrev pub most_bytes : ℕ
@@ -28,7 +26,7 @@ most_kept = 512
 -- a ramp with its stops and its edit; or the number of the first line that fits none of this
 pub data Input : Type 0 where
   unread : ℕ → Input
-  input : Kind → Float → List Stop → Edited → Input
+  input : Kind → Float → List Stop → Option Recolour → Input
 
 -- ---- an entry of one form, or any other
 abbrev pub if_ramp : {A : Type 0} → Entry → (Kind → A) → A → A
@@ -63,12 +61,12 @@ if_change entry.Unread f z = z
 
 -- nothing after the edit
 unfoldable pub from_end : Kind → Float → List Stop → Recolour → ℕ → List (List ℕ) → Input
-from_end k x stops e line [] = input k x stops (edited.By e)
+from_end k x stops e line [] = input k x stops (Some e)
 from_end k x stops e line (l ∷ ls) = unread line
 
 -- the optional edit
 unfoldable pub from_edit : Kind → Float → List Stop → ℕ → List (List ℕ) → Input
-from_edit k x stops line [] = input k x stops edited.Not
+from_edit k x stops line [] = input k x stops None
 from_edit k x stops line (l ∷ ls) = if_change (entry_of l) (λ e. from_end k x stops e (line + 1) ls) (unread line)
 
 -- the stops at the front, and the lines after them
@@ -113,12 +111,12 @@ unfoldable pub stops_in : List ℕ → List Stop
 stops_in s = cond (leb (length s) most_bytes) (stops_from (lines s)) []
 
 -- the answer is the input but for its stops, of which it has the number
-abbrev pub asked_of : Input → Asked
-asked_of (unread line) = asked.Unread line
-asked_of (input k x stops e) = asked.Ramp k x (length stops) e
+abbrev pub asked_of : Input → Result Asked Unread
+asked_of (unread line) = Err (record { line = line })
+asked_of (input k x stops e) = Ok (record { kind = k; threshold = x; stops = length stops; edited = e })
 
 -- the stops go into what is lent, from its start and as far as it goes
-pub record Reads (s : List ℕ) (lent : Change Output) (r : Asked) : Type 0 where
+pub record Reads (s : List ℕ) (lent : Change Output) (r : Result Asked Unread) : Type 0 where
   pub answer : r ≡ asked_of (input_of s)
   pub positions : lent.exit.positions ≡ sets lent.entry.positions 0 (positions_in (stops_in s))
   pub channels : lent.exit.channels ≡ sets lent.entry.channels 0 (channels_in (stops_in s))

@@ -4,7 +4,7 @@ ghost use Rattle.text.specs.Text.{fields};
 ghost use Rattle.entries.specs.Entries.{entry_of, threshold_entry, stop_entry, edit_entry};
 
 use blend::{Rgba, Stop};
-use rows::digits::{Digits, number_of};
+use rows::digits::number_of;
 use rows::{Notation, Parting, row_at};
 use stops::Kind;
 use text::{Class, is_same, span_end, starts_with};
@@ -74,7 +74,7 @@ fn edit_entry(l: &[u8], from: usize) -> Entry
     if INDEX_DIGITS < end - from {
         return Entry::Unread;
     }
-    let Digits::Is(k) = number_of(&l[from..end], false) else {
+    let Some(k) = number_of(&l[from..end], false) else {
         return Entry::Unread;
     };
     let row = row_at(l, end + 1, Parting::Tabs, Notation::Short);

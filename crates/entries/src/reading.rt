@@ -17,23 +17,19 @@ const MOST_BYTES: usize = 16384;
 // The stops that the tool keeps. It is a limit of the tool alone: one for ramps is in `refusals`.
 pub const MOST_KEPT: usize = 512;
 
-// Whether a stop is given a colour before the list is made.
+// What the input asks for: the list of a ramp of so many stops, one of which may be given a colour before it is made.
 #[derive(Clone, Copy)]
-pub enum Edited {
-    Not,
-    By(Recolour),
+pub struct Asked {
+    pub kind: Kind,
+    pub threshold: f32,
+    pub stops: usize,
+    pub edited: Option<Recolour>,
 }
 
-// What the input asks for: the list of a ramp of so many stops; or the number of the line that cannot be read.
+// The number of the line that cannot be read.
 #[derive(Clone, Copy)]
-pub enum Asked {
-    Unread(usize),
-    Ramp {
-        kind: Kind,
-        threshold: f32,
-        stops: usize,
-        edited: Edited,
-    },
+pub struct Unread {
+    pub line: usize,
 }
 
 // What a line says, and where the next one starts.
@@ -48,10 +44,8 @@ fn step_at(s: &[u8], at: usize) -> Step
     ensures { StepAt s.now at result.entry result.next }
 {
     let l = line_at(s, at);
-    let end = l.end;
-    let entry = entry_of(&s[at..end]);
     Step {
-        entry,
+        entry: entry_of(&s[at..l.end]),
         next: l.next,
     }
 }
@@ -68,26 +62,20 @@ fn start_at(s: &[u8], at: usize) -> Start
     requires { at ≤ length s.now }
     ensures { StartAt s.now at result.threshold result.at result.line }
 {
-    if s.len() <= at {
-        return Start {
-            threshold: Sampler::DEFAULT,
-            at,
-            line: 2,
-        };
+    if at < s.len() {
+        let step = step_at(s, at);
+        if let Entry::Threshold(threshold) = step.entry {
+            return Start {
+                threshold,
+                at: step.next,
+                line: 3,
+            };
+        }
     }
-    let step = step_at(s, at);
-    let entry = step.entry;
-    let Entry::Threshold(x) = entry else {
-        return Start {
-            threshold: Sampler::DEFAULT,
-            at,
-            line: 2,
-        };
-    };
     Start {
-        threshold: x,
-        at: step.next,
-        line: 3,
+        threshold: Sampler::DEFAULT,
+        at,
+        line: 2,
     }
 }
 
@@ -111,8 +99,7 @@ fn stops_at(
     let mut at = from;
     while at < s.len() {
         let step = step_at(s, at);
-        let entry = step.entry;
-        let Entry::Stop(stop) = entry else {
+        let Entry::Stop(stop) = step.entry else {
             return Block { stops: n, at };
         };
         // A stop past the end of what is lent is not stored, and read all the same.
@@ -124,29 +111,22 @@ fn stops_at(
     Block { stops: n, at }
 }
 
-// What follows the stops: an edit or nothing; or the number of the line that is neither.
-#[derive(Clone, Copy)]
-pub(crate) enum Ending {
-    Unread(usize),
-    Whole(Edited),
-}
-
-fn ending_at(s: &[u8], at: usize, line: usize) -> Ending
+// What follows the stops: an edit or nothing; or the line that is neither.
+fn ending_at(s: &[u8], at: usize, line: usize) -> Result<Option<Recolour>, Unread>
     requires { (at ≤ length s.now) × (line ≤ 2 * most_bytes) }
     ensures { EndsAs s.now at line result }
 {
     if s.len() <= at {
-        return Ending::Whole(Edited::Not);
+        return Ok(None);
     }
     let step = step_at(s, at);
-    let entry = step.entry;
-    let Entry::Change(edit) = entry else {
-        return Ending::Unread(line);
+    let Entry::Change(edit) = step.entry else {
+        return Err(Unread { line });
     };
     if step.next < s.len() {
-        return Ending::Unread(line + 1);
+        return Err(Unread { line: line + 1 });
     }
-    Ending::Whole(Edited::By(edit))
+    Ok(Some(edit))
 }
 
 // Reads the input, with the stops that are kept into what is lent.
@@ -154,29 +134,26 @@ pub fn read(
     s: &[u8],
     positions: &mut [f32; MOST_KEPT],
     channels: &mut [f32; 4 * MOST_KEPT],
-) -> Asked
+) -> Result<Asked, Unread>
     ensures { Reads s.now (lent_output positions channels) result }
 {
     if MOST_BYTES < s.len() {
-        return Asked::Unread(0);
+        return Err(Unread { line: 0 });
     }
     if s.len() == 0 {
-        return Asked::Unread(1);
+        return Err(Unread { line: 1 });
     }
     let step = step_at(s, 0);
-    let entry = step.entry;
-    let Entry::Ramp(kind) = entry else {
-        return Asked::Unread(1);
+    let Entry::Ramp(kind) = step.entry else {
+        return Err(Unread { line: 1 });
     };
     let start = start_at(s, step.next);
     let block = stops_at(s, start.at, positions, channels);
-    match ending_at(s, block.at, start.line + block.stops) {
-        Ending::Unread(n) => Asked::Unread(n),
-        Ending::Whole(edited) => Asked::Ramp {
-            kind,
-            threshold: start.threshold,
-            stops: block.stops,
-            edited,
-        },
-    }
+    let edited = ending_at(s, block.at, start.line + block.stops)?;
+    Ok(Asked {
+        kind,
+        threshold: start.threshold,
+        stops: block.stops,
+        edited,
+    })
 }

@@ -6,23 +6,23 @@
 use damaged::{changes, prefixes};
 use saved::{elsewhere, names, numbers, wide};
 use show::{grey, show, show_with, values};
-use sizes::{full, long, narrow, over};
+use sizes::{long, rooms};
 use spelling::{decode, front};
 use std::io;
 use streams::{StandardOutput, read_full};
-use text::{Class, line_at, span_end};
+use text::line_at;
 
 mod damaged;
 mod saved;
 mod show;
 mod sizes;
 
+// `grammar` has such lines, with another call in them: shared, they would be a public function of `spelling`, with a promise.
 fn row(out: &mut StandardOutput, saved: bool, line: &[u8]) {
     let mut text = [0u8; 256];
-    let tab = span_end(line, 0, Class::NotTab);
-    if tab < line.len() {
+    if let Some(tab) = line.iter().position(|b| *b == b'\t') {
         let n = decode(&mut text, &line[tab + 1..]);
-        show(out, saved, front(line, tab), front(&text, n));
+        show(out, saved, &line[..tab], front(&text, n));
     }
 }
 
@@ -67,17 +67,17 @@ fn colours(out: &mut StandardOutput) {
 fn ends(out: &mut StandardOutput) {
     values(
         out,
-        b"own colours",
+        "own colours",
         b"GIMP Gradient\nName:\n1\n0 .5 1 .1 .2 .3 .4 .5 .6 .7 .8 3 0 0 0",
     );
     values(
         out,
-        b"foreground",
+        "foreground",
         b"GIMP Gradient\nName:\n1\n0 .5 1 .1 .2 .3 .4 .5 .6 .7 .8 4 0 1 2",
     );
     values(
         out,
-        b"background",
+        "background",
         b"GIMP Gradient\nName:\n1\n-0 .5 +1. .1 .2 .3 .4 .5 .6 .7 .8 5 0 3 4",
     );
 }
@@ -89,10 +89,7 @@ fn main(rt: HostRuntime) -> io::Result<()> {
     rows(&mut out, false, front(&input, got));
     colours(&mut out);
     ends(&mut out);
-    full(&mut out);
-    over(&mut out);
-    narrow(&mut out, b"room 2 but for one channel, count 1", b"1");
-    narrow(&mut out, b"room 2 but for one channel, count 2", b"2");
+    rooms(&mut out);
     long(&mut out);
     let file = b"GIMP Gradient\nName: n\n1\n0 .5 1 0 0 0 1 1 1 1 1 0 0 0 1\n";
     prefixes(&mut out, false, file);

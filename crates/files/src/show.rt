@@ -4,10 +4,6 @@ use ggr::Answer;
 use spelling::count;
 use streams::StandardOutput;
 
-fn wide(x: u8) -> u64 {
-    x as u64
-}
-
 pub(crate) fn grey(x: f32) -> Rgba {
     Rgba {
         r: x,
@@ -19,31 +15,18 @@ pub(crate) fn grey(x: f32) -> Rgba {
 
 fn say(out: &mut StandardOutput, r: Answer) {
     match r {
-        Answer::Read(n) => {
-            out.put(b"read ");
-            out.decimal(n as u64);
-        }
-        Answer::Refused(refusal, line) => {
-            out.put(b"refused ");
-            out.decimal(wide(refusal));
-            out.put(b" line ");
-            out.decimal(line as u64);
-        }
+        Answer::Read(n) => write!(out, "read {n}"),
+        Answer::Refused(refusal, line) => write!(out, "refused {refusal} line {line}"),
     }
 }
 
 // How many elements of p are x.
-fn floats(p: &[f32], x: f32) -> u64 {
-    let mut n: u64 = 0;
-    for i in 0..p.len() {
-        if p[i] == x {
-            n = std::num::wrapping_add_u64(n, 1);
-        }
-    }
-    n
+fn floats(p: &[f32], x: f32) -> usize {
+    p.iter().filter(|y| **y == x).count()
 }
 
-// The answer by document 01's rules, or by those for what GIMP saves.
+// The answer by document 01's rules, or by those for what GIMP saves. The flag stays: it chooses here and in the name below,
+// where two functions to pass along would be two parameters more of every function that shows a file.
 pub(crate) fn read_as(
     saved: bool,
     text: &[u8],
@@ -54,16 +37,18 @@ pub(crate) fn read_as(
     codes: &mut [u8],
 ) -> Answer {
     if saved {
-        return ggr::read_saved(text, foreground, background, positions, channels, codes);
+        ggr::read_saved(text, foreground, background, positions, channels, codes)
+    } else {
+        ggr::read(text, foreground, background, positions, channels, codes)
     }
-    ggr::read(text, foreground, background, positions, channels, codes)
 }
 
 fn name_as(saved: bool, text: &[u8]) -> &[u8] {
     if saved {
-        return ggr::name_saved(text);
+        ggr::name_saved(text)
+    } else {
+        ggr::name(text)
     }
-    ggr::name(text)
 }
 
 // What is tried, the answer, and the zeros that the lent outputs then hold.
@@ -82,14 +67,15 @@ pub(crate) fn answer(
         saved, text, foreground, background, positions, channels, codes,
     );
     out.put(label);
-    out.put(b": ");
+    write!(out, ": ");
     say(out, r);
-    out.put(b", zeros ");
-    out.decimal(floats(positions, 0.0));
-    out.put(b" ");
-    out.decimal(floats(channels, 0.0));
-    out.put(b" ");
-    out.decimal(count(codes, 0) as u64);
+    let zeros = floats(positions, 0.0);
+    write!(
+        out,
+        ", zeros {zeros} {} {}",
+        floats(channels, 0.0),
+        count(codes, 0)
+    );
 }
 
 // The answer with room for two segments: 6 positions, 16 channels and 4 codes, each 9 before. Then the name.
@@ -115,9 +101,9 @@ pub(crate) fn show_with(
         &mut channels,
         &mut codes,
     );
-    out.put(b", name [");
+    write!(out, ", name [");
     out.put(name_as(saved, text));
-    out.put(b"]\n");
+    writeln!(out, "]");
 }
 
 pub(crate) fn show(out: &mut StandardOutput, saved: bool, label: &[u8], text: &[u8]) {
@@ -126,7 +112,7 @@ pub(crate) fn show(out: &mut StandardOutput, saved: bool, label: &[u8], text: &[
 
 // The answer with room for one segment, how many of its channels are the foreground's 0.25, the background's 0.75 and
 // 0, and its codes.
-pub(crate) fn values(out: &mut StandardOutput, label: &[u8], text: &[u8]) {
+pub(crate) fn values(out: &mut StandardOutput, label: &str, text: &[u8]) {
     let mut positions = [9.0f32; 3];
     let mut channels = [9.0f32; 8];
     let mut codes = [9u8; 2];
@@ -138,18 +124,11 @@ pub(crate) fn values(out: &mut StandardOutput, label: &[u8], text: &[u8]) {
         &mut channels,
         &mut codes,
     );
-    out.put(label);
-    out.put(b": ");
+    let foreground = floats(&channels, 0.25);
+    let background = floats(&channels, 0.75);
+    let zeros = floats(&channels, 0.0);
+    write!(out, "{label}: ");
     say(out, r);
-    out.put(b", channels ");
-    out.decimal(floats(&channels, 0.25));
-    out.put(b" ");
-    out.decimal(floats(&channels, 0.75));
-    out.put(b" ");
-    out.decimal(floats(&channels, 0.0));
-    out.put(b", codes ");
-    out.decimal(wide(codes[0]));
-    out.put(b" ");
-    out.decimal(wide(codes[1]));
-    out.put(b"\n");
+    write!(out, ", channels {foreground} {background} {zeros}");
+    writeln!(out, ", codes {} {}", codes[0], codes[1]);
 }

@@ -1,4 +1,6 @@
 // Files that are full, one segment too long, or as long as a text may be.
+ghost use Rattle.std.specs.Prelude.{◌+◌, ◌^◌, ◌<◌};
+
 use crate::show::{answer, grey, show};
 use spelling::{append, front};
 use streams::StandardOutput;
@@ -15,67 +17,41 @@ fn many(buf: &mut [u8], count: &[u8], n: usize) -> usize {
     at
 }
 
-// Lent outputs that are exactly full.
-pub(crate) fn full(out: &mut StandardOutput) {
+// A file of n segments, and what is answered with room for P positions, C channels and K codes.
+fn sized<const P: usize, const C: usize, const K: usize>(
+    out: &mut StandardOutput,
+    label: &[u8],
+    count: &[u8],
+    n: usize,
+)
+    requires { P + C + K < 2 ^ 32 }
+{
     let mut text = [0u8; 8192];
-    let n = many(&mut text, b"256", 256);
-    let mut positions = [9.0f32; 768];
-    let mut channels = [9.0f32; 2048];
-    let mut codes = [9u8; 512];
-    answer(
-        out,
-        false,
-        b"256 segments, room 256",
-        front(&text, n),
-        grey(0.25),
-        grey(0.75),
-        &mut positions,
-        &mut channels,
-        &mut codes,
-    );
-    out.put(b"\n");
-}
-
-// One segment too many, though there is room.
-pub(crate) fn over(out: &mut StandardOutput) {
-    let mut text = [0u8; 8192];
-    let n = many(&mut text, b"257", 257);
-    let mut positions = [9.0f32; 771];
-    let mut channels = [9.0f32; 2056];
-    let mut codes = [9u8; 514];
-    answer(
-        out,
-        false,
-        b"257 segments, room 257",
-        front(&text, n),
-        grey(0.25),
-        grey(0.75),
-        &mut positions,
-        &mut channels,
-        &mut codes,
-    );
-    out.put(b"\n");
-}
-
-// Room for two segments but for one channel: that is room for one.
-pub(crate) fn narrow(out: &mut StandardOutput, label: &[u8], count: &[u8]) {
-    let mut text = [0u8; 256];
-    let n = many(&mut text, count, 2);
-    let mut positions = [9.0f32; 6];
-    let mut channels = [9.0f32; 15];
-    let mut codes = [9u8; 4];
+    let end = many(&mut text, count, n);
+    let mut positions = [9.0f32; P];
+    let mut channels = [9.0f32; C];
+    let mut codes = [9u8; K];
     answer(
         out,
         false,
         label,
-        front(&text, n),
+        front(&text, end),
         grey(0.25),
         grey(0.75),
         &mut positions,
         &mut channels,
         &mut codes,
     );
-    out.put(b"\n");
+    writeln!(out);
+}
+
+// Lent outputs that are exactly full, one segment too many though there is room, and room for two segments but for one channel:
+// that is room for one.
+pub(crate) fn rooms(out: &mut StandardOutput) {
+    sized::<768, 2048, 512>(out, b"256 segments, room 256", b"256", 256);
+    sized::<771, 2056, 514>(out, b"257 segments, room 257", b"257", 257);
+    sized::<6, 15, 4>(out, b"room 2 but for one channel, count 1", b"1", 2);
+    sized::<6, 15, 4>(out, b"room 2 but for one channel, count 2", b"2", 2);
 }
 
 // NULs after the last segment are not read, but counted.

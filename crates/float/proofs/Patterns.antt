@@ -6,7 +6,7 @@ use native.Mathlib.Nat.{lt_of_not-le}
 use native.Mathlib.Decide.{dec_le}
 use native.Mathlib.Omega.{arith}
 use lib.Dec.{T}
-use lib.Ieee.{Float, nan, inf, fin, binary32, ne, is_nan, of_bits, to_bits, nan_bits}
+use lib.Ieee.{Float, nan, inf, fin, binary32, ne, is_nan, of_bits, nan_bits}
 use lib.Ieee.Bits.{nan_bits_is, nan_bits_above}
 use lib.Ieee.Compare.{nan_differs, differs_from_itself}
 use borrow.Author.Tests.{lt-ltb, le-ltb}
@@ -35,10 +35,6 @@ only_nan (fin s m e) h = absurd (subst T (sym h) tt)
 -- any other is a NaN's
 pub nan_pattern : (b : ℕ) → 2139095040 < b % 2147483648 → of_bits binary32 b ≡ nan
 nan_pattern b h = only_nan (of_bits binary32 b) (sym (nan_bits_is binary32 b) ∙ nan_bits_above binary32 b ∙ lt-ltb 2139095040 (b % 2147483648) h)
-
-pub pattern_of_nan : to_bits binary32 nan ≡ 2143289344
-unfolding to_bits
-pattern_of_nan = refl
 
 -- and a number's, the sign clear, is no more than the infinity's
 pub number_below : (b : ℕ) → b < 2147483648 → T (not (nan_bits binary32 b)) → b ≤ 2139095040

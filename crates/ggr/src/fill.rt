@@ -14,33 +14,23 @@ use refusals::{FEW_LINES, NOT_A_TEXT, NOT_FINITE, TORN};
 use segment::store::put_segment;
 use segment::{Rules, SegmentRead, segment_at};
 
+#[tactic(auto, unfolding(crate::specs::File::segment_room))]
 fn room_of(p: usize, c: usize, k: usize) -> usize
     ensures { result ≡ segment_room p c k }
 {
-    let mut n = p / 3;
-    if c / 8 < n {
-        n = c / 8;
-    }
-    if k / 2 < n {
-        n = k / 2;
-    }
-    n
+    (p / 3).min((c / 8).min(k / 2))
 }
 
 // Whether g starts where the one before ends, and its positions are in order.
+#[tactic(auto, unfolding(crate::specs::File::joins))]
 fn joins_on(end: f32, g: Segment) -> bool
     ensures { result ≡ joins end g }
 {
-    if g.left != end {
-        return false;
-    }
-    if g.left <= g.middle {
-        return g.middle <= g.right;
-    }
-    false
+    g.left == end && g.left <= g.middle && g.middle <= g.right
 }
 
 // What a line holds, where the segment before it ends at `end`.
+#[tactic(auto, unfolding(crate::specs::File::joined_to))]
 fn weigh(end: f32, o: SegmentRead) -> SegmentRead
     ensures { result ≡ joined_to end o }
 {
@@ -48,9 +38,10 @@ fn weigh(end: f32, o: SegmentRead) -> SegmentRead
         SegmentRead::Fault(_) => o,
         SegmentRead::Valid(g) => {
             if joins_on(end, g) {
-                return o;
+                o
+            } else {
+                SegmentRead::Fault(TORN)
             }
-            SegmentRead::Fault(TORN)
         }
     }
 }
@@ -61,9 +52,10 @@ fn closing(end: f32, n: usize) -> Answer
     ensures { result ≡ closed_by end n }
 {
     if end == 1.0 {
-        return Answer::Read(n);
+        Answer::Read(n)
+    } else {
+        Answer::Refused(TORN, 3 + n)
     }
-    Answer::Refused(TORN, 3 + n)
 }
 
 // The n segment lines from `from` on, written into the outputs.
@@ -83,25 +75,19 @@ fn fill(
 {
     let mut at = from;
     let mut end = 0.0;
-    let mut i = 0;
-    while i < n {
+    for i in 0..n {
         if s.len() <= at {
             return Answer::Refused(FEW_LINES, 3);
         }
         let l = segment_at(s, at, rules, fg, bg);
-        let read = l.read;
-        let o = weigh(end, read);
-        match o {
-            SegmentRead::Fault(number) => {
-                return Answer::Refused(number, 4 + i);
-            }
+        match weigh(end, l.read) {
+            SegmentRead::Fault(number) => return Answer::Refused(number, 4 + i),
             SegmentRead::Valid(g) => {
                 put_segment(p, c, k, i, g);
                 end = g.right;
             }
         }
         at = l.next;
-        i += 1;
     }
     closing(end, n)
 }
@@ -128,14 +114,14 @@ pub(crate) fn read_into(
         return Answer::Refused(NOT_A_TEXT, 0);
     }
     let room = room_of(p.len(), c.len(), k.len());
-    let lead = read_header(s, room);
-    match lead {
+    match read_header(s, room) {
         Lead::Refuse(number, line) => Answer::Refused(number, line),
         Lead::Counted(n, at) => {
-            if !are_fit_lines(rules, s, at, n) {
-                return Answer::Refused(NOT_A_TEXT, 0);
+            if are_fit_lines(rules, s, at, n) {
+                fill(rules, s, at, n, fg, bg, p, c, k)
+            } else {
+                Answer::Refused(NOT_A_TEXT, 0)
             }
-            fill(rules, s, at, n, fg, bg, p, c, k)
         }
     }
 }

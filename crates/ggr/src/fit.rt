@@ -24,10 +24,7 @@ fn are_good_bytes(rules: Rules, s: &[u8]) -> bool
     ensures { result ≡ good_bytes rules s.now }
 {
     match rules {
-        Rules::Published => {
-            let at = marks(s);
-            is_ascii(&s[at..])
-        }
+        Rules::Published => { is_ascii(&s[marks(s)..]) }
         Rules::Saved => is_saved_head(s),
     }
 }
@@ -35,10 +32,7 @@ fn are_good_bytes(rules: Rules, s: &[u8]) -> bool
 pub(crate) fn is_fit_text(rules: Rules, s: &[u8]) -> bool
     ensures { result ≡ fit_text rules s.now }
 {
-    if most_bytes(rules) < s.len() {
-        return false;
-    }
-    are_good_bytes(rules, s)
+    s.len() <= most_bytes(rules) && are_good_bytes(rules, s)
 }
 
 // Whether the n lines from `from` on, as many of them as there are, are ASCII.
@@ -46,18 +40,15 @@ fn are_ascii_lines(s: &[u8], from: usize, n: usize) -> bool
     ensures { result ≡ ascii_lines n (lines (drop from s.now)) }
 {
     let mut at = from;
-    let mut i = 0;
-    while i < n {
+    for _ in 0..n {
         if s.len() <= at {
             return true;
         }
         let l = line_at(s, at);
-        let end = l.end;
-        if !is_ascii(&s[at..end]) {
+        if !is_ascii(&s[at..l.end]) {
             return false;
         }
         at = l.next;
-        i += 1;
     }
     true
 }

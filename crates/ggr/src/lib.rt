@@ -38,12 +38,11 @@ fn read_by(
     let r = fill::read_into(
         rules, text, foreground, background, positions, channels, codes,
     );
-    let Answer::Read(_) = r else {
+    if let Answer::Refused(_, _) = r {
         zero_from(positions, 0);
         zero_from(channels, 0);
         zero_bytes(codes);
-        return r;
-    };
+    }
     r
 }
 
@@ -115,10 +114,10 @@ fn name_by(rules: Rules, text: &[u8]) -> &[u8]
         &mut channels,
         &mut codes,
     );
-    let Answer::Read(_) = r else {
-        return &text[..0];
-    };
-    name_part(text)
+    match r {
+        Answer::Read(_) => name_part(text),
+        Answer::Refused(_, _) => &text[..0],
+    }
 }
 
 // The name in a file that `read` reads.

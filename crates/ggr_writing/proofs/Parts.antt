@@ -6,12 +6,12 @@ use Prim.Native.Nat.{ℕ, zero, suc, ◌+◌, ◌-◌, ◌*◌, ◌/◌, ◌%◌
 use native.Mathlib.Nat.{lt_irrefl, div-lt_iff_lt-mul, pow-suc, lt_of_lt_of_le, le_of_eq}
 use native.Mathlib.Omega.{arith}
 use lib.Dec.{ltb, eqb, lit<, lit≤}
+use Rattle.std.specs.Prelude.{Some}
 use Rattle.float.proofs.Flags.{both_l}
 use lib.ListN.{length, length-append}
 use borrow.Author.Tests.{le-leb, lt-leb, ne_eqb, lt-ltb, ltb-true}
 use Rattle.decimal.specs.Decimal.{is_digit, value_after}
 use Rattle.decimal.proofs.Parts.{value_split, digit, no_digit}
-use Rattle.rows.specs.declared.digits.Digits.TheVariants.{Is}
 use Rattle.rows.specs.Digits.{digits_of, digits_with}
 use Rattle.text.specs.Text.{every, ascii, lines, at_lf, on_first, white, in_word, words}
 use Rattle.text.proofs.Bytes.{every_both}
@@ -98,11 +98,11 @@ unfolding digits_with every
 unplussed [] h e = absurd (lt_irrefl 0 h)
 unplussed (b ∷ l) h e = simp (no_digit b 43 (both_l (is_digit b) (every is_digit l) e) refl)
 
-is_number : (l : List ℕ) (n : ℕ) → 0 < length l → every is_digit l ≡ true → value_after 0 l ≡ n → n < 2 ^ 64 → digits_of l ≡ Is n
+is_number : (l : List ℕ) (n : ℕ) → 0 < length l → every is_digit l ≡ true → value_after 0 l ≡ n → n < 2 ^ 64 → digits_of l ≡ Some n
 unfolding digits_of
 is_number l n h e v b = simp (lt-ltb 0 (length l) h, e, v, lt-ltb n (2 ^ 64) b)
 
-pub count_read : (n : ℕ) → n < 1000 → digits_with true (decimal_of 20 n) ≡ Is n
+pub count_read : (n : ℕ) → n < 1000 → digits_with true (decimal_of 20 n) ≡ Some n
 count_read n h =
     let d = digits_of_lem 20 n (lt_of_lt_of_le h (lit≤ tt)) in
     let s = some_digits 20 n (lit< tt) in

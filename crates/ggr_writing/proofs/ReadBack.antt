@@ -11,6 +11,7 @@ use lib.Ieee.{Float, inf, binary32, le, eq}
 use lib.Ieee.Fits.{div-fits}
 use borrow.Author.Rules.{rules}
 use borrow.Author.Tests.{le-leb}
+use Rattle.std.specs.Prelude.{Option}
 use Rattle.refusals.specs.Refusals.{torn, too_many_segments, not_a_text, not_finite}
 use Rattle.refusals.specs.Limits.{most_segments, most_text}
 use Rattle.float.specs.F32.{◌⊕◌, ◌⊘◌, f0, f1, f2}
@@ -21,7 +22,6 @@ use Rattle.stops.specs.Stops.{pos_at, colour_at, stop_at, finite_rgba}
 use Rattle.gradient.specs.declared.gimp.Segment.{Segment}
 use Rattle.text.specs.Text.{every, ascii, unmark, lines, same, starts}
 use Rattle.text.proofs.Bytes.{every_both}
-use Rattle.rows.specs.declared.digits.Digits.{Digits}
 use Rattle.segment.specs.declared.Rules.TheVariants.{Published}
 use Rattle.segment.specs.declared.SegmentRead.{SegmentRead}
 use Rattle.segment.specs.declared.SegmentRead.TheVariants.{Valid, Fault}
@@ -159,7 +159,7 @@ unfolding file_text text_lines or_empty from_lines from_second from_third counte
 head_read room m gs e h k =
     ap (λ (s : List ℕ). from_lines room (or_empty (lines s))) (file_unmarked gs)
     ∙ ap (λ (ls : List (List ℕ)). from_lines room (or_empty ls)) (file_lines gs)
-    ∙ ap (λ (d : Digits). counted room d (lines (segments_text gs))) (count_read (length gs) (omega arith))
+    ∙ ap (λ (d : Option ℕ). counted room d (lines (segments_text gs))) (count_read (length gs) (omega arith))
     ∙ ap (λ (b : Bool). cond (b && leb (length gs) room) (from_count (length gs) (lines (segments_text gs))) (fails too_many_segments 3)) (le-leb (length gs) most_segments h)
     ∙ ap (λ (b : Bool). cond b (from_count (length gs) (lines (segments_text gs))) (fails too_many_segments 3)) (le-leb (length gs) room k)
     ∙ some m (length gs) e

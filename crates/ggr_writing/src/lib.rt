@@ -45,16 +45,11 @@ pub fn write(positions: &[f32], channels: &[f32], text: &mut [u8]) -> WriteAnswe
 }
 
 // From 2 to 257 stops, four channels each.
+#[tactic(auto, unfolding(crate::specs::File::shaped_list))]
 fn is_shaped(n: usize, m: usize) -> bool
     ensures { result ≡ shaped_list n m }
 {
-    if n < 2 {
-        return false;
-    }
-    if MOST_WRITTEN < n {
-        return false;
-    }
-    m == 4 * n
+    2 <= n && n <= MOST_WRITTEN && m == 4 * n
 }
 
 // No position is below the one before; a NaN is below nothing, and nothing is below a NaN.
@@ -62,77 +57,54 @@ fn never_falls(positions: &[f32]) -> bool
     ensures { result ≡ rises (inf true) positions.now }
 {
     let mut prev = -1.0f32 / 0.0;
-    let mut i = 0;
-    while i < positions.len() {
-        let p = positions[i];
+    for &p in positions {
         if p < prev {
             return false;
         }
         prev = p;
-        i += 1;
     }
     true
 }
 
 // It starts at 0 and ends at 1, and every number of every segment can be written.
+#[tactic(auto, unfolding(crate::specs::File::can_write))]
 fn can_write(positions: &[f32], channels: &[f32]) -> bool
     ensures { result ≡ can_write positions.now channels.now }
 {
-    let n = stops::less(positions.len());
-    if stops::item(positions, 0) != 0.0 {
-        return false;
-    }
-    if stops::item(positions, n) != 1.0 {
-        return false;
-    }
-    are_writable(n, positions, channels)
+    let n = positions.len().saturating_sub(1);
+    stops::item(positions, 0) == 0.0
+        && stops::item(positions, n) == 1.0
+        && are_writable(n, positions, channels)
 }
 
 // Of the first n segments.
 fn are_writable(n: usize, positions: &[f32], channels: &[f32]) -> bool
     ensures { result ≡ writable_from n 0 positions.now channels.now }
 {
-    let mut i = 0;
-    while i < n {
+    for i in 0..n {
         let a = stops::stop(positions, channels, i);
         let b = stops::stop(positions, channels, i + 1);
         if !is_writable_pair(a, b) {
             return false;
         }
-        i += 1;
     }
     true
 }
 
+#[tactic(auto, unfolding(crate::specs::File::writable_segment))]
 fn is_writable_pair(a: Stop, b: Stop) -> bool
     ensures { result ≡ writable_segment (segment_between a b) }
 {
-    if !is_writable(a.position) {
-        return false;
-    }
-    if !is_writable((a.position + b.position) / 2.0) {
-        return false;
-    }
-    if !is_writable(b.position) {
-        return false;
-    }
-    if !is_writable_colour(a.colour) {
-        return false;
-    }
-    is_writable_colour(b.colour)
+    is_writable(a.position)
+        && is_writable((a.position + b.position) / 2.0)
+        && is_writable(b.position)
+        && is_writable_colour(a.colour)
+        && is_writable_colour(b.colour)
 }
 
+#[tactic(auto, unfolding(crate::specs::File::writable_colour))]
 fn is_writable_colour(c: Rgba) -> bool
     ensures { result ≡ writable_colour c }
 {
-    if !is_writable(c.r) {
-        return false;
-    }
-    if !is_writable(c.g) {
-        return false;
-    }
-    if !is_writable(c.b) {
-        return false;
-    }
-    is_writable(c.a)
+    is_writable(c.r) && is_writable(c.g) && is_writable(c.b) && is_writable(c.a)
 }

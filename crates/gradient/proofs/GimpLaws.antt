@@ -6,7 +6,7 @@ use Prim.Native.Nat.{ℕ, suc, ◌+◌, ◌-◌, ◌*◌, ◌≤◌, ◌<◌}
 use native.Mathlib.Numerals.{add-one}
 use native.Mathlib.Omega.{arith}
 use lib.Dec.{leb, eqb}
-use lib.ListN.{length, get_or, get_or-eq_default}
+use lib.ListN.{length}
 use lib.Ieee.{Float, le, lt}
 use borrow.Author.Tests.{leb-true, eqb-true, eq-eqb, ne_eqb}
 use Rattle.refusals.specs.Refusals.{misshapen, not_finite}
@@ -24,10 +24,6 @@ use Rattle.stops.specs.declared.Kind.{Kind}
 use Rattle.stops.specs.declared.Checked.TheVariants.{Fine, Refused}
 use Rattle.gradient.specs.Gimp.{segments, left_at, middle_at, right_at, blending_at, colouring_at, step_code, curved_code, sinusoidal_code, increasing_code, decreasing_code, falling_code, carried_at, all_carried, gimp_shaped, gimp_check, segment_found, along, linear_factor, increasing, decreasing, bent, unwaved, waved, is_hued, is_costly, uncurved, turned, curved_by, curved, costly, hued, blended, gimp_segment, segment_colour, off_domain, gimp_colour}
 use Rattle.gradient.specs.declared.gimp.Segment.{Segment}
-
--- ---- a code past the end
-pub no_code : (ks : List ℕ) (i : ℕ) → length ks ≤ i → 0 ≡ get_or ks i 0
-no_code ks i h = sym (get_or-eq_default ks 0 h)
 
 -- ---- the kinds, one by one
 module _ (kind : Kind) (n i : ℕ) (ps : List Float) (ks : List ℕ) where
@@ -76,26 +72,6 @@ module _ (kind : Kind) (ps cs : List Float) (ks : List ℕ) where
 
   abbrev kinds : Bool
   kinds = all_carried kind (segments ps) 0 ps ks
-
-  pub check_shape : fits ≡ false → Refused misshapen ≡ gimp_check kind ps cs ks
-  unfolding gimp_check
-  check_shape a = simp a
-
-  pub check_kinds : kinds ≡ false → fits ≡ true → Refused misshapen ≡ gimp_check kind ps cs ks
-  unfolding gimp_check
-  check_kinds b a = simp (a, b)
-
-  pub check_positions : all_finite ps ≡ false → kinds ≡ true → fits ≡ true → Refused not_finite ≡ gimp_check kind ps cs ks
-  unfolding gimp_check
-  check_positions d b a = simp (a, b, d)
-
-  pub check_channels : all_finite cs ≡ false → all_finite ps ≡ true → kinds ≡ true → fits ≡ true → Refused not_finite ≡ gimp_check kind ps cs ks
-  unfolding gimp_check
-  check_channels e d b a = simp (a, b, d, e)
-
-  pub check_fine : all_finite cs ≡ true → all_finite ps ≡ true → kinds ≡ true → fits ≡ true → Fine ≡ gimp_check kind ps cs ks
-  unfolding gimp_check
-  check_fine e d b a = simp (a, b, d, e)
 
   -- what passes has the lengths that agree
   pub fine_shape : gimp_check kind ps cs ks ≡ Fine → Shape (segments ps) (length ps) (length cs) (length ks)

@@ -1,3 +1,4 @@
 pub mod Gimp
 pub mod Ramp
 pub mod Joined
+pub mod Lent

@@ -11,33 +11,23 @@ use stops::Kind;
 fn is_in_order(left: f32, middle: f32, right: f32) -> bool
     ensures { result ≡ in_order left middle right }
 {
-    if left <= middle {
-        return middle <= right;
-    }
-    false
+    left <= middle && middle <= right
 }
 
 fn takes_curved(kind: Kind) -> bool
     ensures { result ≡ takes_curved kind }
 {
-    match kind {
-        Kind::Linear => false,
-        Kind::Smoothstep => false,
-        Kind::Sharp => false,
-        Kind::Basis => false,
-        Kind::CatmullRom => false,
-        Kind::Gimp => false,
-        Kind::GimpSaved => true,
-    }
+    kind == Kind::GimpSaved
 }
 
 fn asks_middle(kind: Kind, blending: u8) -> bool
     ensures { result ≡ asks_middle kind blending }
 {
     if blending == CURVED {
-        return takes_curved(kind);
+        takes_curved(kind)
+    } else {
+        blending == SINUSOIDAL
     }
-    blending == SINUSOIDAL
 }
 
 // Whether a ramp of the kind carries a segment with these codes and positions. Of a sinusoidal or curved one the positions
@@ -53,19 +43,13 @@ pub fn is_carried(
     ensures { result ≡ carried kind blending colouring left middle right }
 {
     if colouring > HSV_CLOCKWISE {
-        return false;
+        false
+    } else if asks_middle(kind, blending) {
+        is_in_order(left, middle, right)
+    } else {
+        matches!(
+            blending,
+            LINEAR | SPHERICAL_INCREASING | SPHERICAL_DECREASING | STEP
+        )
     }
-    if asks_middle(kind, blending) {
-        return is_in_order(left, middle, right);
-    }
-    if blending == LINEAR {
-        return true;
-    }
-    if blending == SPHERICAL_INCREASING {
-        return true;
-    }
-    if blending == SPHERICAL_DECREASING {
-        return true;
-    }
-    blending == STEP
 }

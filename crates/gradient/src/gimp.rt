@@ -11,7 +11,7 @@ pub use crate::carried::is_carried;
 pub use crate::hued::{blend_costly, is_costly};
 use blend::{Rgba, utils};
 use refusals::{MISSHAPEN, MOST_SEGMENTS, NOT_FINITE};
-use stops::{Checked, Kind};
+use stops::{BLACK, Checked, Kind};
 
 // The codes carried: of blending, and of colouring.
 pub const LINEAR: u8 = 0;
@@ -66,12 +66,10 @@ fn are_carried(kind: Kind, positions: &[f32], codes: &[u8], n: usize) -> bool
     requires { (n ≤ most_segments) × (length positions.now ≡ 3 * n) × (length codes.now ≡ 2 * n) }
     ensures { result ≡ all_carried kind n 0 positions.now codes.now }
 {
-    let mut i = 0;
-    while i < n {
+    for i in 0..n {
         if !is_carried_at(kind, positions, codes, i, n) {
             return false;
         }
-        i += 1;
     }
     true
 }
@@ -80,19 +78,7 @@ fn are_carried(kind: Kind, positions: &[f32], codes: &[u8], n: usize) -> bool
 fn is_shaped(n: usize, positions: usize, channels: usize, codes: usize) -> bool
     ensures { result ≡ gimp_shaped n positions channels codes }
 {
-    if n < 1 {
-        return false;
-    }
-    if n > MOST_SEGMENTS {
-        return false;
-    }
-    if positions != 3 * n {
-        return false;
-    }
-    if channels != 8 * n {
-        return false;
-    }
-    codes == 2 * n
+    1 <= n && n <= MOST_SEGMENTS && positions == 3 * n && channels == 8 * n && codes == 2 * n
 }
 
 // All of refusal 1, then 2.
@@ -100,19 +86,15 @@ pub fn check(kind: Kind, positions: &[f32], channels: &[f32], codes: &[u8]) -> C
     ensures { Checks (gimp_check kind positions.now channels.now codes.now) result }
 {
     let n = positions.len() / 3;
-    if !is_shaped(n, positions.len(), channels.len(), codes.len()) {
-        return Checked::Refused(MISSHAPEN);
+    if !is_shaped(n, positions.len(), channels.len(), codes.len())
+        || !are_carried(kind, positions, codes, n)
+    {
+        Checked::Refused(MISSHAPEN)
+    } else if !utils::all_finite(positions) || !utils::all_finite(channels) {
+        Checked::Refused(NOT_FINITE)
+    } else {
+        Checked::Fine
     }
-    if !are_carried(kind, positions, codes, n) {
-        return Checked::Refused(MISSHAPEN);
-    }
-    if !utils::all_finite(positions) {
-        return Checked::Refused(NOT_FINITE);
-    }
-    if !utils::all_finite(channels) {
-        return Checked::Refused(NOT_FINITE);
-    }
-    Checked::Fine
 }
 
 // The segment whose colour is taken: the first hit, and in a gap the one tried last.
@@ -141,10 +123,7 @@ pub fn find_segment(positions: &[f32], t: f32) -> usize
 fn code(codes: &[u8], i: usize) -> u8
     ensures { result ≡ get_or codes.now i 0 }
 {
-    if i < codes.len() {
-        return codes[i];
-    }
-    0
+    codes.get(i).copied().unwrap_or(0)
 }
 
 // Segment i of any slices at all: past the end of a slice a number is not-a-number and a code is 0.
@@ -173,13 +152,7 @@ fn segment_at(positions: &[f32], channels: &[f32], codes: &[u8], i: usize) -> Se
 pub fn is_off_domain(t: f32) -> bool
     ensures { result ≡ off_domain t }
 {
-    if t < 0.0 {
-        return true;
-    }
-    if t > 1.0 {
-        return true;
-    }
-    t != t
+    t < 0.0 || t > 1.0 || t.is_nan()
 }
 
 // The colour at t of any slices at all.
@@ -187,12 +160,7 @@ pub fn colour_at(positions: &[f32], channels: &[f32], codes: &[u8], t: f32) -> R
     ensures { result ≡ gimp_colour positions.now channels.now codes.now t }
 {
     if is_off_domain(t) {
-        return Rgba {
-            r: 0.0,
-            g: 0.0,
-            b: 0.0,
-            a: 1.0,
-        };
+        return BLACK;
     }
     let g = segment_at(positions, channels, codes, find_segment(positions, t));
     segment_colour(g, t)

@@ -11,10 +11,7 @@ use blend::Rgba;
 fn is_hued(colouring: u8) -> bool
     ensures { result ≡ is_hued colouring }
 {
-    if colouring == HSV_COUNTER_CLOCKWISE {
-        return true;
-    }
-    colouring == HSV_CLOCKWISE
+    matches!(colouring, HSV_COUNTER_CLOCKWISE | HSV_CLOCKWISE)
 }
 
 fn factor(blending: u8, pivot: f32, place: f32) -> f32
@@ -70,10 +67,7 @@ fn blend_hued(g: Segment, pivot: f32, place: f32) -> Rgba
 pub fn is_costly(blending: u8, colouring: u8) -> bool
     ensures { result ≡ is_costly blending colouring }
 {
-    if is_hued(colouring) {
-        return true;
-    }
-    blending == CURVED
+    is_hued(colouring) || blending == CURVED
 }
 
 pub fn blend_costly(g: Segment, pivot: f32, place: f32) -> Rgba

@@ -7,57 +7,44 @@ use desk::Desked;
 use spelling::{append, count, decode, front};
 use std::io;
 use streams::{StandardOutput, read_full};
-use text::{Class, line_at, span_end};
-
-fn wide(x: u8) -> u64 {
-    x as u64
-}
+use text::line_at;
 
 // The bytes added up, and the sums on the way added up, which tells their order too.
 fn digest(out: &mut StandardOutput, s: &[u8]) {
     let mut sum: u64 = 0;
     let mut sums: u64 = 0;
-    for i in 0..s.len() {
-        sum = std::num::wrapping_add_u64(sum, wide(s[i]));
-        sums = std::num::wrapping_add_u64(sums, sum);
+    for b in s {
+        sum = sum.wrapping_add(u64::from(*b));
+        sums = sums.wrapping_add(sum);
     }
-    out.decimal(s.len() as u64);
-    out.put(b" bytes ");
-    out.decimal(sum);
-    out.put(b" ");
-    out.decimal(sums);
-    out.put(b"\n");
+    writeln!(out, "{} bytes {sum} {sums}", s.len());
 }
 
 fn show(out: &mut StandardOutput, s: &[u8]) {
     if s.len() <= 512 {
         out.put(s);
-        return;
+    } else {
+        digest(out, s);
     }
-    digest(out, s);
 }
 
 fn run(out: &mut StandardOutput, label: &[u8], text: &[u8]) {
     let mut output = [0u8; desk::MOST_PRINTED];
-    out.put(b"# ");
+    write!(out, "# ");
     out.put(label);
-    out.put(b"\n");
+    writeln!(out);
     match desk::desk(text, &mut output) {
         Desked::Printed(n) => show(out, front(&output, n)),
-        Desked::Short(n) => {
-            out.put(b"short ");
-            out.decimal(n as u64);
-            out.put(b"\n");
-        }
+        Desked::Short(n) => writeln!(out, "short {n}"),
     }
 }
 
+// `files` has such lines, with another call in them: shared, they would be a public function of `spelling`, with a promise.
 fn row(out: &mut StandardOutput, line: &[u8]) {
     let mut text = [0u8; 4096];
-    let tab = span_end(line, 0, Class::NotTab);
-    if tab < line.len() {
+    if let Some(tab) = line.iter().position(|b| *b == b'\t') {
         let n = decode(&mut text, &line[tab + 1..]);
-        run(out, front(line, tab), front(&text, n));
+        run(out, &line[..tab], front(&text, n));
     }
 }
 
@@ -132,34 +119,24 @@ fn longs(out: &mut StandardOutput) {
 // Black to white into an output of sevens: the answer, and the zeros and the sevens that the output then holds.
 fn hold(out: &mut StandardOutput, output: &mut [u8]) {
     let text = b"kind\tlinear\nstop\t0\t0\t0\t0\t1\nstop\t1\t1\t1\t1\t1\n";
-    out.put(b"# room ");
-    out.decimal(output.len() as u64);
+    writeln!(out, "# room {}", output.len());
     match desk::desk(text, output) {
-        Desked::Printed(n) => {
-            out.put(b"\nprinted ");
-            out.decimal(n as u64);
-        }
-        Desked::Short(n) => {
-            out.put(b"\nshort ");
-            out.decimal(n as u64);
-        }
+        Desked::Printed(n) => write!(out, "printed {n}"),
+        Desked::Short(n) => write!(out, "short {n}"),
     }
-    out.put(b", zeros ");
-    out.decimal(count(output, 0) as u64);
-    out.put(b", sevens ");
-    out.decimal(count(output, 7) as u64);
-    out.put(b"\n");
+    writeln!(
+        out,
+        ", zeros {}, sevens {}",
+        count(output, 0),
+        count(output, 7)
+    );
 }
 
 fn holds(out: &mut StandardOutput) {
-    let mut none = [7u8; 0];
-    let mut short = [7u8; 123];
-    let mut full = [7u8; 124];
-    let mut wide = [7u8; 126];
-    hold(out, &mut none);
-    hold(out, &mut short);
-    hold(out, &mut full);
-    hold(out, &mut wide);
+    hold(out, &mut []);
+    hold(out, &mut [7; 123]);
+    hold(out, &mut [7; 124]);
+    hold(out, &mut [7; 126]);
 }
 
 fn main(rt: HostRuntime) -> io::Result<()> {

@@ -6,10 +6,9 @@ use mathlib.Core.Bool.{Bool, true, false, cond, ◌&&◌}
 use mathlib.Core.List.{List, [], ◌∷◌}
 use lib.Dec.{leb}
 use borrow.Author.Tests.{leb-true}
+use Rattle.std.specs.Prelude.{Option, Some, None}
 use Rattle.refusals.specs.Limits.{most_segments}
 use Rattle.float.proofs.Flags.{both_l, both_r}
-use Rattle.rows.specs.declared.digits.Digits.{Digits}
-use Rattle.rows.specs.declared.digits.Digits.TheVariants.{Bad, Is}
 use Rattle.text.specs.Text.{rest_of, same, starts}
 use Rattle.header.specs.Head.{text_lines, segment_count, Head, counts, fails, from_count, counted, from_third, from_second, from_lines, head_of, title, name_tag}
 
@@ -32,10 +31,10 @@ module _ {room n : ℕ} {rest : List (List ℕ)} where
   count_fits zero ls a b e = no_head e refl
   count_fits (suc m) ls a b e = let q : suc m ≡ n = cc in (omega arith, omega arith, omega arith)
 
-  counted_fits : (d : Digits) (ls : List (List ℕ)) → counted room d ls ≡ counts n rest → Few room n
+  counted_fits : (d : Option ℕ) (ls : List (List ℕ)) → counted room d ls ≡ counts n rest → Few room n
   unfolding counted
-  counted_fits Bad ls e = no_head e refl
-  counted_fits (Is m) ls e =
+  counted_fits None ls e = no_head e refl
+  counted_fits (Some m) ls e =
       let w = passed_test (leb m most_segments && leb m room) (from_count m ls) _ _ e in
       count_fits m ls (leb-true m most_segments (both_l (leb m most_segments) (leb m room) w.0)) (leb-true m room (both_r (leb m most_segments) (leb m room) w.0)) w.1
 
@@ -64,10 +63,10 @@ module _ (room : ℕ) {n : ℕ} {rest : List (List ℕ)} where
   count_rest zero ls e = no_head e refl
   count_rest (suc m) ls e = cc
 
-  counted_rest : (d : Digits) (ls : List (List ℕ)) → counted room d ls ≡ counts n rest → rest ≡ ls
+  counted_rest : (d : Option ℕ) (ls : List (List ℕ)) → counted room d ls ≡ counts n rest → rest ≡ ls
   unfolding counted
-  counted_rest Bad ls e = no_head e refl
-  counted_rest (Is m) ls e = count_rest m ls (passed_test (leb m most_segments && leb m room) (from_count m ls) _ _ e).1
+  counted_rest None ls e = no_head e refl
+  counted_rest (Some m) ls e = count_rest m ls (passed_test (leb m most_segments && leb m room) (from_count m ls) _ _ e).1
 
   third_rest : (ls : List (List ℕ)) → from_third room ls ≡ counts n rest → rest ≡ rest_of ls
   unfolding from_third rest_of

@@ -6,10 +6,9 @@ use mathlib.Core.Bool.{Bool, true, false, cond}
 use mathlib.Core.List.{List, [], ◌∷◌}
 use lib.ListN.{length, take, drop, length-drop}
 use borrow.Author.Tests.{le-leb, lt-leb}
+use Rattle.std.specs.Prelude.{Option, Some, None}
 use Rattle.refusals.specs.Refusals.{bad_header, no_segment, too_many_segments}
 use Rattle.refusals.specs.Limits.{most_segments}
-use Rattle.rows.specs.declared.digits.Digits.{Digits}
-use Rattle.rows.specs.declared.digits.Digits.TheVariants.{Bad, Is}
 use Rattle.text.specs.Text.{unmark, lines, first_of, rest_of, same, starts}
 use Rattle.text.specs.Places.{LineAt}
 use Rattle.text.proofs.Lines.{no_lines, some_lines}
@@ -47,16 +46,16 @@ module _ (s : List ℕ) (at room : ℕ) where
   unfolding from_third
   third_end h = refuses room _ s _ no_segment 4 (ap (from_third room) (no_lines s at h))
 
-  module _ (h : at < length s) (end next : ℕ) (w : LineAt s at end next) (k : Digits) (q : k ≡ segment_count (take (end - at) (drop at s))) where
+  module _ (h : at < length s) (end next : ℕ) (w : LineAt s at end next) (k : Option ℕ) (q : k ≡ segment_count (take (end - at) (drop at s))) where
     by : from_third room (lines (drop at s)) ≡ counted room k (rest_of (lines (drop at s)))
     unfolding from_third
-    by = ap (from_third room) (some_lines s at h) ∙ ap (λ (c : Digits). counted room c (rest_of (lines (drop at s)))) (sym (q ∙ ap segment_count w.first))
+    by = ap (from_third room) (some_lines s at h) ∙ ap (λ (c : Option ℕ). counted room c (rest_of (lines (drop at s)))) (sym (q ∙ ap segment_count w.first))
 
-    pub third_bad : k ≡ Bad → ThirdLeads room s at (Refuse bad_header 3)
+    pub third_bad : k ≡ None → ThirdLeads room s at (Refuse bad_header 3)
     unfolding counted
     third_bad e = refuses room _ s _ bad_header 3 (by ∙ rw e)
 
-    module _ (n : ℕ) (e : k ≡ Is n) where
+    module _ (n : ℕ) (e : k ≡ Some n) where
       pub third_most : most_segments < n → ThirdLeads room s at (Refuse too_many_segments 3)
       unfolding counted
       third_most a = refuses room _ s _ too_many_segments 3 (by ∙ rw (e, lt-leb n most_segments a))

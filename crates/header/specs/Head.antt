@@ -1,9 +1,7 @@
 -- The header of a GIMP file, its first three lines, and the name in it. Document 01, 'What a GIMP file may hold' and 'When the desk says no': line by line 11, 15; then 14.
-use Rattle.std.specs.Prelude.{ℕ, zero, suc, Bool, true, cond, ◌&&◌, List, [], ◌∷◌, drop, leb}
+use Rattle.std.specs.Prelude.{ℕ, zero, suc, Bool, true, cond, ◌&&◌, List, [], ◌∷◌, drop, leb, Option, Some, None}
 use Rattle.refusals.specs.Refusals.{bad_header, no_segment, too_many_segments}
 use Rattle.refusals.specs.Limits.{most_segments}
-use Rattle.rows.specs.declared.digits.Digits.{Digits}
-use Rattle.rows.specs.declared.digits.Digits.TheVariants.{Bad, Is}
 use Rattle.rows.specs.Digits.{digits_with}
 use Rattle.text.specs.Text.{every, ascii, unmark, lines, first_of, rest_of, same, starts, trim}
 use Rattle.text.specs.Utf8.{utf8}
@@ -26,7 +24,7 @@ pub data Head : Type 0 where
   fails : ℕ → ℕ → Head
 
 -- the count of line 3: digits, before which one plus may stand, up to 2^64 - 1
-abbrev pub segment_count : List ℕ → Digits
+abbrev pub segment_count : List ℕ → Option ℕ
 segment_count l = digits_with true l
 
 -- count 0 is no segment
@@ -34,9 +32,9 @@ unfoldable pub from_count : ℕ → List (List ℕ) → Head
 from_count zero ls = fails no_segment 4
 from_count (suc n) ls = counts (suc n) ls
 
-unfoldable pub counted : ℕ → Digits → List (List ℕ) → Head
-counted room Bad ls = fails bad_header 3
-counted room (Is n) ls = cond (leb n most_segments && leb n room) (from_count n ls) (fails too_many_segments 3)
+unfoldable pub counted : ℕ → Option ℕ → List (List ℕ) → Head
+counted room None ls = fails bad_header 3
+counted room (Some n) ls = cond (leb n most_segments && leb n room) (from_count n ls) (fails too_many_segments 3)
 
 -- line 3 is the segment count
 unfoldable pub from_third : ℕ → List (List ℕ) → Head

@@ -7,7 +7,7 @@ ghost use Rattle.header.specs.Leads.{Leads};
 ghost use Rattle.header.specs.inner.Steps.{SecondLeads, ThirdLeads};
 
 use refusals::{BAD_HEADER, MOST_SEGMENTS, NO_SEGMENT, TOO_MANY_SEGMENTS};
-use rows::digits::{Digits, number_of};
+use rows::digits::number_of;
 use text::utf8::is_utf8;
 use text::{is_ascii, is_same, line_at, marks, starts_with, trimmed};
 
@@ -26,9 +26,7 @@ fn count_line(s: &[u8], at: usize, room: usize) -> Lead
         return Lead::Refuse(NO_SEGMENT, 4);
     }
     let l = line_at(s, at);
-    let end = l.end;
-    let next = l.next;
-    let Digits::Is(n) = number_of(&s[at..end], true) else {
+    let Some(n) = number_of(&s[at..l.end], true) else {
         return Lead::Refuse(BAD_HEADER, 3);
     };
     let m = n as usize;
@@ -41,7 +39,7 @@ fn count_line(s: &[u8], at: usize, room: usize) -> Lead
     if m == 0 {
         return Lead::Refuse(NO_SEGMENT, 4);
     }
-    Lead::Counted(m, next)
+    Lead::Counted(m, l.next)
 }
 
 fn name_line(s: &[u8], at: usize, room: usize) -> Lead
@@ -51,51 +49,38 @@ fn name_line(s: &[u8], at: usize, room: usize) -> Lead
         return Lead::Refuse(NO_SEGMENT, 4);
     }
     let l = line_at(s, at);
-    let end = l.end;
-    let next = l.next;
-    if !starts_with(&s[at..end], b"Name:") {
+    if !starts_with(&s[at..l.end], b"Name:") {
         return Lead::Refuse(BAD_HEADER, 2);
     }
-    count_line(s, next, room)
+    count_line(s, l.next, room)
 }
 
 // Document 01's order: line by line 11, 15; then 14.
 pub fn read_header(s: &[u8], room: usize) -> Lead
     ensures { Leads room s.now result }
 {
-    if s.len() == 0 {
+    if s.is_empty() {
         return Lead::Refuse(NO_SEGMENT, 4);
     }
     let at = marks(s);
     let l = line_at(s, at);
-    let end = l.end;
-    let next = l.next;
-    if !is_same(&s[at..end], b"GIMP Gradient") {
+    if !is_same(&s[at..l.end], b"GIMP Gradient") {
         return Lead::Refuse(BAD_HEADER, 1);
     }
-    name_line(s, next, room)
+    name_line(s, l.next, room)
 }
 
 // Whether lines 1 and 3 are ASCII and line 2 is UTF-8. What follows them is not looked at.
 pub fn is_saved_head(s: &[u8]) -> bool
     ensures { result ≡ saved_head s.now }
 {
-    let one = marks(s);
-    let title = line_at(s, one);
-    let two = title.next;
-    let name = line_at(s, two);
-    let three = name.next;
-    let count = line_at(s, three);
-    let title_end = title.end;
-    let name_end = name.end;
-    let count_end = count.end;
-    if !is_ascii(&s[one..title_end]) {
-        return false;
-    }
-    if !is_utf8(&s[two..name_end]) {
-        return false;
-    }
-    is_ascii(&s[three..count_end])
+    let at = marks(s);
+    let title = line_at(s, at);
+    let name = line_at(s, title.next);
+    let count = line_at(s, name.next);
+    is_ascii(&s[at..title.end])
+        && is_utf8(&s[title.next..name.end])
+        && is_ascii(&s[name.next..count.end])
 }
 
 // What follows `Name:` on line 2, without the white space around it: a part of the text. It is not asked what the line
@@ -103,14 +88,12 @@ pub fn is_saved_head(s: &[u8]) -> bool
 pub fn name_part(s: &[u8]) -> &[u8]
     ensures { result.now ≡ name_in s.now }
 {
-    let start = marks(s);
-    let first = line_at(s, start);
-    let at = first.next;
-    let second = line_at(s, at);
-    let end = second.end;
-    let line = &s[at..end];
+    let first = line_at(s, marks(s));
+    let second = line_at(s, first.next);
+    let line = &s[first.next..second.end];
     if line.len() < 5 {
-        return &s[..0];
+        &s[..0]
+    } else {
+        trimmed(&line[5..])
     }
-    trimmed(&line[5..])
 }

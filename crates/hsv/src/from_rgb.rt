@@ -8,19 +8,13 @@ use blend::Rgba;
 fn larger(x: f32, y: f32) -> f32
     ensures { result ≡ larger x y }
 {
-    if x < y {
-        return y;
-    }
-    x
+    if x < y { y } else { x }
 }
 
 fn smaller(x: f32, y: f32) -> f32
     ensures { result ≡ smaller x y }
 {
-    if y < x {
-        return y;
-    }
-    x
+    if y < x { y } else { x }
 }
 
 // The hue of a colour that is no grey, in sixths of a turn: the value is its greatest channel, and d how far the least lies

@@ -5,16 +5,10 @@ ghost use Rattle.std.specs.Float.{binary32};
 ghost use Rattle.std.specs.Float.Ieee.{of_bits, rem};
 ghost use Rattle.float.specs.Number.{count_of};
 
-// The weight of the exponent's field in a pattern.
-const FIELD: u32 = 0x0080_0000;
+use float::{FIELD, INFINITY, SIGN};
 
-// The weight of the sign: the pattern of -0.
-const SIGN: u32 = 0x8000_0000;
-
-// The pattern of the infinity.
-const INFINITY: u32 = 0x7f80_0000;
-
-// What y leaves of r doubled n times, a multiple of y taken off at each doubling, so that nothing grows.
+// What y leaves of r doubled n times, a multiple of y taken off at each doubling, so that nothing grows. The count has a name, `_i`,
+// since the invariant speaks of it.
 fn doubled(r: u32, n: u32, y: u32) -> u32
     requires { (r < y) × (y < 512) }
     ensures { result ≡ r * 2 ^ n % y }
@@ -37,10 +31,11 @@ fn left(a: u32, y: u32) -> f32
     if field < 150 {
         let parts = 1 << (150 - field);
         let rest = digits % (y * parts);
-        return rest as f32 / parts as f32;
+        rest as f32 / parts as f32
+    } else {
+        let rest = doubled(digits % y, field - 150, y);
+        rest as f32
     }
-    let rest = doubled(digits % y, field - 150, y);
-    rest as f32
 }
 
 // Rust's x % y: with x's sign, and of a NaN or an infinity the NaN.
@@ -56,7 +51,8 @@ pub(crate) fn remainder(x: f32, y: u32) -> f32
         return 0.0 / 0.0;
     }
     if bits < SIGN {
-        return left(bits, y);
+        left(bits, y)
+    } else {
+        -left(bits - SIGN, y)
     }
-    -left(bits - SIGN, y)
 }

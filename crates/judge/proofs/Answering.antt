@@ -3,8 +3,7 @@ use mathlib.Core.Path.{◌≡◌, sym, ap, ◌∙◌}
 use mathlib.Core.Bool.{Bool, true, false, cond}
 use mathlib.Core.List.{List}
 use Prim.Native.Nat.{ℕ, ◌+◌, ◌-◌, ◌*◌, ◌≤◌, ◌<◌}
-use native.Mathlib.Omega.{arith}
-use lib.ListN.{length, get_or}
+use lib.ListN.{get_or}
 use lib.Ieee.{Float, nan, le}
 use Rattle.blend.specs.declared.Rgba.{Rgba}
 use Rattle.stops.specs.Lent.{Ramp}
@@ -23,7 +22,7 @@ use Rattle.sampling.proofs.Checks.{ramp_fine}
 use Rattle.difference.specs.Difference.{distance_of}
 use Rattle.judge.specs.Lists.{Offer, offered_ramp}
 use Rattle.judge.specs.Verdicts.{number_of_verdict, ramp_check, close, far_in, rows_verdict, all_verdict, point_count, fresh_point, close_at, shape_verdict, points_verdict, list_verdict, verdict_of}
-use Rattle.judge.specs.inner.Steps.{Sound, Readable, any_close, far_from, record_verdict}
+use Rattle.judge.specs.inner.Steps.{Sound, any_close, far_from, record_verdict}
 use Rattle.judge.specs.declared.Verdict.{Verdict}
 use Rattle.judge.specs.declared.Verdict.TheVariants.{Yes, TooFar, Refused}
 use Rattle.judge.specs.Promises.{Judges}
@@ -65,13 +64,6 @@ module _ (near : Float → Bool) (rows : List Float) (counts : List ℕ) (max : 
 
     pub end_near : 36 ≤ i → near max ≡ true → onwards i ≡ Yes
     end_near h e = all_past near _ _ i _ h ∙ rw e
-
--- a point of row i
-pub in_rows : (rows : List Float) (counts : List ℕ) (i j : ℕ) → Readable rows counts → i < 36 → j < get_or counts i 0 → i * 128 + j < length rows
-in_rows rows counts i j w h l = omega (arith, w.long, w.most i h)
-
-pub in_record : (rows : List Float) (counts : List ℕ) (i j : ℕ) → Readable rows counts → i < 36 → j < get_or counts i 0 → i * 128 + j < 4608
-in_record rows counts i j w h l = omega (arith, w.most i h)
 
 -- ---- the colours of a list, at the points of a fresh sampling
 module _ (ramp : Ramp) (asked : Float) (offer : Offer) where

@@ -1,10 +1,10 @@
 -- What a list must be by itself, test by test; and that the colours of one that passed are document 01's. Assumes nothing.
 use mathlib.Core.Path.{◌≡◌, refl, ap, ◌∙◌, fun_ext}
-use mathlib.Core.Bool.{Bool, true, false, not, ◌&&◌}
+use mathlib.Core.Bool.{true, false, not, ◌&&◌}
 use mathlib.Core.List.{List}
 use Prim.Native.Nat.{ℕ, suc, ◌-◌, ◌*◌, ◌≤◌, ◌<◌}
 use native.Mathlib.Omega.{arith}
-use borrow.Author.Tests.{le-leb, lt-leb, leb-true, eqb-true, eq-eqb, not-true}
+use borrow.Author.Tests.{le-leb, leb-true, eqb-true, eq-eqb, not-true}
 use lib.Dec.{leb, eqb}
 use lib.ListN.{length}
 use lib.Ieee.{Float, lt}
@@ -23,19 +23,6 @@ use Rattle.judge.proofs.Failing.{from_start, all_pass, passes_all}
 
 -- ---- the length
 module _ (n m : ℕ) where
-  pub few : n < 2 → false ≡ sized n m
-  unfolding sized
-  few h = simp (lt-leb 2 n h)
-
-  module _ (least : 2 ≤ n) where
-    pub many : most_listed < n → false ≡ sized n m
-    unfolding sized
-    many h = simp (le-leb 2 n least, lt-leb n most_listed h)
-
-    pub length_last : n ≤ most_listed → eqb m (4 * n) ≡ sized n m
-    unfolding sized
-    length_last h = simp (le-leb 2 n least, le-leb n most_listed h)
-
   pub record Size : Type 0 where
     pub least : 2 ≤ n
     pub most : n ≤ most_listed
@@ -57,23 +44,9 @@ module _ (n m : ℕ) where
 
 -- ---- a stop
 module _ (ps cs : List Float) (i : ℕ) where
-  pub not_finite : finite (pos_at ps i) ≡ false → false ≡ good_stop ps cs i
+  pub holds : finite (pos_at ps i) ≡ true → finite_rgba (colour_at cs i) ≡ true → lt (pos_at ps i) (pos_at ps (i - 1)) ≡ false → true ≡ good_stop ps cs i
   unfolding good_stop
-  not_finite h = simp h
-
-  module _ (position : finite (pos_at ps i) ≡ true) where
-    pub colour_not_finite : finite_rgba (colour_at cs i) ≡ false → false ≡ good_stop ps cs i
-    unfolding good_stop
-    colour_not_finite h = rw (position, h)
-
-    module _ (colour : finite_rgba (colour_at cs i) ≡ true) where
-      pub falls : lt (pos_at ps i) (pos_at ps (i - 1)) ≡ true → false ≡ good_stop ps cs i
-      unfolding good_stop
-      falls h = rw (position, colour, h)
-
-      pub holds : lt (pos_at ps i) (pos_at ps (i - 1)) ≡ false → true ≡ good_stop ps cs i
-      unfolding good_stop
-      holds h = rw (position, colour, h)
+  holds position colour h = rw (position, colour, h)
 
   pub record Good : Type 0 where
     pub position : finite (pos_at ps i) ≡ true
@@ -89,10 +62,6 @@ module _ (ps cs : List Float) (i : ℕ) where
         colour = both_r (finite (pos_at ps i)) (finite_rgba (colour_at cs i)) front;
         rises = not-true (lt (pos_at ps i) (pos_at ps (i - 1))) (both_r (finite (pos_at ps i) && finite_rgba (colour_at cs i)) (not (lt (pos_at ps i) (pos_at ps (i - 1)))) h);
       }
-
--- what the tests in the code compare
-pub below_as : (ps : List Float) (i : ℕ) {k : ℕ} {p q : Float} {b : Bool} → p ≡ pos_at ps i → q ≡ pos_at ps k → k ≡ i - 1 → lt p q ≡ b → lt (pos_at ps i) (pos_at ps (i - 1)) ≡ b
-below_as ps i a e f h = rw (a, e, f) at h
 
 -- ---- all stops
 pub begun : (ps cs : List Float) → first_failing (good_stop ps cs) (length ps - 0) 0 ≡ first_bad (offer_of ps cs)

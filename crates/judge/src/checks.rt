@@ -11,13 +11,7 @@ const MOST_LISTED: usize = 4609;
 pub(crate) fn is_sized(n: usize, m: usize) -> bool
     ensures { result ≡ sized n m }
 {
-    if n < 2 {
-        return false;
-    }
-    if MOST_LISTED < n {
-        return false;
-    }
-    m == 4 * n
+    2 <= n && n <= MOST_LISTED && m == 4 * n
 }
 
 // Stop i is finite, and not below the one before it; the first is compared with itself.
@@ -25,28 +19,17 @@ fn is_good(positions: &[f32], channels: &[f32], i: usize) -> bool
     ensures { result ≡ good_stop positions.now channels.now i }
 {
     let p = item(positions, i);
-    if !float::is_finite(p) {
-        return false;
-    }
-    if !is_finite_colour(colour(channels, i)) {
-        return false;
-    }
-    if p < item(positions, less(i)) {
-        return false;
-    }
-    true
+    float::is_finite(p) && is_finite_colour(colour(channels, i)) && !(p < item(positions, less(i)))
 }
 
 // The first stop that is not, and the number of stops where all are.
 pub(crate) fn first_bad(positions: &[f32], channels: &[f32]) -> usize
     ensures { result ≡ first_bad (lent_offer positions channels) }
 {
-    let mut i = 0;
-    while i < positions.len() {
+    for i in 0..positions.len() {
         if !is_good(positions, channels, i) {
             return i;
         }
-        i += 1;
     }
-    i
+    positions.len()
 }

@@ -3,15 +3,16 @@
 #![tactic(auto)]
 
 ghost use Rattle.std.specs.Prelude.{◌≡◌};
-ghost use Rattle.stops.specs.Lent.{ramp_in, lent_ramp};
 ghost use Rattle.stops.specs.declared.Checked.TheVariants.{Fine};
 ghost use Rattle.judge.specs.Lists.{offer_in, lent_offer};
 ghost use Rattle.judge.specs.Verdicts.{ramp_check, shape_verdict, points_verdict, list_verdict};
 ghost use Rattle.judge.specs.inner.Steps.{Sound};
 ghost use Rattle.judge.specs.Promises.{Judges};
+ghost use Rattle.gradient.specs.Lent.{lent_ramp};
 
+use gradient::Ramp;
 use sampling::Sampler;
-use stops::{Checked, Kind};
+use stops::Checked;
 
 mod checks;
 mod points;
@@ -30,42 +31,22 @@ pub enum Verdict {
 }
 
 // The verdict on the colours of a list, at every point of a fresh sampling. The record is this function's own.
-fn judge_colours(
-    kind: Kind,
-    positions: &[f32],
-    channels: &[f32],
-    codes: &[u8],
-    threshold: f32,
-    places: &[f32],
-    colours: &[f32],
-) -> Verdict
-    requires codes_value { ramp_check (ramp_in kind positions channels codes) ≡ Fine }
+fn judge_colours(ramp: &Ramp<'_>, threshold: f32, places: &[f32], colours: &[f32]) -> Verdict
+    requires codes_value { ramp_check (lent_ramp ramp.now) ≡ Fine }
     requires sound { Sound (offer_in places colours) }
-    ensures { result ≡ points_verdict (lent_ramp kind positions channels codes) threshold (lent_offer places colours) }
+    ensures { result ≡ points_verdict (lent_ramp ramp.now) threshold (lent_offer places colours) }
 {
     let mut rows = [0.0f32; Sampler::CELLS * Sampler::ROW];
     let mut counts = [0u8; Sampler::CELLS];
     let mut marks = [0u32; Sampler::MARKS];
-    sampling::sample(
-        kind,
-        positions,
-        channels,
-        codes,
-        threshold,
-        &mut rows,
-        &mut counts,
-        &mut marks,
-    );
+    sampling::sample(ramp, threshold, &mut rows, &mut counts, &mut marks);
     let sampler = Sampler::new(threshold);
     points::judge_points(
-        kind,
-        positions,
-        channels,
-        codes,
+        ramp,
         sampler.threshold,
         places,
         colours,
-        gradient::max_of(kind, positions),
+        ramp.max(),
         &rows,
         &counts,
     )
@@ -94,49 +75,30 @@ pub fn check_list(min: f32, max: f32, places: &[f32], colours: &[f32]) -> Verdic
 }
 
 // The verdict on a list, of a ramp that may be sampled: its shape, then its colours.
-fn judge_list(
-    kind: Kind,
-    positions: &[f32],
-    channels: &[f32],
-    codes: &[u8],
-    threshold: f32,
-    places: &[f32],
-    colours: &[f32],
-) -> Verdict
-    requires { ramp_check (ramp_in kind positions channels codes) ≡ Fine }
-    ensures { result ≡ list_verdict (lent_ramp kind positions channels codes) threshold (lent_offer places colours) }
+fn judge_list(ramp: &Ramp<'_>, threshold: f32, places: &[f32], colours: &[f32]) -> Verdict
+    requires { ramp_check (lent_ramp ramp.now) ≡ Fine }
+    ensures { result ≡ list_verdict (lent_ramp ramp.now) threshold (lent_offer places colours) }
 {
-    let min = gradient::min_of(kind, positions);
-    let max = gradient::max_of(kind, positions);
+    let min = ramp.min();
+    let max = ramp.max();
     let shape = check_list(min, max, places, colours);
     match shape {
-        Verdict::Yes => judge_colours(kind, positions, channels, codes, threshold, places, colours),
+        Verdict::Yes => judge_colours(ramp, threshold, places, colours),
         _ => shape,
     }
 }
 
 // Whether a list shows a ramp within a threshold: yes, or what is wrong. Refusals 1 to 4 are of the ramp.
-pub fn judge(
-    kind: Kind,
-    positions: &[f32],
-    channels: &[f32],
-    codes: &[u8],
-    threshold: f32,
-    places: &[f32],
-    colours: &[f32],
-) -> Verdict
-    ensures { Judges (lent_ramp kind positions channels codes) threshold (lent_offer places colours) result }
+pub fn judge(ramp: &Ramp<'_>, threshold: f32, places: &[f32], colours: &[f32]) -> Verdict
+    ensures { Judges (lent_ramp ramp.now) threshold (lent_offer places colours) result }
 {
     match sampling::check_sample(
-        kind,
-        positions,
-        channels,
-        codes,
+        ramp,
         Sampler::CELLS * Sampler::ROW,
         Sampler::CELLS,
         Sampler::MARKS,
     ) {
         Checked::Refused(n) => Verdict::Refused(n),
-        Checked::Fine => judge_list(kind, positions, channels, codes, threshold, places, colours),
+        Checked::Fine => judge_list(ramp, threshold, places, colours),
     }
 }

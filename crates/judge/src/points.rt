@@ -1,38 +1,27 @@
 // The points of a record, one after the other: the first at which a list's colour is too far from the ramp's.
 ghost use Rattle.std.specs.Prelude.{◌≡◌, ◌+◌, ◌≤◌, length};
-ghost use Rattle.stops.specs.Lent.{lent_ramp};
 ghost use Rattle.judge.specs.Lists.{lent_offer};
 ghost use Rattle.judge.specs.inner.Steps.{Readable, any_close, far_from, record_verdict};
+ghost use Rattle.gradient.specs.Lent.{lent_ramp};
 
 use crate::Verdict;
 use difference::distance;
+use gradient::Ramp;
 use sampling::Sampler;
 use stops::Kind;
 
 // Whether the two colours at t differ by no more than the threshold. A difference that is not a number fails.
-fn is_close(
-    kind: Kind,
-    positions: &[f32],
-    channels: &[f32],
-    codes: &[u8],
-    threshold: f32,
-    places: &[f32],
-    colours: &[f32],
-    t: f32,
-) -> bool
-    ensures { result ≡ any_close (lent_ramp kind positions channels codes) (lent_offer places colours) threshold t }
+fn is_close(ramp: &Ramp<'_>, threshold: f32, places: &[f32], colours: &[f32], t: f32) -> bool
+    ensures { result ≡ any_close (lent_ramp ramp.now) (lent_offer places colours) threshold t }
 {
-    let x = gradient::colour_at(kind, positions, channels, codes, t);
+    let x = ramp.colour_at(t);
     let y = stops::colour_at(Kind::Linear, places, colours, t);
     distance(x, y) <= threshold
 }
 
 // The first of `count` points from `at` on that is too far, counted from there; `count` where none is.
 fn first_far(
-    kind: Kind,
-    positions: &[f32],
-    channels: &[f32],
-    codes: &[u8],
+    ramp: &Ramp<'_>,
     threshold: f32,
     places: &[f32],
     colours: &[f32],
@@ -41,33 +30,20 @@ fn first_far(
     count: usize,
 ) -> usize
     requires { at + count ≤ length rows.now }
-    ensures { result ≡ far_from (any_close (lent_ramp kind positions channels codes) (lent_offer places colours) threshold) rows.now at count }
+    ensures { result ≡ far_from (any_close (lent_ramp ramp.now) (lent_offer places colours) threshold) rows.now at count }
 {
-    let mut j = 0;
-    while j < count {
-        if !is_close(
-            kind,
-            positions,
-            channels,
-            codes,
-            threshold,
-            places,
-            colours,
-            rows[at + j],
-        ) {
+    let points = &rows[at..at + count];
+    for (j, &t) in points.iter().enumerate() {
+        if !is_close(ramp, threshold, places, colours, t) {
             return j;
         }
-        j += 1;
     }
-    j
+    count
 }
 
 // The verdict on the points of a record, row by row, and then on max.
 pub(crate) fn judge_points(
-    kind: Kind,
-    positions: &[f32],
-    channels: &[f32],
-    codes: &[u8],
+    ramp: &Ramp<'_>,
     threshold: f32,
     places: &[f32],
     colours: &[f32],
@@ -76,15 +52,12 @@ pub(crate) fn judge_points(
     counts: &[u8],
 ) -> Verdict
     requires { Readable rows.now counts.now }
-    ensures { result ≡ record_verdict (any_close (lent_ramp kind positions channels codes) (lent_offer places colours) threshold) rows.now counts.now max }
+    ensures { result ≡ record_verdict (any_close (lent_ramp ramp.now) (lent_offer places colours) threshold) rows.now counts.now max }
 {
-    let mut i = 0;
-    while i < Sampler::CELLS {
-        let count = counts[i] as usize;
+    for (i, &count) in counts.iter().enumerate() {
+        let count = usize::from(count);
         let at = i * Sampler::ROW;
-        let j = first_far(
-            kind, positions, channels, codes, threshold, places, colours, rows, at, count,
-        );
+        let j = first_far(ramp, threshold, places, colours, rows, at, count);
         if j < count {
             let t = rows[at + j];
             return Verdict::TooFar {
@@ -93,11 +66,8 @@ pub(crate) fn judge_points(
                 t,
             };
         }
-        i += 1;
     }
-    if !is_close(
-        kind, positions, channels, codes, threshold, places, colours, max,
-    ) {
+    if !is_close(ramp, threshold, places, colours, max) {
         return Verdict::TooFar {
             row: Sampler::CELLS,
             index: 0,

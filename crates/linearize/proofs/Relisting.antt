@@ -3,13 +3,14 @@ use mathlib.Core.Path.{◌≡◌, refl, sym, ap, ◌∙◌}
 use mathlib.Core.Logic.{⊎_elim}
 use mathlib.Core.Bool.{Bool, true, false, cond, ◌&&◌}
 use mathlib.Core.List.{List, [], ◌∷◌}
-use Prim.Native.Nat.{ℕ, zero, suc, ◌+◌, ◌-◌, ◌≤◌, ◌<◌}
+use Prim.Native.Nat.{ℕ, zero, suc, ◌+◌, ◌≤◌, ◌<◌}
 use native.Mathlib.Nat.{eq-or-lt_of_le}
 use native.Mathlib.Omega.{arith}
-use borrow.Author.Tests.{le-leb, lt-leb, leb-true}
+use borrow.Author.Tests.{leb-true}
 use lib.Dec.{leb}
 use lib.ListN.{length, get_or, replicate}
 use lib.Ieee.{Float}
+use Rattle.std.specs.Prelude.{◌↔◌, IsTrue, EachIndex}
 use Rattle.refusals.specs.Refusals.{bad_record}
 use Rattle.float.proofs.Flags.{both_l, both_r}
 use Rattle.stops.specs.declared.Checked.{Checked}
@@ -45,34 +46,9 @@ use Rattle.places.proofs.Following.{list_some, list_most}
 use Rattle.linearize.proofs.Answers.{Lists, tells, added, both}
 
 -- ---- the counts of the cells kept
-module _ (n : ℕ) where
-  pub not_kept : (k : Bool) → k ≡ false → true ≡ count_fits k n
-  unfolding count_fits
-  not_kept k e = rw e
-
-  module _ (k : Bool) (e : k ≡ true) where
-    pub count_small : n < 1 → false ≡ count_fits k n
-    unfolding count_fits
-    count_small h = rw (e, lt-leb 1 n h)
-
-    pub count_last : 1 ≤ n → leb n 128 ≡ count_fits k n
-    unfolding count_fits
-    count_last h = rw (e, le-leb 1 n h)
-
-module _ (keep : ℕ → Bool) (counts : List ℕ) (i : ℕ) (l : i < 36) where
-  one_more : counts_fit keep counts i (36 - i) ≡ (count_fits (keep i) (get_or counts i 0) && counts_fit keep counts (i + 1) (36 - (i + 1)))
-  unfolding counts_fit
-  one_more = let e : 36 - i ≡ suc (36 - (i + 1)) = omega arith in rw e
-
-  pub stops_here : false ≡ count_fits (keep i) (get_or counts i 0) → counts_fit keep counts i (36 - i) ≡ false
-  stops_here h = one_more ∙ rw (← h)
-
-  pub goes_on : true ≡ count_fits (keep i) (get_or counts i 0) → counts_fit keep counts (i + 1) (36 - (i + 1)) ≡ counts_fit keep counts i (36 - i)
-  goes_on h = sym (one_more ∙ rw (← h))
-
-pub all_fit : (keep : ℕ → Bool) (counts : List ℕ) (i : ℕ) → 36 ≤ i → counts_fit keep counts i (36 - i) ≡ true
-unfolding counts_fit
-all_fit keep counts i h = let e : 36 - i ≡ 0 = omega arith in rw e
+not_kept : (k : Bool) (n : ℕ) → k ≡ false → true ≡ count_fits k n
+unfolding count_fits
+not_kept k n e = rw e
 
 each_fits : (keep : ℕ → Bool) (counts : List ℕ) (i n : ℕ) → counts_fit keep counts i n ≡ true → (j : ℕ) → i ≤ j → j < i + n → count_fits (keep j) (get_or counts j 0) ≡ true
 unfolding counts_fit
@@ -83,10 +59,26 @@ each_fits keep counts i (suc n) e j h l =
     (λ q. each_fits keep counts (i + 1) n (both_r (count_fits (keep i) (get_or counts i 0)) (counts_fit keep counts (i + 1) n) e) j (omega arith) (omega arith))
     (eq-or-lt_of_le {n = i} {m = j} h)
 
+all_fit : (keep : ℕ → Bool) (counts : List ℕ) (i n : ℕ) → ((j : ℕ) → i ≤ j → j < i + n → count_fits (keep j) (get_or counts j 0) ≡ true) → counts_fit keep counts i n ≡ true
+unfolding counts_fit
+all_fit keep counts i zero each = refl
+all_fit keep counts i (suc n) each =
+    rw (each i (omega arith) (omega arith)) (all_fit keep counts (i + 1) n (λ j h l. each j (omega arith) (omega arith)))
+
+-- a test that holds exactly where the count of each cell kept fits
+pub fits_is : (ks : List Bool) (counts : List ℕ) (r : Bool) → length ks ≡ 36
+    → IsTrue r ↔ EachIndex ks (λ i. IsTrue (count_fits (get_or ks i false) (get_or counts i 0))) → r ≡ kept_good ks counts
+fits_is ks counts true many w = sym (all_fit (kept_by ks) counts 0 36 (λ j h l. w.0 refl j (omega arith)))
+fits_is ks counts false many w = by (kept_good ks counts) refl
+  where
+    by : (b : Bool) → kept_good ks counts ≡ b → false ≡ b
+    by true e = w.1 (λ i h. each_fits (kept_by ks) counts 0 36 e i (omega arith) (omega arith))
+    by false e = refl
+
 none_fit : (counts : List ℕ) (i n : ℕ) → counts_fit (kept_by (replicate 36 false)) counts i n ≡ true
 unfolding counts_fit
 none_fit counts i zero = refl
-none_fit counts i (suc n) = rw (← not_kept (get_or counts i 0) (kept_by (replicate 36 false) i) (none_there 36 i)) (none_fit counts (i + 1) n)
+none_fit counts i (suc n) = rw (← not_kept (kept_by (replicate 36 false) i) (get_or counts i 0) (none_there 36 i)) (none_fit counts (i + 1) n)
   where
     none_there : (m j : ℕ) → get_or (replicate m false) j false ≡ false
     none_there zero j = refl

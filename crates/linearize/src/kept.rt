@@ -12,30 +12,20 @@ use sampling::Sampler;
 use stops::Checked;
 
 // The count of a kept cell is 1 to 128.
+#[tactic(auto, unfolding(crate::specs::Relist::count_fits))]
 fn count_fits(kept: bool, n: usize) -> bool
     ensures { result ≡ count_fits kept n }
 {
-    if !kept {
-        return true;
-    }
-    if n < 1 {
-        return false;
-    }
-    n <= Sampler::ROW
+    !kept || (1..=Sampler::ROW).contains(&n)
 }
 
 // The counts of all cells kept are. Without a count a cell has 0.
 pub(crate) fn kept_good(keep: [bool; 36], counts: &[u8]) -> bool
     ensures { result ≡ kept_good keep counts.now }
 {
-    let mut i = 0;
-    while i < Sampler::CELLS {
-        if !count_fits(keep[i], count_at(counts, i)) {
-            return false;
-        }
-        i += 1;
-    }
-    true
+    keep.iter()
+        .enumerate()
+        .all(|(i, kept)| count_fits(*kept, count_at(counts, i)))
 }
 
 // The refusal of a record in which the count of a kept cell is none: that of the check before it, or 5.

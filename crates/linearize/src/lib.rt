@@ -4,16 +4,17 @@
 ghost use Rattle.std.specs.Prelude.{◌≡◌};
 ghost use Rattle.linearize.specs.Relist.{Relists};
 ghost use Rattle.linearize.specs.Desk.{after_spending};
-ghost use Rattle.stops.specs.Lent.{lent_ramp};
 ghost use Rattle.sampling.specs.Lent.{lent_held, shared_held};
 ghost use Rattle.linearize.specs.Lent.{lent_output};
 ghost use Rattle.linearize.specs.Promises.{Thins, Flattens};
+ghost use Rattle.gradient.specs.Lent.{lent_ramp};
 
 use crate::kept::{kept_good, refused_by};
+use gradient::Ramp;
 use records::check_thin;
 pub use sampling::{Sampled, Sampler, resample, sample};
 use sampling::{check_sample, cutoff_of};
-use stops::{Checked, Kind};
+use stops::Checked;
 use thinning::sum;
 
 mod kept;
@@ -28,10 +29,7 @@ pub enum Listed {
 
 // Thins a record to stops in the lent outputs. Refusals 1 to 5 and 20 leave the outputs as they were, 7 to 9 set them to zero.
 pub fn thin(
-    kind: Kind,
-    positions: &[f32],
-    channels: &[f32],
-    codes: &[u8],
+    ramp: &Ramp<'_>,
     threshold: f32,
     rows: &[f32],
     counts: &[u8],
@@ -39,18 +37,14 @@ pub fn thin(
     places: &mut [f32],
     colours: &mut [f32],
 ) -> Listed
-    ensures { Thins (lent_ramp kind positions channels codes) threshold (shared_held rows counts marks).entry (lent_output places colours) result }
+    ensures { Thins (lent_ramp ramp.now) threshold (shared_held rows counts marks).entry (lent_output places colours) result }
 {
-    match check_thin(
-        kind, positions, channels, codes, threshold, rows, counts, marks,
-    ) {
+    match check_thin(ramp, threshold, rows, counts, marks) {
         Checked::Refused(n) => Listed::Refused(n),
         Checked::Fine => {
             let cutoff = cutoff_of(threshold);
-            let max = gradient::max_of(kind, positions);
-            listing::thin_record(
-                kind, positions, channels, codes, cutoff, max, rows, counts, places, colours,
-            )
+            let max = ramp.max();
+            listing::thin_record(ramp, cutoff, max, rows, counts, places, colours)
         }
     }
 }
@@ -74,10 +68,7 @@ pub fn after(spent: usize, made: Listed) -> Listed
 // Samples a ramp into the lent record but for the cells kept, then makes the list of its points. Refusals 1 to 5 leave all
 // as it was; after 7 to 9 the record is the one sampled anew and the outputs are zero. The ramp is checked once.
 pub fn relist(
-    kind: Kind,
-    positions: &[f32],
-    channels: &[f32],
-    codes: &[u8],
+    ramp: &Ramp<'_>,
     threshold: f32,
     keep: [bool; 36],
     rows: &mut [f32],
@@ -86,29 +77,17 @@ pub fn relist(
     places: &mut [f32],
     colours: &mut [f32],
 ) -> Listed
-    ensures { Relists (lent_ramp kind positions channels codes) threshold keep (lent_held rows counts marks) (lent_output places colours) result }
+    ensures { Relists (lent_ramp ramp.now) threshold keep (lent_held rows counts marks) (lent_output places colours) result }
 {
     if !kept_good(keep, counts) {
-        return refused_by(check_sample(
-            kind,
-            positions,
-            channels,
-            codes,
-            rows.len(),
-            counts.len(),
-            marks.len(),
-        ));
+        return refused_by(check_sample(ramp, rows.len(), counts.len(), marks.len()));
     }
-    match resample(
-        kind, positions, channels, codes, threshold, keep, rows, counts, marks,
-    ) {
+    match resample(ramp, threshold, keep, rows, counts, marks) {
         Sampled::Refused(n) => Listed::Refused(n),
         Sampled::Done(n) => {
             let cutoff = cutoff_of(threshold);
-            let max = gradient::max_of(kind, positions);
-            let made = listing::thin_record(
-                kind, positions, channels, codes, cutoff, max, rows, counts, places, colours,
-            );
+            let max = ramp.max();
+            let made = listing::thin_record(ramp, cutoff, max, rows, counts, places, colours);
             after(n, made)
         }
     }
@@ -117,10 +96,7 @@ pub fn relist(
 // A fresh sampling into the lent record, then the list of its points. Refusals 1 to 5 leave all as it was; after 7 to 9 the
 // record is the fresh one and the outputs are zero.
 pub fn flatten(
-    kind: Kind,
-    positions: &[f32],
-    channels: &[f32],
-    codes: &[u8],
+    ramp: &Ramp<'_>,
     threshold: f32,
     rows: &mut [f32],
     counts: &mut [u8],
@@ -128,13 +104,10 @@ pub fn flatten(
     places: &mut [f32],
     colours: &mut [f32],
 ) -> Listed
-    ensures { Flattens (lent_ramp kind positions channels codes) threshold (lent_held rows counts marks) (lent_output places colours) result }
+    ensures { Flattens (lent_ramp ramp.now) threshold (lent_held rows counts marks) (lent_output places colours) result }
 {
     relist(
-        kind,
-        positions,
-        channels,
-        codes,
+        ramp,
         threshold,
         [false; 36],
         rows,

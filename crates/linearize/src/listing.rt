@@ -8,23 +8,20 @@ ghost use Rattle.linearize.specs.Desk.{listed_of};
 ghost use Rattle.stops.specs.declared.Checked.TheVariants.{Fine};
 ghost use Rattle.linearize.specs.inner.Steps.{Started, points, MakesList, ThinsAll, ThinsRest};
 ghost use Rattle.linearize.specs.Lent.{lent_output};
-ghost use Rattle.stops.specs.Lent.{ramp_in, lent_ramp};
+ghost use Rattle.gradient.specs.Lent.{lent_ramp};
 
 use crate::Listed;
+use gradient::Ramp;
 use places::{RowPlace, next_place, point_at};
 use sampling::Sampler;
 use sampling::cells::{evaluate, evaluate_along};
 use slices::zero_from;
-use stops::Kind;
 use thinning::{Progress, emit, room_of, step};
 
 // Thins the points after the first, from place to place; the last is always kept. The pair of the last point goes along, drawn
 // where the ramp is Catmull-Rom.
 fn thin_points(
-    kind: Kind,
-    positions: &[f32],
-    channels: &[f32],
-    codes: &[u8],
+    ramp: &Ramp<'_>,
     cutoff: f32,
     max: f32,
     room: usize,
@@ -34,33 +31,17 @@ fn thin_points(
     places: &mut [f32],
     colours: &mut [f32],
 ) -> Progress
-    requires ready { Ready rows.now counts.now × Started (colour_of (ramp_in kind positions channels codes)) room start }
-    requires codes_value { check_of (ramp_in kind positions channels codes) ≡ Fine }
-    ensures { ThinsRest (lent_ramp kind positions channels codes) cutoff room (points rows counts max) start (lent_output places colours) result }
+    requires ready { Ready rows.now counts.now × Started (colour_of (lent_ramp ramp.now)) room start }
+    requires codes_value { check_of (lent_ramp ramp.now) ≡ Fine }
+    ensures { ThinsRest (lent_ramp ramp.now) cutoff room (points rows counts max) start (lent_output places colours) result }
 {
     let mut drawn = [[0.0f32; 4]; 7];
     let mut s = start;
     let mut place = next_place(counts, RowPlace { row: 0, index: 0 });
-    let mut x = evaluate_along(
-        kind,
-        positions,
-        channels,
-        codes,
-        point_at(rows, max, place),
-        0,
-        &mut drawn,
-    );
+    let mut x = evaluate_along(ramp, point_at(rows, max, place), 0, &mut drawn);
     while place.row < Sampler::CELLS {
         let after = next_place(counts, place);
-        let next = evaluate_along(
-            kind,
-            positions,
-            channels,
-            codes,
-            point_at(rows, max, after),
-            x.pair,
-            &mut drawn,
-        );
+        let next = evaluate_along(ramp, point_at(rows, max, after), x.pair, &mut drawn);
         s = step(cutoff, room, s, x, next, places, colours);
         let refusal = s.refusal;
         if refusal != 0 {
@@ -74,10 +55,7 @@ fn thin_points(
 
 // Thins a record's points: a stop for the first, and the others weighed.
 fn thin_all(
-    kind: Kind,
-    positions: &[f32],
-    channels: &[f32],
-    codes: &[u8],
+    ramp: &Ramp<'_>,
     cutoff: f32,
     max: f32,
     room: usize,
@@ -86,10 +64,10 @@ fn thin_all(
     places: &mut [f32],
     colours: &mut [f32],
 ) -> Progress
-    requires { Ready rows.now counts.now × (check_of (ramp_in kind positions channels codes) ≡ Fine) }
-    ensures { ThinsAll (lent_ramp kind positions channels codes) cutoff room (points rows counts max) (lent_output places colours) result }
+    requires { Ready rows.now counts.now × (check_of (lent_ramp ramp.now) ≡ Fine) }
+    ensures { ThinsAll (lent_ramp ramp.now) cutoff room (points rows counts max) (lent_output places colours) result }
 {
-    let first = evaluate(kind, positions, channels, codes, rows[0], 1);
+    let first = evaluate(ramp, rows[0], 1);
     let start = Progress {
         last: first,
         stops: 0,
@@ -101,9 +79,7 @@ fn thin_all(
     if refusal != 0 {
         return s;
     }
-    thin_points(
-        kind, positions, channels, codes, cutoff, max, room, s, rows, counts, places, colours,
-    )
+    thin_points(ramp, cutoff, max, room, s, rows, counts, places, colours)
 }
 
 // The answer; a refusal sets both outputs to zero.
@@ -127,10 +103,7 @@ fn finish(s: Progress, places: &mut [f32], colours: &mut [f32]) -> Listed
 
 // Thins a record's points, and writes the stops.
 pub(crate) fn thin_record(
-    kind: Kind,
-    positions: &[f32],
-    channels: &[f32],
-    codes: &[u8],
+    ramp: &Ramp<'_>,
     cutoff: f32,
     max: f32,
     rows: &[f32],
@@ -138,12 +111,10 @@ pub(crate) fn thin_record(
     places: &mut [f32],
     colours: &mut [f32],
 ) -> Listed
-    requires { Ready rows.now counts.now × (check_of (ramp_in kind positions channels codes) ≡ Fine) }
-    ensures { MakesList (lent_ramp kind positions channels codes) cutoff (points rows counts max) (lent_output places colours) result }
+    requires { Ready rows.now counts.now × (check_of (lent_ramp ramp.now) ≡ Fine) }
+    ensures { MakesList (lent_ramp ramp.now) cutoff (points rows counts max) (lent_output places colours) result }
 {
     let room = room_of(places.len(), colours.len());
-    let s = thin_all(
-        kind, positions, channels, codes, cutoff, max, room, rows, counts, places, colours,
-    );
+    let s = thin_all(ramp, cutoff, max, room, rows, counts, places, colours);
     finish(s, places, colours)
 }

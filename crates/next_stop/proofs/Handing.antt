@@ -4,7 +4,7 @@ use mathlib.Core.Bool.{Bool, true, false, cond}
 use mathlib.Core.List.{List}
 use Prim.Native.Nat.{ℕ, zero, suc, ◌+◌, ◌*◌, ◌≤◌, ◌<◌}
 use native.Mathlib.Omega.{arith}
-use borrow.Author.Tests.{lt-ltb, le-ltb, ltb-true, eq-eqb, ne_eqb}
+use borrow.Author.Tests.{lt-ltb, le-ltb, ltb-true}
 use lib.Dec.{ltb, eqb}
 use lib.ListN.{get_or}
 use lib.Ieee.{Float}
@@ -34,23 +34,7 @@ use Rattle.next_stop.specs.declared.Told.TheVariants as told
 
 -- ---- a place of the record
 module _ (counts : List ℕ) (p : ListPlace) where
-  pub start_within : p ≡ place.Start → true ≡ is_within counts p
-  unfolding is_within
-  start_within e = rw e
-
-  pub end_within : p ≡ place.Ended → true ≡ is_within counts p
-  unfolding is_within
-  end_within e = rw e
-
   module _ (row index : ℕ) (e : p ≡ place.After row index) where
-    pub past_the_rows : 36 ≤ row → false ≡ is_within counts p
-    unfolding is_within
-    past_the_rows h = rw (e, le-ltb row 36 h)
-
-    pub in_the_rows : row < 36 → {n : ℕ} → n ≡ get_or counts row 0 → ltb index n ≡ is_within counts p
-    unfolding is_within
-    in_the_rows h f = rw (e, lt-ltb row 36 h, f)
-
     -- such a place is one of the record's points
     pub within_row : is_within counts p ≡ true → row < 36
     unfolding is_within
@@ -65,24 +49,6 @@ module _ (counts : List ℕ) (p : ListPlace) where
         }
 
 -- ---- the check
-module _ (w : Bool) (c : Checked) where
-  pub place_there : w ≡ true → c ≡ placed_check w c
-  unfolding placed_check
-  place_there e = rw e
-
-  module _ (e : w ≡ false) where
-    pub place_outside : c ≡ checked.Fine → checked.Refused bad_record ≡ placed_check w c
-    unfolding placed_check
-    place_outside f = rw (e, f)
-
-    pub before_twenty : (n : ℕ) → c ≡ checked.Refused n → n ≡ 20 → checked.Refused bad_record ≡ placed_check w c
-    unfolding placed_check
-    before_twenty n f h = rw (e, f, eq-eqb n 20 h)
-
-    pub after_others : (n : ℕ) → c ≡ checked.Refused n → (n ≡ 20 → ⊥) → checked.Refused n ≡ placed_check w c
-    unfolding placed_check
-    after_others n f h = rw (e, f, ne_eqb n 20 h)
-
 -- a step whose check is passed has a place of the record, and a record that may be thinned
 pub both_fine : (w : Bool) (c : Checked) → placed_check w c ≡ checked.Fine → (w ≡ true) × (c ≡ checked.Fine)
 unfolding placed_check

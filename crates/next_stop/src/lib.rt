@@ -3,7 +3,6 @@
 #![tactic(auto)]
 
 ghost use Rattle.std.specs.Prelude.{◌≡◌, true, ◌+◌, ◌*◌, ◌≤◌};
-ghost use Rattle.stops.specs.Lent.{ramp_in, lent_ramp};
 ghost use Rattle.stops.specs.declared.Checked.TheVariants.{Fine};
 ghost use Rattle.gradient.specs.Ramp.{check_of, colour_of};
 ghost use Rattle.difference.specs.Difference.{exceeds};
@@ -12,14 +11,16 @@ ghost use Rattle.sampling.specs.Lent.{shared_held};
 ghost use Rattle.places.specs.Places.{Ready};
 ghost use Rattle.thinning.specs.Kept.{stop_refusal};
 ghost use Rattle.next_stop.specs.Step.{is_within, placed_check, list_place_of, stop_with, handed_by, handed_from, HandsOut};
+ghost use Rattle.gradient.specs.Lent.{lent_ramp};
 
 use crate::walk::{find, lone_point};
 use blend::Stop;
+use gradient::Ramp;
 use places::{RowPlace, count_at, point_at};
 use records::check_thin;
 use refusals::{BAD_RECORD, OTHER_THRESHOLD};
 use sampling::{Point, Sampler, cutoff_of};
-use stops::{Checked, Kind};
+use stops::Checked;
 use thinning::stop_refusal;
 
 mod walk;
@@ -58,51 +59,42 @@ pub(crate) struct Found {
 }
 
 // A place of the record: it has that row, and the row has that point. Start and end are none, and always there.
+#[tactic(auto, unfolding(crate::specs::Step::is_within))]
 fn is_within(counts: &[u8], place: ListPlace) -> bool
     ensures { result ≡ is_within counts.now place }
 {
     match place {
-        ListPlace::Start => true,
-        ListPlace::Ended => true,
-        ListPlace::After { row, index } => {
-            if row >= Sampler::CELLS {
-                return false;
-            }
-            index < count_at(counts, row)
-        }
+        ListPlace::Start | ListPlace::Ended => true,
+        ListPlace::After { row, index } => row < Sampler::CELLS && index < count_at(counts, row),
     }
 }
 
 // The record's refusal, with 5 of a place outside after the other fives and before 20.
+#[tactic(auto, unfolding(crate::specs::Step::placed_check))]
 fn placed_check(within: bool, checked: Checked) -> Checked
     ensures { result ≡ placed_check within checked }
 {
-    if within {
-        return checked;
-    }
-    match checked {
-        Checked::Fine => Checked::Refused(BAD_RECORD),
-        Checked::Refused(n) => {
-            if n == OTHER_THRESHOLD {
-                return Checked::Refused(BAD_RECORD);
-            }
-            Checked::Refused(n)
-        }
+    let comes_later = matches!(checked, Checked::Fine | Checked::Refused(OTHER_THRESHOLD));
+    if !within && comes_later {
+        Checked::Refused(BAD_RECORD)
+    } else {
+        checked
     }
 }
 
 // The place after the stop at a place: max is the last.
+#[tactic(auto, unfolding(crate::specs::Step::list_place_of))]
 fn place_of(at: RowPlace) -> ListPlace
     ensures { result ≡ list_place_of at }
 {
-    let row = at.row;
-    if row < Sampler::CELLS {
-        return ListPlace::After {
-            row,
+    if at.row < Sampler::CELLS {
+        ListPlace::After {
+            row: at.row,
             index: at.index,
-        };
+        }
+    } else {
+        ListPlace::Ended
     }
-    ListPlace::Ended
 }
 
 // The stop at p, after the one at `last`, is handed out or refused; there is room for one stop, and so no 7.
@@ -132,19 +124,16 @@ fn hand_out(last: f32, p: Point, tried: usize, at: RowPlace) -> Handed
 
 // A step whose check is passed.
 fn step_from(
-    kind: Kind,
-    positions: &[f32],
-    channels: &[f32],
-    codes: &[u8],
+    ramp: &Ramp<'_>,
     cutoff: f32,
     max: f32,
     rows: &[f32],
     counts: &[u8],
     place: ListPlace,
 ) -> Handed
-    requires ready { Ready rows.now counts.now × (check_of (ramp_in kind positions channels codes) ≡ Fine) }
+    requires ready { Ready rows.now counts.now × (check_of (lent_ramp ramp.now) ≡ Fine) }
     requires place_value { is_within counts.now place ≡ true }
-    ensures { result ≡ handed_from (colour_of (lent_ramp kind positions channels codes)) (exceeds cutoff) rows.now counts.now max place }
+    ensures { result ≡ handed_from (colour_of (lent_ramp ramp.now)) (exceeds cutoff) rows.now counts.now max place }
 {
     match place {
         ListPlace::Ended => Handed {
@@ -154,14 +143,12 @@ fn step_from(
         },
         ListPlace::Start => {
             let at = RowPlace { row: 0, index: 0 };
-            let p = lone_point(kind, positions, channels, codes, point_at(rows, max, at), 1);
+            let p = lone_point(ramp, point_at(rows, max, at), 1);
             hand_out(p.t, p, 0, at)
         }
         ListPlace::After { row, index } => {
             let at = RowPlace { row, index };
-            let f = find(
-                kind, positions, channels, codes, cutoff, max, rows, counts, at,
-            );
+            let f = find(ramp, cutoff, max, rows, counts, at);
             let p = f.point;
             let next = f.place;
             hand_out(f.last, p, f.tried, next)
@@ -172,21 +159,16 @@ fn step_from(
 // Hands out the next stop after a place. Nothing lent is written; refusals 1 to 5 and 20 leave the place as it was, after 8 and 9
 // nothing more comes.
 pub fn next_stop(
-    kind: Kind,
-    positions: &[f32],
-    channels: &[f32],
-    codes: &[u8],
+    ramp: &Ramp<'_>,
     threshold: f32,
     rows: &[f32],
     counts: &[u8],
     marks: &[u32],
     place: ListPlace,
 ) -> Handed
-    ensures { HandsOut (lent_ramp kind positions channels codes) threshold (shared_held rows counts marks).entry place result }
+    ensures { HandsOut (lent_ramp ramp.now) threshold (shared_held rows counts marks).entry place result }
 {
-    let checked = check_thin(
-        kind, positions, channels, codes, threshold, rows, counts, marks,
-    );
+    let checked = check_thin(ramp, threshold, rows, counts, marks);
     match placed_check(is_within(counts, place), checked) {
         Checked::Refused(n) => Handed {
             told: Told::Refused(n),
@@ -195,10 +177,8 @@ pub fn next_stop(
         },
         Checked::Fine => {
             let cutoff = cutoff_of(threshold);
-            let max = gradient::max_of(kind, positions);
-            step_from(
-                kind, positions, channels, codes, cutoff, max, rows, counts, place,
-            )
+            let max = ramp.max();
+            step_from(ramp, cutoff, max, rows, counts, place)
         }
     }
 }

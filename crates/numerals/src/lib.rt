@@ -13,6 +13,7 @@ const LEAST: f32 = 0.000001;
 const MOST: f32 = 1000000.0;
 
 // A number as text: the first len of the bytes, and 0 after them. There is none where the number cannot be written.
+// The bytes lie in it, as there is no heap, and a len of 0 says none, as the contract of `write` does, on which C's calls rest.
 #[derive(Clone, Copy)]
 pub struct Numeral {
     pub bytes: [u8; 18],
@@ -88,10 +89,7 @@ fn nine_text(m: u64, shift: u64, neg: bool) -> Numeral
     ensures { TextIs (signed neg (nine m (2 ^ shift) (places 15 m (2 ^ shift) 0))) result.bytes result.len }
 {
     let mut bytes = [0u8; 18];
-    let f = settled(m, shift);
-    let d = f.d;
-    let k = f.k;
-    let ten = f.ten;
+    let Nine { d, k, ten } = settled(m, shift);
     if neg {
         bytes[0] = b'-';
         let n = put_plain(&mut bytes, 1, d, k, ten);
@@ -114,10 +112,7 @@ fn settled(m: u64, shift: u64) -> Nine
     requires { Ranging m shift }
     ensures { Settled m shift result.d result.k result.ten }
 {
-    let f = nine_of(m, shift);
-    let d = f.d;
-    let k = f.k;
-    let ten = f.ten;
+    let Nine { d, k, ten } = nine_of(m, shift);
     if d == 1000000000 {
         return Nine {
             d: 100000000,
@@ -176,11 +171,9 @@ fn put_digits(out: &mut [u8], at: usize, w: usize, x: u64)
     requires { at + w ≤ length out.old }
     ensures { out.new ≡ sets out.old at (digits w x) }
 {
-    let mut i = w;
     let mut y = x;
-    while 0 < i {
-        i -= 1;
-        out[at + i] = (48 + y % 10) as u8;
-        y = y / 10;
+    for i in (0..w).rev() {
+        out[at + i] = b'0' + (y % 10) as u8;
+        y /= 10;
     }
 }

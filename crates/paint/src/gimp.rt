@@ -11,8 +11,8 @@ use crate::put_colour;
 use blend::Rgba;
 use gradient::gimp;
 use gradient::gimp::Segment;
+use stops::BLACK;
 
-mod costly;
 mod search;
 
 // Segment i. `gradient` reads the same segment from any slices at all; this reading makes fewer tests, because it is done
@@ -40,20 +40,14 @@ fn point_or(ts: &[f32], j: usize, end: usize, other: f32) -> f32
     requires { end ≤ length ts.now }
     ensures { Peeked ts.now j end other result }
 {
-    if j < end {
-        return ts[j];
-    }
-    other
+    if j < end { ts[j] } else { other }
 }
 
 // The same test as `is_inside` of `search`, branched: of points in order nearly every one lies inside, so the branch is guessed rightly.
 fn is_strictly_inside(left: f32, right: f32, t: f32) -> bool
     ensures { result ≡ strictly_inside left right t }
 {
-    if left < t {
-        return t < right;
-    }
-    false
+    left < t && t < right
 }
 
 // The colour at a place of a segment that is neither by hue nor curved. A step takes one of the two ends by its number: no branch
@@ -63,17 +57,31 @@ fn shade(g: Segment, ends: &[f32], pivot: f32, place: f32) -> Rgba
     ensures { result ≡ blended g pivot place }
 {
     if g.blending == gimp::STEP {
-        return colour(ends, (place >= pivot) as usize);
+        colour(ends, (place >= pivot) as usize)
+    } else if g.blending == gimp::SINUSOIDAL {
+        gimp::blend_wave(g, pivot, place)
+    } else {
+        gimp::blend(g, pivot, place)
     }
-    if g.blending == gimp::SINUSOIDAL {
-        return gimp::blend_wave(g, pivot, place);
+}
+
+// The colour at a place of a segment, by hue or curved where COSTLY says so.
+fn shade_by<const COSTLY: bool>(g: Segment, ends: &[f32], pivot: f32, place: f32) -> Rgba
+    requires { (is_costly g.blending g.colouring ≡ COSTLY) × (ends.now ≡ channels_of g.lcolor ++ channels_of g.rcolor) }
+    ensures { result ≡ blended g pivot place }
+{
+    if COSTLY {
+        gimp::blend_costly(g, pivot, place)
+    } else {
+        shade(g, ends, pivot, place)
     }
-    gimp::blend(g, pivot, place)
 }
 
 // Paints from point `start`, whose segment is s, as far as the points before `end` lie in it. Gives the first that is
 // left. The place of the next point is worked out before the colour of this one, so that its division does not wait.
-fn paint_held(
+// A segment that is by hue or curved has its own instance: its colour is asked for by a call, for which the loop of the
+// others would keep the whole segment in memory.
+fn paint_held<const COSTLY: bool>(
     positions: &[f32],
     channels: &[f32],
     codes: &[u8],
@@ -84,7 +92,7 @@ fn paint_held(
     end: usize,
 ) -> usize
     requires fits { Fits positions.now channels.now codes.now ts.now out.old }
-    requires starts { Starts positions.now ts.now s start end × (is_costly (blending_at codes.now s) (colouring_at codes.now s) ≡ false) }
+    requires starts { Starts positions.now ts.now s start end × (is_costly (blending_at codes.now s) (colouring_at codes.now s) ≡ COSTLY) }
     ensures { Written (gimp_colour positions.now channels.now codes.now) ts.now start result out.old out.new }
 {
     let g = hold(positions, channels, codes, s);
@@ -98,7 +106,7 @@ fn paint_held(
     while on {
         let t = point_or(ts, i + 1, end, g.left);
         let ahead = gimp::place_along(g.left, g.right, t);
-        let c = shade(g, &ends, pivot, place);
+        let c = shade_by::<COSTLY>(g, &ends, pivot, place);
         put_colour(out, 4 * i, c);
         i += 1;
         place = ahead;
@@ -123,24 +131,16 @@ fn paint_on(
 {
     let t = ts[i];
     if gimp::is_off_domain(t) {
-        let black = Rgba {
-            r: 0.0,
-            g: 0.0,
-            b: 0.0,
-            a: 1.0,
-        };
-        put_colour(out, 4 * i, black);
+        put_colour(out, 4 * i, BLACK);
         return i + 1;
     }
     let s = search::find_segment(positions, t, orderly);
-    let mut end = i + 1;
-    if orderly {
-        end = ts.len();
-    }
+    let end = if orderly { ts.len() } else { i + 1 };
     if gimp::is_costly(codes[2 * s], codes[2 * s + 1]) {
-        return costly::paint_costly(positions, channels, codes, ts, out, s, i, end);
+        paint_held::<true>(positions, channels, codes, ts, out, s, i, end)
+    } else {
+        paint_held::<false>(positions, channels, codes, ts, out, s, i, end)
     }
-    paint_held(positions, channels, codes, ts, out, s, i, end)
 }
 
 // Writes the colours at ts, four channels for each, one segment after the other.
@@ -150,6 +150,8 @@ pub(crate) fn paint(positions: &[f32], channels: &[f32], codes: &[u8], ts: &[f32
 {
     let orderly = search::is_orderly(positions);
     let mut i = 0;
+
+    // A turn paints as many points as lie in one segment.
     while i < ts.len() {
         i = paint_on(positions, channels, codes, ts, out, orderly, i);
     }

@@ -5,7 +5,6 @@
 ghost use Rattle.std.specs.Prelude.{◌≡◌, ◌+◌, ◌*◌, ◌≤◌, length};
 ghost use Rattle.std.proofs.lemmas.List.Edits.{sets};
 ghost use Rattle.blend.specs.Channels.{channels_of};
-ghost use Rattle.stops.specs.Lent.{ramp_in, lent_ramp};
 ghost use Rattle.stops.specs.Near.{segment_for};
 ghost use Rattle.stops.specs.Segments.{Segments};
 ghost use Rattle.stops.specs.declared.Checked.TheVariants.{Fine};
@@ -13,8 +12,10 @@ ghost use Rattle.gradient.specs.Ramp.{check_of, colour_of};
 ghost use Rattle.paint.specs.Canvas.{painted_over};
 ghost use Rattle.paint.specs.Promises.{AtIs, PaintIs};
 ghost use Rattle.paint.specs.inner.Steps.{stop_colour, Paintable};
+ghost use Rattle.gradient.specs.Lent.{lent_ramp};
 
 use blend::Rgba;
+use gradient::Ramp;
 use refusals::NO_ROOM;
 use stops::{Checked, Kind, near, segments};
 
@@ -35,13 +36,11 @@ pub enum Painted {
     Refused(u8),
 }
 
-pub fn at(kind: Kind, positions: &[f32], channels: &[f32], codes: &[u8], t: f32) -> ColourAnswer
-    ensures { AtIs (lent_ramp kind positions channels codes) t result }
+pub fn at(ramp: &Ramp<'_>, t: f32) -> ColourAnswer
+    ensures { AtIs (lent_ramp ramp.now) t result }
 {
-    match gradient::check(kind, positions, channels, codes) {
-        Checked::Fine => ColourAnswer::Colour(gradient::colour_at(
-            kind, positions, channels, codes, t,
-        )),
+    match ramp.check() {
+        Checked::Fine => ColourAnswer::Colour(ramp.colour_at(t)),
         Checked::Refused(n) => ColourAnswer::Refused(n),
     }
 }
@@ -66,14 +65,11 @@ fn paint_stops(kind: Kind, positions: &[f32], channels: &[f32], ts: &[f32], out:
 {
     let span = pairs::span_of(positions.len());
     let mut k = 0;
-    let mut i = 0;
-    while i < ts.len() {
-        let t = ts[i];
+    for (i, &t) in ts.iter().enumerate() {
         let place = pairs::find_place(positions, t, k, span);
         k = near::pair_or(place, k);
         let c = pairs::colour_in(kind, positions, channels, t, place);
         put_colour(out, 4 * i, c);
-        i += 1;
     }
 }
 
@@ -91,9 +87,10 @@ fn renewed(
     ensures { result ≡ segment_for channels.now n j }
 {
     if j == k {
-        return s;
+        s
+    } else {
+        segments::segment(channels, n, 0, table, j)
     }
-    segments::segment(channels, n, 0, table, j)
 }
 
 // Catmull-Rom stops at ts, with a table of segments in hand. A segment is kept while the pair stays.
@@ -111,9 +108,7 @@ fn paint_catmull(
     let n = positions.len();
     let mut k = 1;
     let mut s = near::segment_for(channels, n, 1);
-    let mut i = 0;
-    while i < ts.len() {
-        let t = ts[i];
+    for (i, &t) in ts.iter().enumerate() {
         let place = near::find_place(positions, t, k);
         let j = near::pair_or(place, k);
         let fresh = renewed(channels, n, s, k, j, table);
@@ -121,7 +116,6 @@ fn paint_catmull(
         k = j;
         let c = near::segment_colour(positions, channels, s, t, place);
         put_colour(out, 4 * i, c);
-        i += 1;
     }
 }
 
@@ -137,8 +131,7 @@ fn paint_tabled(
     ensures { out.new ≡ painted_over (stop_colour Kind.CatmullRom positions.now channels.now) ts.now out.old }
 {
     let m = segments::fill(channels, positions.len(), 0, room);
-    let table = &room[..m];
-    paint_catmull(positions, channels, ts, out, table)
+    paint_catmull(positions, channels, ts, out, &room[..m])
 }
 
 // Catmull-Rom stops at ts. A segment costs twelve roots, so a table pays where there are at least as many points as stops.
@@ -147,63 +140,44 @@ fn paint_cubics(positions: &[f32], channels: &[f32], ts: &[f32], out: &mut [f32]
     ensures { out.new ≡ painted_over (stop_colour Kind.CatmullRom positions.now channels.now) ts.now out.old }
 {
     if ts.len() < positions.len() {
-        let none = [[[0.0f32; 4]; 4]; 1];
-        let table = &none[..0];
-        paint_catmull(positions, channels, ts, out, table);
-        return;
-    }
-    if positions.len() <= segments::FEW {
+        paint_catmull(positions, channels, ts, out, &[])
+    } else if positions.len() <= segments::FEW {
         let mut few = [[[0.0f32; 4]; 4]; segments::FEW];
-        paint_tabled(positions, channels, ts, out, &mut few);
-        return;
+        paint_tabled(positions, channels, ts, out, &mut few)
+    } else {
+        let mut room = [[[0.0f32; 4]; 4]; segments::ROOM];
+        paint_tabled(positions, channels, ts, out, &mut room)
     }
-    let mut room = [[[0.0f32; 4]; 4]; segments::ROOM];
-    paint_tabled(positions, channels, ts, out, &mut room)
 }
 
-fn paint_all(
-    kind: Kind,
-    positions: &[f32],
-    channels: &[f32],
-    codes: &[u8],
-    ts: &[f32],
-    out: &mut [f32],
-)
-    requires codes_value { check_of (ramp_in kind positions channels codes) ≡ Fine }
+fn paint_all(ramp: &Ramp<'_>, ts: &[f32], out: &mut [f32])
+    requires codes_value { check_of (lent_ramp ramp.now) ≡ Fine }
     requires ts_in_bounds { 4 * length ts.now ≤ length out.old }
-    ensures { out.new ≡ painted_over (colour_of (lent_ramp kind positions channels codes)) ts.now out.old }
+    ensures { out.new ≡ painted_over (colour_of (lent_ramp ramp.now)) ts.now out.old }
 {
-    if gradient::is_gimp(kind) {
-        gimp::paint(positions, channels, codes, ts, out);
-        return;
+    if gradient::is_gimp(ramp.kind) {
+        gimp::paint(ramp.positions, ramp.channels, ramp.codes, ts, out)
+    } else if segments::is_catmull_rom(ramp.kind) {
+        paint_cubics(ramp.positions, ramp.channels, ts, out)
+    } else {
+        paint_stops(ramp.kind, ramp.positions, ramp.channels, ts, out)
     }
-    if segments::is_catmull_rom(kind) {
-        paint_cubics(positions, channels, ts, out);
-        return;
-    }
-    paint_stops(kind, positions, channels, ts, out)
 }
 
 // Checks once, then writes the colours at ts into out, four channels for each.
-pub fn paint(
-    kind: Kind,
-    positions: &[f32],
-    channels: &[f32],
-    codes: &[u8],
-    ts: &[f32],
-    out: &mut [f32],
-) -> Painted
-    ensures { PaintIs (lent_ramp kind positions channels codes) ts.now out.old out.new result }
+pub fn paint(ramp: &Ramp<'_>, ts: &[f32], out: &mut [f32]) -> Painted
+    ensures { PaintIs (lent_ramp ramp.now) ts.now out.old out.new result }
 {
-    match gradient::check(kind, positions, channels, codes) {
+    match ramp.check() {
         Checked::Refused(n) => Painted::Refused(n),
         Checked::Fine => {
             if out.len() / 4 < ts.len() {
                 slices::zero_from(out, 0);
-                return Painted::Refused(NO_ROOM);
+                Painted::Refused(NO_ROOM)
+            } else {
+                paint_all(ramp, ts, out);
+                Painted::Done
             }
-            paint_all(kind, positions, channels, codes, ts, out);
-            Painted::Done
         }
     }
 }

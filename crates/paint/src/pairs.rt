@@ -6,7 +6,7 @@ ghost use Rattle.stops.specs.Pair.{between};
 ghost use Rattle.paint.specs.inner.Steps.{Span, Sought, Placed, stop_colour};
 
 use blend::{Rgba, Stop, linear, sharp, smoothstep};
-use stops::{Kind, Place, near};
+use stops::{BLACK, Kind, Place, near};
 
 // The largest power of two below n.
 pub(crate) fn span_of(n: usize) -> usize
@@ -31,16 +31,17 @@ fn search(positions: &[f32], t: f32, span: usize) -> usize
     let mut base = low * stops::below(positions[low], t);
     let mut size = span;
     while 2 < size {
-        size = size / 4;
+        size /= 4;
         base += size
             * (stops::below(positions[base + size], t)
                 + stops::below(positions[base + 2 * size], t)
                 + stops::below(positions[base + 3 * size], t));
     }
     if 1 < size {
-        return base + stops::below(positions[base + 1], t) + 1;
+        base + stops::below(positions[base + 1], t) + 1
+    } else {
+        base + 1
     }
-    base + 1
 }
 
 // The pair k is tried before the search.
@@ -101,10 +102,9 @@ fn pair_at(kind: Kind, positions: &[f32], channels: &[f32], k: usize, t: f32) ->
         Kind::Linear => linear::pair_colour(p, q, t),
         Kind::Smoothstep => smoothstep::pair_colour(p, q, t),
         Kind::Sharp => sharp::pair_colour(k - 1, p, q, t),
-        Kind::Basis => stops::colour_in(kind, positions, channels, t, Place::Between(k)),
-        Kind::CatmullRom => stops::colour_in(kind, positions, channels, t, Place::Between(k)),
-        Kind::Gimp => stops::colour_in(kind, positions, channels, t, Place::Between(k)),
-        Kind::GimpSaved => stops::colour_in(kind, positions, channels, t, Place::Between(k)),
+        Kind::Basis | Kind::CatmullRom | Kind::Gimp | Kind::GimpSaved => {
+            stops::colour_in(kind, positions, channels, t, Place::Between(k))
+        }
     }
 }
 
@@ -121,12 +121,7 @@ pub(crate) fn colour_in(
 {
     match place {
         Place::End(i) => stops::colour(channels, i),
-        Place::Nowhere => Rgba {
-            r: 0.0,
-            g: 0.0,
-            b: 0.0,
-            a: 1.0,
-        },
+        Place::Nowhere => BLACK,
         Place::Between(k) => pair_at(kind, positions, channels, k, t),
     }
 }

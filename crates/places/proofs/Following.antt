@@ -2,7 +2,7 @@
 use mathlib.Core.Path.{◌≡◌, refl, sym, ◌∙◌}
 use mathlib.Core.Bool.{Bool, true, false}
 use mathlib.Core.List.{List, [], ◌∷◌}
-use Prim.Native.Nat.{ℕ, zero, suc, ◌+◌, ◌-◌, ◌*◌, ◌≤◌, ◌<◌, min}
+use Prim.Native.Nat.{ℕ, zero, suc, ◌+◌, ◌*◌, ◌≤◌, ◌<◌, min}
 use native.Mathlib.Numerals.{add-one}
 use native.Mathlib.Omega.{arith}
 use borrow.Author.Tests.{lt-ltb, le-ltb, ltb-true, ltb-false}
@@ -15,27 +15,7 @@ use Rattle.places.specs.Places.{row_points, list_of, first_place, next_place, po
 use Rattle.places.specs.declared.RowPlace.{RowPlace}
 use Rattle.slices.proofs.Joined.{length-summed, summed_mono, item}
 
--- ---- the count of a row
-pub past_counts : (l : List ℕ) (i : ℕ) → length l ≤ i → 0 ≡ get_or l i 0
-past_counts [] i h = refl
-past_counts (x ∷ l) zero h = absurd (omega arith)
-past_counts (x ∷ l) (suc i) h = past_counts l i (omega arith)
-
 -- ---- the next place
-
--- one more index stands in a row of n points
-pub none_on : (n index : ℕ) → n ≡ 0 → false ≡ ltb (index + 1) n
-none_on n index e = sym (le-ltb (index + 1) n (omega arith))
-
-pub some_on : (n index : ℕ) → (n ≡ 0 → ⊥) → ltb index (n - 1) ≡ ltb (index + 1) n
-some_on n index nz = by (ltb index (n - 1)) refl
-  where
-    some : 1 ≤ n
-    some = omega (arith, nz)
-
-    by : (b : Bool) → ltb index (n - 1) ≡ b → b ≡ ltb (index + 1) n
-    by true e = sym (lt-ltb (index + 1) n (omega (arith, some, ltb-true index (n - 1) e)))
-    by false e = sym (le-ltb (index + 1) n (omega (arith, some, ltb-false index (n - 1) e)))
 
 -- the test of a row of n points, which are m
 module _ {b : Bool} (index n m : ℕ) (e : n ≡ m) (h : b ≡ ltb (index + 1) n) where

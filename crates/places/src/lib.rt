@@ -18,20 +18,14 @@ pub struct RowPlace {
 pub fn count_at(counts: &[u8], i: usize) -> usize
     ensures { result ≡ get_or counts.now i 0 }
 {
-    if i < counts.len() {
-        return counts[i] as usize;
-    }
-    0
+    counts.get(i).copied().unwrap_or(0) as usize
 }
 
 // One more index stands in a row of n points. Neither n - 1 nor index + 1 is worked out where there is none.
 fn goes_on(n: usize, index: usize) -> bool
     ensures { result ≡ ltb (index + 1) n }
 {
-    if n == 0 {
-        return false;
-    }
-    index < n - 1
+    n != 0 && index < n - 1
 }
 
 // The place after a place. After max comes max.

@@ -7,13 +7,12 @@ pub fn bits(out: &mut StandardOutput, x: f32) {
 
 // Each number of xs, with a blank before it.
 pub fn row(out: &mut StandardOutput, xs: &[f32]) {
-    for i in 0..xs.len() {
-        out.put(b" ");
-        bits(out, xs[i]);
+    for x in xs {
+        write!(out, " ");
+        bits(out, *x);
     }
 }
 
 pub fn refused(out: &mut StandardOutput, n: u8) {
-    out.put(b"refused ");
-    out.decimal(n as u64);
+    write!(out, "refused {n}");
 }

@@ -9,14 +9,12 @@ use streams::StandardOutput;
 fn fill(text: &mut [u8], at: usize, s: &[u8], n: usize)
     requires { (at + n ≤ length text.old) × (0 < length s.now) }
 {
-    let mut i = 0;
-    while i < n {
-        text[at + i] = s[i % s.len()];
-        i += 1;
+    for (i, b) in text[at..at + n].iter_mut().enumerate() {
+        *b = s[i % s.len()];
     }
 }
 
-fn read(out: &mut StandardOutput, label: &[u8], text: &[u8]) {
+fn read(out: &mut StandardOutput, label: &str, text: &[u8]) {
     let black = Rgba {
         r: 0.0,
         g: 0.0,
@@ -26,8 +24,7 @@ fn read(out: &mut StandardOutput, label: &[u8], text: &[u8]) {
     let mut positions = [9.0f32; 771];
     let mut channels = [9.0f32; 2056];
     let mut codes = [9u8; 514];
-    out.put(label);
-    out.put(b"\t");
+    write!(out, "{label}\t");
     match colorgrad::read(
         text,
         black,
@@ -36,21 +33,17 @@ fn read(out: &mut StandardOutput, label: &[u8], text: &[u8]) {
         &mut channels,
         &mut codes,
     ) {
-        ggr::Answer::Read(n) => {
-            out.put(b"read ");
-            out.decimal(n as u64);
-        }
+        ggr::Answer::Read(n) => write!(out, "read {n}"),
         ggr::Answer::Refused(n, line) => {
             refused(out, n);
-            out.put(b" line ");
-            out.decimal(line as u64);
+            write!(out, " line {line}");
         }
     }
-    out.put(b"\n");
+    writeln!(out);
 }
 
 // A GIMP file whose line 3 counts so many segments, with 257 lines for them, of which all but the first have no length.
-pub fn counted(out: &mut StandardOutput, label: &[u8], header: &[u8; 29]) {
+pub fn counted(out: &mut StandardOutput, label: &str, header: &[u8; 29]) {
     let mut text = [0u8; 6712];
     fill(&mut text, 0, header, 29);
     fill(&mut text, 29, b"0 .5 1 0 0 0 1 1 1 1 1 0 0\n", 27);

@@ -4,5 +4,5 @@ use Rattle.promises.specs.Law.{Coincide, coincide, ◌with◌, both}
 use Rattle.apart.proofs.apart.Reads as of_apart
 
 -- the answer and the lent bytes
-pub apart : (κs : Lfts 7) (a : _) → Coincide (of_apart.Learnt κs a) (λ r e. r with e.1.1.1.1.1.1.1.1.1.0.now)
+pub apart : (κs : Lfts 6) (a : _) → Coincide (of_apart.Learnt κs a) (λ r e. r with e.1.1.1.1.1.1.0.now)
 apart κs a = coincide (λ r e w. both w.answer w.bytes)

@@ -6,8 +6,7 @@ use Rattle.sqrt.proofs.Theorems.{cutoff_unique}
 use Rattle.stops.specs.declared.Kind.{Kind}
 use Rattle.stops.specs.declared.Kind.TheVariants.{Linear}
 use Rattle.colorgrad_c.specs.plain.Kinds.{kind_of, on_kind, Shows, ShowsOf}
-use Rattle.colorgrad_c.specs.declared.plain.kinds.Coded.{Coded}
-use Rattle.colorgrad_c.specs.declared.plain.kinds.Coded.TheVariants.{Of, Unknown}
+use Rattle.std.specs.Prelude.{Option, Some, None}
 use Rattle.promises.proofs.Parts.{rows_of, counts_of, marks_of, positions_of, channels_of, ramp_positions, ramp_channels}
 use Rattle.promises.proofs.Segment as stored
 use Rattle.promises.specs.Law.{Coincide, coincide, answer, ◌with◌, both}
@@ -103,9 +102,9 @@ sharp κs a =
 -- ---- the calls for a kind by its code: of the kind that the code names, and of a code that names none
 module _ {A E : Type 0} {P : Kind → A → E → Type 0} {Q : A → E → Type 0} where
   by_kind : {X : Type 0} {seen : A → E → X} → ((kind : Kind) → Coincide (P kind) seen) → Coincide Q seen
-      → (z : Coded) → Coincide (λ (a : A) (e : E). on_kind z (λ (kind : Kind) (x : A). P kind x e) (λ (x : A). Q x e) a) seen
-  by_kind known unknown (Of kind) = known kind
-  by_kind known unknown Unknown = unknown
+      → (z : Option Kind) → Coincide (λ (a : A) (e : E). on_kind z (λ (kind : Kind) (x : A). P kind x e) (λ (x : A). Q x e) a) seen
+  by_kind known unknown (Some kind) = known kind
+  by_kind known unknown None = unknown
 
   module _ {R B : Type 0} {show : A → B} (said : R → E → B) (code : ℕ) where
     by_code : {X : Type 0} {rest : E → X} → ((kind : Kind) → Coincide (P kind) (λ (a : A) (e : E). a with rest e)) → Coincide Q (λ (a : A) (e : E). a with rest e)

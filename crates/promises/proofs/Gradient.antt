@@ -2,10 +2,10 @@
 use contract.Lifetimes.{Lfts}
 use Rattle.promises.specs.Law.{Coincide, coincide, answer}
 use Rattle.gradient.proofs.is_gimp.Reads as of_is_gimp
-use Rattle.gradient.proofs.check.Reads as of_check
-use Rattle.gradient.proofs.min_of.Reads as of_min_of
-use Rattle.gradient.proofs.max_of.Reads as of_max_of
-use Rattle.gradient.proofs.colour_at.Reads as of_colour_at
+use Rattle.gradient.proofs.Ramp.check.Reads as of_check
+use Rattle.gradient.proofs.Ramp.min.Reads as of_min
+use Rattle.gradient.proofs.Ramp.max.Reads as of_max
+use Rattle.gradient.proofs.Ramp.colour_at.Reads as of_colour_at
 use Rattle.gradient.proofs.gimp.find_segment.Reads as of_find_segment
 use Rattle.gradient.proofs.blending.place_along.Reads as of_place_along
 use Rattle.gradient.proofs.blending.blend.Reads as of_blend
@@ -20,16 +20,16 @@ use Rattle.gradient.proofs.gimp.colour_at.Reads as of_colour_at_segments
 pub is_gimp : (κs : Lfts 0) (a : _) → Coincide (of_is_gimp.Learnt κs a) answer
 is_gimp κs a = coincide (λ r e w. w)
 
-pub check : (κs : Lfts 3) (a : _) → Coincide (of_check.Learnt κs a) answer
+pub check : (κs : Lfts 2) (a : _) → Coincide (of_check.Learnt κs a) answer
 check κs a = coincide (λ r e w. w.answer)
 
-pub min_of : (κs : Lfts 1) (a : _) → Coincide (of_min_of.Learnt κs a) answer
-min_of κs a = coincide (λ r e w. w)
+pub min : (κs : Lfts 2) (a : _) → Coincide (of_min.Learnt κs a) answer
+min κs a = coincide (λ r e w. w)
 
-pub max_of : (κs : Lfts 1) (a : _) → Coincide (of_max_of.Learnt κs a) answer
-max_of κs a = coincide (λ r e w. w)
+pub max : (κs : Lfts 2) (a : _) → Coincide (of_max.Learnt κs a) answer
+max κs a = coincide (λ r e w. w)
 
-pub colour_at : (κs : Lfts 3) (a : _) → Coincide (of_colour_at.Learnt κs a) answer
+pub colour_at : (κs : Lfts 2) (a : _) → Coincide (of_colour_at.Learnt κs a) answer
 colour_at κs a = coincide (λ r e w. w)
 
 pub is_carried : (κs : Lfts 0) (a : _) → Coincide (of_is_carried.Learnt κs a) answer

@@ -7,5 +7,5 @@ use Rattle.judge.proofs.judge.Reads as of_judge
 pub check_list : (κs : Lfts 2) (a : _) → Coincide (of_check_list.Learnt κs a) answer
 check_list κs a = coincide (λ r e w. w)
 
-pub judge : (κs : Lfts 5) (a : _) → Coincide (of_judge.Learnt κs a) answer
+pub judge : (κs : Lfts 4) (a : _) → Coincide (of_judge.Learnt κs a) answer
 judge κs a = coincide (λ r e w. w.answer)

@@ -9,21 +9,21 @@ use Rattle.linearize.proofs.flatten.Reads as of_flatten
 use Rattle.records.proofs.check_thin.Reads as of_check_thin
 use Rattle.records.proofs.check_counts.Reads as of_check_counts
 
-pub check_thin : (κs : Lfts 6) (a : _) → Coincide (of_check_thin.Learnt κs a) answer
+pub check_thin : (κs : Lfts 5) (a : _) → Coincide (of_check_thin.Learnt κs a) answer
 check_thin κs a = coincide (λ r e w. w.answer)
 
 pub check_counts : (κs : Lfts 1) (a : _) → Coincide (of_check_counts.Learnt κs a) answer
 check_counts κs a = coincide (λ r e w. w)
 
 -- the answer and both outputs
-pub thin : (κs : Lfts 8) (a : _) → Coincide (of_thin.Learnt κs a) (λ r e. r with e.1.1.1.1.1.1.1.1.0.now with e.1.1.1.1.1.1.1.1.1.0.now)
+pub thin : (κs : Lfts 7) (a : _) → Coincide (of_thin.Learnt κs a) (λ r e. r with e.1.1.1.1.1.0.now with e.1.1.1.1.1.1.0.now)
 thin κs a = coincide (λ r e w. both w.told.answer (both (positions_of w.output) (channels_of w.output)))
 
 -- the answer, the record and both outputs
-pub relist : (κs : Lfts 8) (a : _) → Coincide (of_relist.Learnt κs a) (λ r e. r with e.1.1.1.1.1.1.0.now with e.1.1.1.1.1.1.1.0.now with e.1.1.1.1.1.1.1.1.0.now with e.1.1.1.1.1.1.1.1.1.0.now with e.1.1.1.1.1.1.1.1.1.1.0.now)
+pub relist : (κs : Lfts 7) (a : _) → Coincide (of_relist.Learnt κs a) (λ r e. r with e.1.1.1.0.now with e.1.1.1.1.0.now with e.1.1.1.1.1.0.now with e.1.1.1.1.1.1.0.now with e.1.1.1.1.1.1.1.0.now)
 relist κs a = coincide (λ r e w. both w.told.answer (both (rows_of w.left) (both (counts_of w.left) (both (marks_of w.left) (both (positions_of w.output) (channels_of w.output))))))
 
-pub flatten : (κs : Lfts 8) (a : _) → Coincide (of_flatten.Learnt κs a) (λ r e. r with e.1.1.1.1.1.0.now with e.1.1.1.1.1.1.0.now with e.1.1.1.1.1.1.1.0.now with e.1.1.1.1.1.1.1.1.0.now with e.1.1.1.1.1.1.1.1.1.0.now)
+pub flatten : (κs : Lfts 7) (a : _) → Coincide (of_flatten.Learnt κs a) (λ r e. r with e.1.1.0.now with e.1.1.1.0.now with e.1.1.1.1.0.now with e.1.1.1.1.1.0.now with e.1.1.1.1.1.1.0.now)
 flatten κs a = coincide (λ r e w. both w.told.answer (both (rows_of w.left) (both (counts_of w.left) (both (marks_of w.left) (both (positions_of w.output) (channels_of w.output))))))
 
 pub after : (κs : Lfts 0) (a : _) → Coincide (of_after.Learnt κs a) answer

@@ -3,5 +3,5 @@ use contract.Lifetimes.{Lfts}
 use Rattle.promises.specs.Law.{Coincide, coincide, answer}
 use Rattle.next_stop.proofs.next_stop.Reads as of_next_stop
 
-pub next_stop : (κs : Lfts 6) (a : _) → Coincide (of_next_stop.Learnt κs a) answer
+pub next_stop : (κs : Lfts 5) (a : _) → Coincide (of_next_stop.Learnt κs a) answer
 next_stop κs a = coincide (λ r e w. w.handed)

@@ -34,20 +34,20 @@ new κs a = coincide (λ r e w. w)
 pub cutoff_of : (κs : Lfts 0) (a : _) → Coincide (of_cutoff_of.Learnt κs a) answer
 cutoff_of κs a = λ r s e f. cutoff_unique (threshold_of a.0) r s
 
-pub check_sample : (κs : Lfts 3) (a : _) → Coincide (of_check_sample.Learnt κs a) answer
+pub check_sample : (κs : Lfts 2) (a : _) → Coincide (of_check_sample.Learnt κs a) answer
 check_sample κs a = coincide (λ r e w. w.answer)
 
 -- the answer and the record
-pub sample : (κs : Lfts 6) (a : _) → Coincide (of_sample.Learnt κs a) (λ r e. r with e.1.1.1.1.1.0.now with e.1.1.1.1.1.1.0.now with e.1.1.1.1.1.1.1.0.now)
+pub sample : (κs : Lfts 5) (a : _) → Coincide (of_sample.Learnt κs a) (λ r e. r with e.1.1.0.now with e.1.1.1.0.now with e.1.1.1.1.0.now)
 sample κs a = coincide (λ r e w. both w.answer (both (rows_of w.left) (both (counts_of w.left) (marks_of w.left))))
 
-pub resample : (κs : Lfts 6) (a : _) → Coincide (of_resample.Learnt κs a) (λ r e. r with e.1.1.1.1.1.1.0.now with e.1.1.1.1.1.1.1.0.now with e.1.1.1.1.1.1.1.1.0.now)
+pub resample : (κs : Lfts 5) (a : _) → Coincide (of_resample.Learnt κs a) (λ r e. r with e.1.1.1.0.now with e.1.1.1.1.0.now with e.1.1.1.1.1.0.now)
 resample κs a = coincide (λ r e w. both w.answer (both (rows_of w.left) (both (counts_of w.left) (marks_of w.left))))
 
 pub edge : (κs : Lfts 0) (a : _) → Coincide (of_edge.Learnt κs a) answer
 edge κs a = coincide (λ r e w. w)
 
-pub evaluate : (κs : Lfts 3) (a : _) → Coincide (of_evaluate.Learnt κs a) answer
+pub evaluate : (κs : Lfts 2) (a : _) → Coincide (of_evaluate.Learnt κs a) answer
 evaluate κs a = coincide (λ r e w. w)
 
 pub placed : (κs : Lfts 2) (a : _) → Coincide (of_placed.Learnt κs a) answer
@@ -57,5 +57,5 @@ placed κs a = coincide (λ r e w. w)
 pub drawn_at : (κs : Lfts 3) (a : _) → Coincide (of_drawn_at.Learnt κs a) (λ r e. r with e.1.1.1.1.1.0.now)
 drawn_at κs a = coincide (λ r e w. both w.point w.drawn)
 
-pub evaluate_along : (κs : Lfts 4) (a : _) → Coincide (of_evaluate_along.Learnt κs a) (λ r e. r with e.1.1.1.1.1.1.0.now)
+pub evaluate_along : (κs : Lfts 3) (a : _) → Coincide (of_evaluate_along.Learnt κs a) (λ r e. r with e.1.1.1.0.now)
 evaluate_along κs a = coincide (λ r e w. both w.point w.drawn)

@@ -6,7 +6,7 @@ use Rattle.sheet.proofs.open.Reads as of_open
 use Rattle.sheet.proofs.edit.Reads as of_edit
 
 -- the answer, the record and both outputs
-pub open_sheet : (κs : Lfts 8) (a : _) → Coincide (of_open.Learnt κs a) (λ r e. r with e.1.1.1.1.1.1.1.0.now with e.1.1.1.1.1.1.1.1.0.now with e.1.1.1.1.1.1.1.1.1.0.now with e.1.1.1.1.1.1.1.1.1.1.0.now with e.1.1.1.1.1.1.1.1.1.1.1.0.now)
+pub open_sheet : (κs : Lfts 7) (a : _) → Coincide (of_open.Learnt κs a) (λ r e. r with e.1.1.1.1.0.now with e.1.1.1.1.1.0.now with e.1.1.1.1.1.1.0.now with e.1.1.1.1.1.1.1.0.now with e.1.1.1.1.1.1.1.1.0.now)
 open_sheet κs a = coincide (λ r e w. both w.answer (both (rows_of w.left) (both (counts_of w.left) (both (marks_of w.left) (both (positions_of w.output) (channels_of w.output))))))
 
 -- the answer, the ramp, the record and both outputs

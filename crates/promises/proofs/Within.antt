@@ -10,9 +10,9 @@ pub hold_of : (κs : Lfts 0) (a : _) → Coincide (of_hold_of.Learnt κs a) answ
 hold_of κs a = coincide (λ r e w. w)
 
 -- the answer and both outputs
-pub thin_within : (κs : Lfts 8) (a : _) → Coincide (of_thin_within.Learnt κs a) (λ r e. r with e.1.1.1.1.1.1.1.1.1.0.now with e.1.1.1.1.1.1.1.1.1.1.0.now)
+pub thin_within : (κs : Lfts 7) (a : _) → Coincide (of_thin_within.Learnt κs a) (λ r e. r with e.1.1.1.1.1.1.0.now with e.1.1.1.1.1.1.1.0.now)
 thin_within κs a = coincide (λ r e w. both w.told.answer (both (positions_of w.output) (channels_of w.output)))
 
 -- the answer, the record and both outputs
-pub flatten_within : (κs : Lfts 8) (a : _) → Coincide (of_flatten_within.Learnt κs a) (λ r e. r with e.1.1.1.1.1.1.0.now with e.1.1.1.1.1.1.1.0.now with e.1.1.1.1.1.1.1.1.0.now with e.1.1.1.1.1.1.1.1.1.0.now with e.1.1.1.1.1.1.1.1.1.1.0.now)
+pub flatten_within : (κs : Lfts 7) (a : _) → Coincide (of_flatten_within.Learnt κs a) (λ r e. r with e.1.1.1.0.now with e.1.1.1.1.0.now with e.1.1.1.1.1.0.now with e.1.1.1.1.1.1.0.now with e.1.1.1.1.1.1.1.0.now)
 flatten_within κs a = coincide (λ r e w. both w.told.answer (both (rows_of w.left) (both (counts_of w.left) (both (marks_of w.left) (both (positions_of w.output) (channels_of w.output))))))

@@ -1,36 +1,21 @@
 -- Laws of refusal 5 of a count. Assumes nothing.
-use mathlib.Core.Path.{◌≡◌, refl, sym, ap, ◌∙◌}
+use mathlib.Core.Path.{◌≡◌, refl, sym}
 use mathlib.Core.Bool.{Bool, true, false, cond, ◌&&◌}
 use mathlib.Core.List.{List, [], ◌∷◌}
-use Prim.Native.Nat.{ℕ, zero, suc, ◌+◌, ◌≤◌, ◌<◌}
-use native.Mathlib.Numerals.{add-one}
+use Prim.Native.Nat.{ℕ, zero, suc, ◌≤◌, ◌<◌}
 use native.Mathlib.Omega.{arith}
-use borrow.Author.Tests.{le-leb, lt-leb, leb-true}
+use borrow.Author.Tests.{le-leb, leb-true}
 use lib.Dec.{leb}
-use lib.ListN.{length, drop, get_or, drop_of_length-le}
-use lib.Seq.{drop-cons}
+use lib.ListN.{length, get_or}
+use Rattle.std.specs.Prelude.{◌↔◌, IsTrue, EachIndex}
 use Rattle.refusals.specs.Refusals.{bad_record}
 use Rattle.float.proofs.Flags.{both_l, both_r}
 use Rattle.stops.specs.declared.Checked.TheVariants as checked
 use Rattle.records.specs.Fitness.{counts_good, counts_check}
 
-module _ (l : List ℕ) (i : ℕ) (h : i < length l) where
-  cons : counts_good (drop i l) ≡ (leb 1 (get_or l i 0) && (leb (get_or l i 0) 128 && counts_good (drop (i + 1) l)))
-  unfolding counts_good
-  cons = ap counts_good (drop-cons l i 0 h) ∙ rw add-one
-
-  pub too_small : get_or l i 0 < 1 → counts_good (drop i l) ≡ false
-  too_small k = cons ∙ simp (lt-leb 1 (get_or l i 0) k)
-
-  pub too_large : 1 ≤ get_or l i 0 → 128 < get_or l i 0 → counts_good (drop i l) ≡ false
-  too_large j k = cons ∙ simp (le-leb 1 (get_or l i 0) j, lt-leb (get_or l i 0) 128 k)
-
-  pub fitting : 1 ≤ get_or l i 0 → get_or l i 0 ≤ 128 → counts_good (drop (i + 1) l) ≡ counts_good (drop i l)
-  fitting j k = sym (cons ∙ simp (le-leb 1 (get_or l i 0) j, le-leb (get_or l i 0) 128 k))
-
-pub all_seen : (l : List ℕ) (i : ℕ) → length l ≤ i → counts_good (drop i l) ≡ true
-unfolding counts_good
-all_seen l i h = ap counts_good (drop_of_length-le l h)
+-- each count is 1 to 128
+abbrev pub EachFits : List ℕ → Type 0
+EachFits l = EachIndex l (λ i. (1 ≤ get_or l i 0) × (get_or l i 0 ≤ 128))
 
 module _ (l : List ℕ) where
   pub counts_fail : counts_good l ≡ false → checked.Refused bad_record ≡ counts_check l
@@ -64,3 +49,12 @@ all_good [] each = refl
 all_good (n ∷ l) each =
     let a = each 0 (omega arith) in
     rw (le-leb 1 n a.0, le-leb n 128 a.1) (all_good l (λ i h. each (suc i) (omega arith)))
+
+-- a test that holds exactly where each count is 1 to 128
+pub good_is : (l : List ℕ) (r : Bool) → IsTrue r ↔ EachFits l → r ≡ counts_good l
+good_is l true w = sym (all_good l (w.0 refl))
+good_is l false w = by (counts_good l) refl
+  where
+    by : (b : Bool) → counts_good l ≡ b → false ≡ b
+    by true e = w.1 (each_good l e)
+    by false e = refl

@@ -1,18 +1,16 @@
 -- Laws of refusal 20: the words of a record beside a call's own, one after the other. Assumes nothing.
-use mathlib.Core.Path.{◌≡◌, refl, sym, ap, ap₂, ◌∙◌}
-use mathlib.Core.Bool.{Bool, true, false, cond}
+use mathlib.Core.Path.{◌≡◌, refl, ap, ap₂}
+use mathlib.Core.Bool.{Bool, true, false, cond, ◌&&◌}
 use mathlib.Core.List.{List, [], ◌∷◌}
 use mathlib.Core.Logic.{◌⊎◌, inl, inr}
 use Prim.Native.Nat.{ℕ}
 use native.Mathlib.Omega.{arith}
-use borrow.Author.Tests.{eq-eqb, ne_eqb, eqb-true}
+use borrow.Author.Tests.{eq-eqb, eqb-true}
 use lib.Dec.{eqb}
-use lib.ListN.{length, get_or}
-use lib.Ieee.{Float, binary32, to_bits}
+use lib.Pointwise.{pointwise}
 use Rattle.refusals.specs.Refusals.{other_threshold}
 use Rattle.float.proofs.Flags.{both_l, both_r}
 use Rattle.stops.specs.declared.Checked.TheVariants as checked
-use Rattle.sampling.specs.Sampling.{words_of}
 use Rattle.records.specs.Fitness.{same_words, marks_check}
 
 -- ---- any words
@@ -53,34 +51,15 @@ marks_equal own marks h = words_equal marks own (go (same_words marks own) h)
     go true k = refl
     go false k = let z : ◌≡◌ {A = ℕ} 0 1 = cc in absurd (omega arith)
 
--- ---- the three words of a record, compared one after the other
-pub first_differs : (l : List ℕ) (t lo hi : Float) (a : ℕ) → length l ≡ 3 → a ≡ to_bits binary32 t → (get_or l 0 0 ≡ a → ⊥)
-    → checked.Refused other_threshold ≡ marks_check (words_of t lo hi) l
-unfolding marks_check same_words
-first_differs [] t lo hi a h p k = absurd (omega arith)
-first_differs (x ∷ l) t lo hi a h p k = simp (ne_eqb x (to_bits binary32 t) (λ e. k (e ∙ sym p)))
+-- ---- words compared as two slices are
+words_are : (vs ws : List ℕ) → pointwise eqb vs ws ≡ same_words vs ws
+unfolding same_words
+words_are [] [] = refl
+words_are [] (w ∷ ws) = refl
+words_are (v ∷ vs) [] = refl
+words_are (v ∷ vs) (w ∷ ws) = ap (λ (b : Bool). eqb v w && b) (words_are vs ws)
 
-pub second_differs : (l : List ℕ) (t lo hi : Float) (a b : ℕ) → length l ≡ 3 → a ≡ to_bits binary32 t → b ≡ to_bits binary32 lo
-    → get_or l 0 0 ≡ a → (get_or l 1 0 ≡ b → ⊥) → checked.Refused other_threshold ≡ marks_check (words_of t lo hi) l
-unfolding marks_check same_words
-second_differs [] t lo hi a b h p q i k = absurd (omega arith)
-second_differs (x ∷ []) t lo hi a b h p q i k = absurd (omega arith)
-second_differs (x ∷ y ∷ l) t lo hi a b h p q i k = simp (eq-eqb x (to_bits binary32 t) (i ∙ p), ne_eqb y (to_bits binary32 lo) (λ e. k (e ∙ sym q)))
-
-module _ (t lo hi : Float) (a b c : ℕ) (p : a ≡ to_bits binary32 t) (q : b ≡ to_bits binary32 lo) (r : c ≡ to_bits binary32 hi) where
-  pub third_differs : (l : List ℕ) → length l ≡ 3 → get_or l 0 0 ≡ a → get_or l 1 0 ≡ b → (get_or l 2 0 ≡ c → ⊥) → checked.Refused other_threshold ≡ marks_check (words_of t lo hi) l
-  unfolding marks_check same_words
-  third_differs [] h i j k = absurd (omega arith)
-  third_differs (x ∷ []) h i j k = absurd (omega arith)
-  third_differs (x ∷ y ∷ []) h i j k = absurd (omega arith)
-  third_differs (x ∷ y ∷ z ∷ l) h i j k =
-      simp (eq-eqb x (to_bits binary32 t) (i ∙ p), eq-eqb y (to_bits binary32 lo) (j ∙ q), ne_eqb z (to_bits binary32 hi) (λ e. k (e ∙ sym r)))
-
-  pub none_differs : (l : List ℕ) → length l ≡ 3 → get_or l 0 0 ≡ a → get_or l 1 0 ≡ b → get_or l 2 0 ≡ c → checked.Fine ≡ marks_check (words_of t lo hi) l
-  unfolding marks_check same_words
-  none_differs [] h i j k = absurd (omega arith)
-  none_differs (x ∷ []) h i j k = absurd (omega arith)
-  none_differs (x ∷ y ∷ []) h i j k = absurd (omega arith)
-  none_differs (x ∷ y ∷ z ∷ w ∷ l) h i j k = absurd (omega arith)
-  none_differs (x ∷ y ∷ z ∷ []) h i j k =
-      simp (eq-eqb x (to_bits binary32 t) (i ∙ p), eq-eqb y (to_bits binary32 lo) (j ∙ q), eq-eqb z (to_bits binary32 hi) (k ∙ r))
+pub marks_is : (own words marks : List ℕ) {q r : Bool} → words ≡ own → q ≡ pointwise eqb marks words → q ≡ r
+    → cond r checked.Fine (checked.Refused other_threshold) ≡ marks_check own marks
+unfolding marks_check
+marks_is own words marks e h k = rw (← k, h, e, words_are marks own)

@@ -6,7 +6,8 @@ ghost use Rattle.refresh.specs.editing.Reached.{stretch_of, cells_kept};
 use crate::reach::kept_cells;
 use crate::reach::stretch::{Stretch, colour_stretch, stretch_between};
 use blend::Rgba;
-use stops::{Kind, less};
+use gradient::Ramp;
+use stops::Kind;
 
 pub mod copy;
 pub mod rules;
@@ -32,15 +33,12 @@ pub enum Edit {
     },
 }
 
-// The stretch from the stop before stop k to the one after it. Past the last stop no sum is made, which could wrap.
+// The stretch from the stop before stop k to the one after it. Past the last stop neither stands.
+#[tactic(auto, unfolding(crate::specs::reach::Stretch::stretch_between))]
 fn stretch_beside(positions: &[f32], k: usize) -> Stretch
     ensures { result ≡ stretch_between positions.now (k - 1) (k + 1) }
 {
-    let before = less(k);
-    if positions.len() <= k {
-        return stretch_between(positions, before, k);
-    }
-    stretch_between(positions, before, k + 1)
+    stretch_between(positions, k.saturating_sub(1), k.saturating_add(1))
 }
 
 // The stretch that an edit reaches.
@@ -48,23 +46,19 @@ pub(crate) fn stretch_of(kind: Kind, positions: &[f32], edit: Edit) -> Stretch
     ensures { result ≡ stretch_of kind positions.now edit }
 {
     match edit {
-        Edit::Colour { stop, colour: _ } => colour_stretch(kind, positions, stop),
-        Edit::Move { stop, position: _ } => stretch_beside(positions, stop),
-        Edit::Add {
-            stop,
-            position: _,
-            colour: _,
-        } => stretch_between(positions, less(stop), stop),
-        Edit::Remove { stop } => stretch_beside(positions, stop),
+        Edit::Colour { stop, .. } => colour_stretch(kind, positions, stop),
+        Edit::Move { stop, .. } | Edit::Remove { stop } => stretch_beside(positions, stop),
+        Edit::Add { stop, .. } => stretch_between(positions, stop.saturating_sub(1), stop),
     }
 }
 
 // The cells that an edit leaves as they are.
-pub fn kept(kind: Kind, positions: &[f32], edit: Edit) -> [bool; 36]
-    ensures { result ≡ cells_kept kind positions.now edit }
+#[tactic(auto, unfolding(crate::specs::editing::Reached::cells_kept))]
+pub fn kept(ramp: &Ramp<'_>, edit: Edit) -> [bool; 36]
+    ensures { result ≡ cells_kept ramp.now.kind ramp.now.positions.now edit }
 {
-    let min = gradient::min_of(kind, positions);
-    let max = gradient::max_of(kind, positions);
-    let s = stretch_of(kind, positions, edit);
+    let min = ramp.min();
+    let max = ramp.max();
+    let s = stretch_of(ramp.kind, ramp.positions, edit);
     kept_cells(min, max, s)
 }

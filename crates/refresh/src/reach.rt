@@ -7,19 +7,16 @@ ghost use Rattle.refresh.specs.reach.KeptCells.{is_domain, kept_cells};
 use crate::reach::stretch::{Stretch, is_clear};
 use sampling::Sampler;
 use sampling::cells::edge;
+use std::array;
 
 pub mod stretch;
 
 // Whether these are the ends of a domain, as of every ramp that passes the check of a sampling.
+#[tactic(auto, unfolding(crate::specs::reach::KeptCells::is_domain))]
 fn is_domain(min: f32, max: f32) -> bool
     ensures { result ≡ is_domain min max }
 {
-    if -Sampler::FARTHEST <= min {
-        if min <= max {
-            return max <= Sampler::FARTHEST;
-        }
-    }
-    false
+    -Sampler::FARTHEST <= min && min <= max && max <= Sampler::FARTHEST
 }
 
 // Whether cell i is clear of the stretch.
@@ -37,14 +34,8 @@ fn is_cell_clear(s: Stretch, min: f32, max: f32, i: usize) -> bool
 pub(crate) fn kept_cells(min: f32, max: f32, s: Stretch) -> [bool; 36]
     ensures { result ≡ kept_cells min max s }
 {
-    let mut keep = [false; 36];
     if !is_domain(min, max) {
-        return keep;
+        return [false; 36];
     }
-    let mut i = 0;
-    while i < Sampler::CELLS {
-        keep[i] = is_cell_clear(s, min, max, i);
-        i += 1;
-    }
-    keep
+    array::from_fn(|i| is_cell_clear(s, min, max, i))
 }

@@ -1,89 +1,46 @@
 // Stored lists that keep their word: of a ramp that is sampled afresh, and of any record.
-use crate::lists::{RECORD, RUBBISH, SMALL_ROOM, compared};
-use crate::{Tally, words};
-use linearize::Sampler;
-use stops::Kind;
-use streams::StandardInput;
+use crate::lists::{FEW, RECORD, RUBBISH, Record, SMALL_ROOM, compare};
+use crate::words::Stored;
+use gradient::Ramp;
 
 // In full.
-pub fn flattened(
-    input: &mut StandardInput,
-    kind: Kind,
-    positions: &[f32],
-    channels: &[f32],
-    codes: &[u8],
-    before: Tally,
-) -> Tally {
-    let mut rows = [RUBBISH; RECORD];
-    let mut counts = [0u8; Sampler::CELLS];
-    let mut marks = [0u32; Sampler::MARKS];
+pub fn flattened(stored: &mut Stored, ramp: Ramp) {
+    let mut record = Record::new(RUBBISH);
     let mut places = [RUBBISH; RECORD + 1];
     let mut colours = [RUBBISH; 4 * (RECORD + 1)];
-    let threshold = words::float(input);
-    let hold = words::float(input);
+    let threshold = stored.float();
+    let hold = stored.float();
     let made = within::flatten_within(
-        kind,
-        positions,
-        channels,
-        codes,
+        &ramp,
         threshold,
         hold,
-        &mut rows,
-        &mut counts,
-        &mut marks,
+        &mut record.rows,
+        &mut record.counts,
+        &mut record.marks,
         &mut places,
         &mut colours,
     );
-    compared(input, made, &places, &colours, before)
+    compare(stored, made, &places, &colours);
 }
 
-fn thin(
-    input: &mut StandardInput,
-    kind: Kind,
-    positions: &[f32],
-    channels: &[f32],
-    codes: &[u8],
-    places: &mut [f32],
-    before: Tally,
-) -> Tally {
-    let mut rows = [0.0f32; RECORD];
-    let mut counts = [0u8; Sampler::CELLS];
+// A stored record, with the room that the first word says.
+pub fn thinned(stored: &mut Stored, ramp: Ramp) {
+    let mut places = [RUBBISH; RECORD + 1];
     let mut colours = [RUBBISH; 4 * (RECORD + 1)];
-    let threshold = words::float(input);
-    let hold = words::float(input);
-    let n = words::word(input);
-    words::scattered(input, &mut rows, n);
-    words::bytes(input, &mut counts, Sampler::CELLS);
-    let marks = [words::word(input), words::word(input), words::word(input)];
+    let room = stored.word();
+    let outputs = if room == SMALL_ROOM { FEW } else { RECORD + 1 };
+    let threshold = stored.float();
+    let hold = stored.float();
+    let record = Record::read(stored);
     let made = within::thin_within(
-        kind,
-        positions,
-        channels,
-        codes,
+        &ramp,
         threshold,
         hold,
-        &rows,
-        &counts,
-        &marks,
-        places,
+        &record.rows,
+        &record.counts,
+        &record.marks,
+        &mut places[..outputs],
         &mut colours,
     );
-    compared(input, made, places, &colours, before)
-}
-
-// A record of stored points, counts and words, zero elsewhere; with the room that the first word says.
-pub fn thinned(
-    input: &mut StandardInput,
-    kind: Kind,
-    positions: &[f32],
-    channels: &[f32],
-    codes: &[u8],
-    before: Tally,
-) -> Tally {
-    let mut few = [RUBBISH; 2];
-    let mut places = [RUBBISH; RECORD + 1];
-    if words::word(input) == SMALL_ROOM {
-        return thin(input, kind, positions, channels, codes, &mut few, before);
-    }
-    thin(input, kind, positions, channels, codes, &mut places, before)
+    compare(stored, made, &places[..outputs], &colours);
 }

@@ -1,8 +1,8 @@
 // Stored lists: of a ramp, of a record, and of a ramp after an edit.
-use crate::{Tally, edits, words};
+use crate::edits;
+use crate::words::Stored;
+use gradient::Ramp;
 use linearize::{Listed, Sampler};
-use stops::Kind;
-use streams::StandardInput;
 
 pub const RECORD: usize = Sampler::CELLS * Sampler::ROW;
 
@@ -11,225 +11,124 @@ const SHORT_RECORD: u32 = 1;
 
 pub const SMALL_ROOM: u32 = 2;
 
+// The length of a record that is too short, and of outputs for two stops.
+pub const FEW: usize = 2;
+
 // What stands in lent memory before a call, so that what stays and what is set to zero both show.
 pub const RUBBISH: f32 = 7.5;
 
+#[derive(Drop)]
+pub struct Record {
+    pub rows: [f32; RECORD],
+    pub counts: [u8; Sampler::CELLS],
+    pub marks: [u32; Sampler::MARKS],
+}
+
+impl Record {
+    // Rows of one number, and zeros.
+    pub fn new(x: f32) -> Record {
+        Record {
+            rows: [x; RECORD],
+            counts: [0; Sampler::CELLS],
+            marks: [0; Sampler::MARKS],
+        }
+    }
+
+    // Stored points, counts and words, zero elsewhere.
+    pub fn read(stored: &mut Stored) -> Record {
+        let mut record = Record::new(0.0);
+        stored.scatter(&mut record.rows);
+        stored.fill(&mut record.counts, Sampler::CELLS);
+        stored.fill(&mut record.marks, Sampler::MARKS);
+        record
+    }
+}
+
 // Whether the answer is the next three words: refusal, stops, evaluations.
-fn is_answer(input: &mut StandardInput, made: Listed) -> bool {
-    let refusal = words::word(input);
-    let stops = words::word(input);
-    let evaluations = words::word(input);
+fn is_answer(stored: &mut Stored, made: Listed) -> bool {
+    let refusal = stored.word();
+    let listed = stored.count();
+    let spent = stored.count();
     match made {
-        Listed::Refused(n) => n as u32 == refusal,
-        Listed::Done {
-            stops: n,
-            evaluations: m,
-        } => {
-            if refusal != 0 {
-                return false;
-            }
-            if !words::is_number(n, stops) {
-                return false;
-            }
-            words::is_number(m, evaluations)
+        Listed::Refused(n) => u32::from(n) == refusal,
+        Listed::Done { stops, evaluations } => {
+            refusal == 0 && stops == listed && evaluations == spent
         }
     }
 }
 
 // The answer, the positions and the channels, each an answer of its own.
-pub fn compared(
-    input: &mut StandardInput,
-    made: Listed,
-    places: &[f32],
-    colours: &[f32],
-    before: Tally,
-) -> Tally {
-    let answered = before.with(is_answer(input, made));
-    let n = words::word(input);
-    let placed = answered.with(words::are_words(input, places, n));
-    let m = words::word(input);
-    placed.with(words::are_words(input, colours, m))
-}
-
-fn flatten(
-    input: &mut StandardInput,
-    kind: Kind,
-    positions: &[f32],
-    channels: &[f32],
-    codes: &[u8],
-    threshold: f32,
-    rows: &mut [f32],
-    places: &mut [f32],
-    colours: &mut [f32],
-    before: Tally,
-) -> Tally {
-    let mut counts = [0u8; Sampler::CELLS];
-    let mut marks = [0u32; Sampler::MARKS];
-    let made = linearize::flatten(
-        kind,
-        positions,
-        channels,
-        codes,
-        threshold,
-        rows,
-        &mut counts,
-        &mut marks,
-        places,
-        colours,
-    );
-    compared(input, made, places, colours, before)
+pub fn compare(stored: &mut Stored, made: Listed, places: &[f32], colours: &[f32]) {
+    let is_equal = is_answer(stored, made);
+    stored.compare(is_equal);
+    stored.compare_all(places);
+    stored.compare_all(colours);
 }
 
 // With the room that the word after the threshold says.
-pub fn flattened(
-    input: &mut StandardInput,
-    kind: Kind,
-    positions: &[f32],
-    channels: &[f32],
-    codes: &[u8],
-    before: Tally,
-) -> Tally {
-    let mut rows = [RUBBISH; RECORD];
-    let mut few = [RUBBISH; 2];
+pub fn flattened(stored: &mut Stored, ramp: Ramp) {
+    let mut record = Record::new(RUBBISH);
     let mut places = [RUBBISH; RECORD + 1];
     let mut colours = [RUBBISH; 4 * (RECORD + 1)];
-    let threshold = words::float(input);
-    let room = words::word(input);
-    if room == SHORT_RECORD {
-        return flatten(
-            input,
-            kind,
-            positions,
-            channels,
-            codes,
-            threshold,
-            &mut few,
-            &mut places,
-            &mut colours,
-            before,
-        );
-    }
-    if room == SMALL_ROOM {
-        return flatten(
-            input,
-            kind,
-            positions,
-            channels,
-            codes,
-            threshold,
-            &mut rows,
-            &mut few,
-            &mut colours,
-            before,
-        );
-    }
-    flatten(
-        input,
-        kind,
-        positions,
-        channels,
-        codes,
+    let threshold = stored.float();
+    let room = stored.word();
+    let rows = if room == SHORT_RECORD { FEW } else { RECORD };
+    let outputs = if room == SMALL_ROOM { FEW } else { RECORD + 1 };
+    let made = linearize::flatten(
+        &ramp,
         threshold,
-        &mut rows,
-        &mut places,
+        &mut record.rows[..rows],
+        &mut record.counts,
+        &mut record.marks,
+        &mut places[..outputs],
         &mut colours,
-        before,
-    )
+    );
+    compare(stored, made, &places[..outputs], &colours);
 }
 
-// A record of stored points, counts and words, zero elsewhere.
-pub fn thinned(
-    input: &mut StandardInput,
-    kind: Kind,
-    positions: &[f32],
-    channels: &[f32],
-    codes: &[u8],
-    before: Tally,
-) -> Tally {
-    let mut rows = [0.0f32; RECORD];
-    let mut counts = [0u8; Sampler::CELLS];
+// A stored record.
+pub fn thinned(stored: &mut Stored, ramp: Ramp) {
     let mut places = [RUBBISH; RECORD + 1];
     let mut colours = [RUBBISH; 4 * (RECORD + 1)];
-    let threshold = words::float(input);
-    let n = words::word(input);
-    words::scattered(input, &mut rows, n);
-    words::bytes(input, &mut counts, Sampler::CELLS);
-    let marks = [words::word(input), words::word(input), words::word(input)];
+    let threshold = stored.float();
+    let record = Record::read(stored);
     let made = linearize::thin(
-        kind,
-        positions,
-        channels,
-        codes,
+        &ramp,
         threshold,
-        &rows,
-        &counts,
-        &marks,
+        &record.rows,
+        &record.counts,
+        &record.marks,
         &mut places,
         &mut colours,
     );
-    compared(input, made, &places, &colours, before)
+    compare(stored, made, &places, &colours);
 }
 
-// The record is sampled of the ramp as it was, then refreshed.
-fn refresh(
-    input: &mut StandardInput,
-    kind: Kind,
-    positions: &[f32],
-    channels: &[f32],
-    codes: &[u8],
-    threshold: f32,
-    rows: &mut [f32],
-    before: Tally,
-) -> Tally {
-    let mut counts = [0u8; Sampler::CELLS];
-    let mut marks = [0u32; Sampler::MARKS];
+// With the room that the word after the threshold says. The record is sampled of the ramp as it was, then refreshed.
+pub fn refreshed(stored: &mut Stored, ramp: Ramp) {
+    let mut record = Record::new(RUBBISH);
     let mut places = [RUBBISH; RECORD + 1];
     let mut colours = [RUBBISH; 4 * (RECORD + 1)];
-    let edit = edits::next(input);
+    let threshold = stored.float();
+    let room = stored.word();
+    let edit = edits::next(stored);
+    let rows = if room == SHORT_RECORD { FEW } else { RECORD };
     linearize::sample(
-        kind,
-        positions,
-        channels,
-        codes,
+        &ramp,
         threshold,
-        rows,
-        &mut counts,
-        &mut marks,
+        &mut record.rows[..rows],
+        &mut record.counts,
+        &mut record.marks,
     );
     let made = refresh::refresh_list(
-        kind,
-        positions,
-        channels,
-        codes,
+        &ramp,
         edit,
         threshold,
-        rows,
-        &mut counts,
-        &mut marks,
+        &mut record.rows[..rows],
+        &mut record.counts,
+        &mut record.marks,
         &mut places,
         &mut colours,
     );
-    compared(input, made, &places, &colours, before)
-}
-
-// With the room that the word after the threshold says.
-pub fn refreshed(
-    input: &mut StandardInput,
-    kind: Kind,
-    positions: &[f32],
-    channels: &[f32],
-    codes: &[u8],
-    before: Tally,
-) -> Tally {
-    let mut rows = [RUBBISH; RECORD];
-    let mut few = [RUBBISH; 2];
-    let threshold = words::float(input);
-    if words::word(input) == SHORT_RECORD {
-        return refresh(
-            input, kind, positions, channels, codes, threshold, &mut few, before,
-        );
-    }
-    refresh(
-        input, kind, positions, channels, codes, threshold, &mut rows, before,
-    )
+    compare(stored, made, &places, &colours);
 }

@@ -5,6 +5,7 @@
 
 use std::io;
 use streams::{StandardInput, StandardOutput};
+use words::Stored;
 
 mod bands;
 mod colours;
@@ -29,73 +30,46 @@ pub struct Tally {
 }
 
 impl Tally {
+    pub const NONE: Tally = Tally { asked: 0, equal: 0 };
+
     pub fn with(self, is_equal: bool) -> Tally {
         Tally {
-            asked: std::num::wrapping_add_u64(self.asked, 1),
-            equal: std::num::wrapping_add_u64(self.equal, is_equal as u64),
+            asked: self.asked.wrapping_add(1),
+            equal: self.equal.wrapping_add(u64::from(is_equal)),
         }
     }
 }
 
-fn print(out: &mut StandardOutput, name: &[u8], tally: Tally) {
-    out.put(name);
-    out.decimal(tally.asked);
-    out.put(b" equal ");
-    out.decimal(tally.equal);
-    out.put(b"\n");
-}
-
-fn none() -> Tally {
-    Tally { asked: 0, equal: 0 }
-}
-
-fn next(input: &mut StandardInput, sort: u32, before: Tally) -> Tally {
-    if sort == ramps::TEXTS {
-        return texts::run(input, before);
+impl Stored {
+    // As many records of one sort as the next word says, each compared by `one`; what they answered is one line.
+    fn records<F: Fn(&mut Stored)>(&mut self, out: &mut StandardOutput, name: &str, one: F)
+        requires { F.IsAlwaysCallable one }
+    {
+        self.tally = Tally::NONE;
+        for _ in 0..self.word() {
+            one(self);
+        }
+        let Tally { asked, equal } = self.tally;
+        writeln!(out, "{name} {asked} equal {equal}");
     }
-    if sort == ramps::BANDS {
-        return bands::run(input, before);
-    }
-    if sort == ramps::WRITTEN {
-        return written::run(input, before);
-    }
-    if sort == ramps::SHEETS {
-        return sheets::run(input, before);
-    }
-    ramps::run(input, sort, before)
-}
-
-// As many records of one sort as the next word says.
-fn records(input: &mut StandardInput, sort: u32) -> Tally {
-    let mut tally = none();
-    let mut left = words::word(input);
-    while left > 0 {
-        tally = next(input, sort, tally);
-        left -= 1;
-    }
-    tally
 }
 
 fn main(rt: HostRuntime) -> io::Result<()> {
-    let mut input = StandardInput::new(rt.stdin());
+    let mut stored = Stored::new(StandardInput::new(rt.stdin()));
     let mut out = StandardOutput::new(rt.stdout());
-    print(&mut out, b"colours ", records(&mut input, ramps::COLOURS));
-    print(&mut out, b"lists ", records(&mut input, ramps::LISTS));
-    print(&mut out, b"thinned ", records(&mut input, ramps::THINNED));
-    print(
-        &mut out,
-        b"refreshed ",
-        records(&mut input, ramps::REFRESHED),
-    );
-    print(&mut out, b"texts ", records(&mut input, ramps::TEXTS));
-    print(&mut out, b"sharp ", records(&mut input, ramps::BANDS));
-    print(&mut out, b"within ", records(&mut input, ramps::WITHIN));
-    print(&mut out, b"stale ", records(&mut input, ramps::STALE));
-    print(&mut out, b"sheets ", records(&mut input, ramps::SHEETS));
-    print(&mut out, b"waves ", records(&mut input, ramps::COLOURS));
-    print(&mut out, b"written ", records(&mut input, ramps::WRITTEN));
-    print(&mut out, b"verdicts ", records(&mut input, ramps::VERDICTS));
-    print(&mut out, b"steps ", records(&mut input, ramps::STEPS));
-    input.end()?;
+    stored.records(&mut out, "colours", |s| ramps::run(s, colours::answers));
+    stored.records(&mut out, "lists", |s| ramps::run(s, lists::flattened));
+    stored.records(&mut out, "thinned", |s| ramps::run(s, lists::thinned));
+    stored.records(&mut out, "refreshed", |s| ramps::run(s, lists::refreshed));
+    stored.records(&mut out, "texts", texts::run);
+    stored.records(&mut out, "sharp", bands::run);
+    stored.records(&mut out, "within", |s| ramps::run(s, held::flattened));
+    stored.records(&mut out, "stale", |s| ramps::run(s, held::thinned));
+    stored.records(&mut out, "sheets", sheets::run);
+    stored.records(&mut out, "waves", |s| ramps::run(s, colours::answers));
+    stored.records(&mut out, "written", written::run);
+    stored.records(&mut out, "verdicts", |s| ramps::run(s, verdicts::answers));
+    stored.records(&mut out, "steps", |s| ramps::run(s, steps::answers));
+    stored.end()?;
     out.end()
 }

@@ -1,31 +1,7 @@
 // A stored ramp, of any kind, and what was asked of it.
-use crate::{Tally, colours, held, lists, steps, verdicts, words};
+use crate::words::{Stored, front};
+use gradient::Ramp;
 use stops::Kind;
-use streams::StandardInput;
-
-pub const COLOURS: u32 = 1;
-
-pub const LISTS: u32 = 2;
-
-pub const THINNED: u32 = 3;
-
-pub const REFRESHED: u32 = 4;
-
-pub const TEXTS: u32 = 5;
-
-pub const BANDS: u32 = 6;
-
-pub const WRITTEN: u32 = 7;
-
-pub const VERDICTS: u32 = 8;
-
-pub const STEPS: u32 = 9;
-
-pub const WITHIN: u32 = 10;
-
-pub const STALE: u32 = 11;
-
-pub const SHEETS: u32 = 12;
 
 // One more than a ramp may have, 2,048 stops or 256 segments, so that the refusal of it is stored too.
 const MOST_POSITIONS: usize = 2049;
@@ -34,6 +10,7 @@ const MOST_CHANNELS: usize = 4 * 2049;
 
 const MOST_CODES: usize = 2 * 257;
 
+// Any number has a kind, and neither of the two types is of this crate, so that no `From` can say it.
 pub fn kind_of(code: u32) -> Kind {
     match code {
         0 => Kind::Linear,
@@ -46,77 +23,25 @@ pub fn kind_of(code: u32) -> Kind {
     }
 }
 
-fn answers(
-    input: &mut StandardInput,
-    sort: u32,
-    kind: Kind,
-    positions: &[f32],
-    channels: &[f32],
-    codes: &[u8],
-    before: Tally,
-) -> Tally {
-    if sort == COLOURS {
-        return colours::answers(input, kind, positions, channels, codes, before);
-    }
-    if sort == LISTS {
-        return lists::flattened(input, kind, positions, channels, codes, before);
-    }
-    if sort == THINNED {
-        return lists::thinned(input, kind, positions, channels, codes, before);
-    }
-    if sort == VERDICTS {
-        return verdicts::answers(input, kind, positions, channels, codes, before);
-    }
-    if sort == STEPS {
-        return steps::answers(input, kind, positions, channels, codes, before);
-    }
-    if sort == WITHIN {
-        return held::flattened(input, kind, positions, channels, codes, before);
-    }
-    if sort == STALE {
-        return held::thinned(input, kind, positions, channels, codes, before);
-    }
-    lists::refreshed(input, kind, positions, channels, codes, before)
-}
-
-// The next ramp, into the start of the space.
-fn read(
-    input: &mut StandardInput,
-    sort: u32,
-    positions: &mut [f32],
-    channels: &mut [f32],
-    codes: &mut [u8],
-    before: Tally,
-) -> Tally {
-    let kind = kind_of(words::word(input));
-    let p = words::word(input) as usize;
-    let c = words::word(input) as usize;
-    let k = words::word(input) as usize;
-    words::floats(input, positions, p);
-    words::floats(input, channels, c);
-    words::bytes(input, codes, k);
-    answers(
-        input,
-        sort,
-        kind,
-        words::cut(positions, p),
-        words::cut(channels, c),
-        words::cut_bytes(codes, k),
-        before,
-    )
-}
-
-// The next record of this sort.
-pub fn run(input: &mut StandardInput, sort: u32, before: Tally) -> Tally {
+// The next ramp, and what `answers` compares of it.
+pub fn run<F: Fn(&mut Stored, Ramp<'_>)>(stored: &mut Stored, answers: F)
+    requires { F.IsAlwaysCallable answers }
+{
     let mut positions = [0.0f32; MOST_POSITIONS];
     let mut channels = [0.0f32; MOST_CHANNELS];
     let mut codes = [0u8; MOST_CODES];
-    read(
-        input,
-        sort,
-        &mut positions,
-        &mut channels,
-        &mut codes,
-        before,
-    )
+    let kind = kind_of(stored.word());
+    let p = stored.count();
+    let c = stored.count();
+    let k = stored.count();
+    stored.fill(&mut positions, p);
+    stored.fill(&mut channels, c);
+    stored.fill(&mut codes, k);
+    let ramp = Ramp {
+        kind,
+        positions: front(&positions, p),
+        channels: front(&channels, c),
+        codes: front(&codes, k),
+    };
+    answers(stored, ramp);
 }

@@ -1,11 +1,10 @@
 // Stored sheets: each is opened and then edited, refused turns among them.
-use crate::lists::{RECORD, RUBBISH};
+use crate::lists::{RECORD, RUBBISH, Record};
 use crate::ramps::kind_of;
-use crate::{Tally, turns, words};
-use linearize::Sampler;
+use crate::turns;
+use crate::words::{Stored, front};
 use sheet::ListSort;
 use stops::Kind;
-use streams::StandardInput;
 
 // The most that is lent: twelve stops or segments, and room for four stops more.
 const MOST_POSITIONS: usize = 3 * 12 + 4;
@@ -14,142 +13,68 @@ const MOST_CHANNELS: usize = 8 * 12 + 4 * 4;
 
 const MOST_CODES: usize = 2 * 12 + 1;
 
-fn list_sort(input: &mut StandardInput) -> ListSort {
-    let sort = words::word(input);
-    let hold = words::float(input);
+fn list_sort(stored: &mut Stored) -> ListSort {
+    let sort = stored.word();
+    let hold = stored.float();
     if sort == 0 {
-        return ListSort::Thinned;
+        ListSort::Thinned
+    } else {
+        ListSort::Within(hold)
     }
-    ListSort::Within(hold)
 }
 
-// The opening, and the edits.
+// A ramp with its room, turned with a record and outputs of the lengths that the next words say; a length for which there is
+// no space tells nothing.
 fn turned(
-    input: &mut StandardInput,
+    stored: &mut Stored,
     kind: Kind,
     positions: &mut [f32],
     channels: &mut [f32],
     codes: &[u8],
-    rows: &mut [f32],
-    places: &mut [f32],
-    before: Tally,
-) -> Tally {
-    let mut counts = [0u8; Sampler::CELLS];
-    let mut marks = [0u32; Sampler::MARKS];
-    let mut colours = [RUBBISH; 4 * (RECORD + 1)];
-    let sort = list_sort(input);
-    let tally = turns::first(
-        input,
-        kind,
-        positions,
-        channels,
-        codes,
-        sort,
-        rows,
-        &mut counts,
-        &mut marks,
-        places,
-        &mut colours,
-        before,
-    );
-    turns::run(
-        input,
-        kind,
-        positions,
-        channels,
-        codes,
-        sort,
-        rows,
-        &mut counts,
-        &mut marks,
-        places,
-        &mut colours,
-        tally,
-    )
-}
-
-// With a record and outputs of the lengths that the next words say; a length for which there is no space tells nothing.
-fn held(
-    input: &mut StandardInput,
-    kind: Kind,
-    positions: &mut [f32],
-    channels: &mut [f32],
-    codes: &[u8],
-    rows: &mut [f32],
-    places: &mut [f32],
-    before: Tally,
-) -> Tally {
-    let r = words::word(input) as usize;
-    let p = words::word(input) as usize;
-    if r > rows.len() {
-        return before;
-    }
-    if p > places.len() {
-        return before;
-    }
-    turned(
-        input,
-        kind,
-        positions,
-        channels,
-        codes,
-        &mut rows[..r],
-        &mut places[..p],
-        before,
-    )
-}
-
-// A ramp with its room, the first p positions and c channels of the space.
-fn lent(
-    input: &mut StandardInput,
-    kind: Kind,
-    positions: &mut [f32],
-    channels: &mut [f32],
-    codes: &[u8],
-    p: usize,
-    c: usize,
-    before: Tally,
-) -> Tally {
-    let mut rows = [RUBBISH; RECORD];
+) {
+    let mut record = Record::new(RUBBISH);
     let mut places = [RUBBISH; RECORD + 1];
-    if p > positions.len() {
-        return before;
+    let mut colours = [RUBBISH; 4 * (RECORD + 1)];
+    let r = stored.count();
+    let p = stored.count();
+    if r > RECORD || p > RECORD + 1 {
+        return;
     }
-    if c > channels.len() {
-        return before;
-    }
-    held(
-        input,
+    let sort = list_sort(stored);
+    turns::run(
+        stored,
         kind,
-        &mut positions[..p],
-        &mut channels[..c],
+        positions,
+        channels,
         codes,
-        &mut rows,
-        &mut places,
-        before,
-    )
+        sort,
+        &mut record.rows[..r],
+        &mut record.counts,
+        &mut record.marks,
+        &mut places[..p],
+        &mut colours,
+    );
 }
 
-// The next sheet.
-pub fn run(input: &mut StandardInput, before: Tally) -> Tally {
+// The next sheet; a ramp for which there is no space tells nothing.
+pub fn run(stored: &mut Stored) {
     let mut positions = [0.0f32; MOST_POSITIONS];
     let mut channels = [0.0f32; MOST_CHANNELS];
     let mut codes = [0u8; MOST_CODES];
-    let kind = kind_of(words::word(input));
-    let p = words::word(input) as usize;
-    let c = words::word(input) as usize;
-    let k = words::word(input) as usize;
-    words::floats(input, &mut positions, p);
-    words::floats(input, &mut channels, c);
-    words::bytes(input, &mut codes, k);
-    lent(
-        input,
-        kind,
-        &mut positions,
-        &mut channels,
-        words::cut_bytes(&codes, k),
-        p,
-        c,
-        before,
-    )
+    let kind = kind_of(stored.word());
+    let p = stored.count();
+    let c = stored.count();
+    let k = stored.count();
+    stored.fill(&mut positions, p);
+    stored.fill(&mut channels, c);
+    stored.fill(&mut codes, k);
+    if p <= MOST_POSITIONS && c <= MOST_CHANNELS {
+        turned(
+            stored,
+            kind,
+            &mut positions[..p],
+            &mut channels[..c],
+            front(&codes, k),
+        );
+    }
 }

@@ -1,176 +1,157 @@
 // The stored answers come as words on standard input: eight hexadecimal digits and one byte that ends them.
+use crate::Tally;
 use blend::Rgba;
+use std::io;
 use streams::StandardInput;
 
-// The value of a hexadecimal digit, 0 for any other byte.
+// What a word stands for.
+pub trait Value: Copy {
+    // What is compared with a word where there is no value.
+    const NONE: u32;
+
+    fn of_word(word: u32) -> Self;
+
+    fn to_word(self) -> u32;
+}
+
+// Words are compared by their sums alone, so that none is missing.
+impl Value for u32 {
+    const NONE: u32 = 0;
+
+    fn of_word(word: u32) -> u32 {
+        word
+    }
+
+    fn to_word(self) -> u32 {
+        self
+    }
+}
+
+impl Value for u8 {
+    const NONE: u32 = 256;
+
+    fn of_word(word: u32) -> u8 {
+        (word % 256) as u8
+    }
+
+    fn to_word(self) -> u32 {
+        u32::from(self)
+    }
+}
+
+// One NaN stands for all.
+impl Value for f32 {
+    const NONE: u32 = 2143289344;
+
+    fn of_word(word: u32) -> f32 {
+        float::from_bits(word)
+    }
+
+    fn to_word(self) -> u32 {
+        float::to_bits(self)
+    }
+}
+
+// The value of a hexadecimal digit, 0 for any other byte. `leaves` has the same lines: shared, they would be a public function of
+// `streams`, with a definition and a promise of its own.
 fn digit(b: u8) -> u32 {
-    if b < 48 {
-        return 0;
-    }
-    if b <= 57 {
-        return (b - 48) as u32;
-    }
-    if b < 97 {
-        return 0;
-    }
-    if b <= 102 {
-        return (b - 87) as u32;
-    }
-    0
-}
-
-fn pair(high: u8, low: u8) -> u32 {
-    (digit(high) << 4) | digit(low)
-}
-
-// The next word; 0 once the input has ended.
-pub fn word(input: &mut StandardInput) -> u32 {
-    let mut text = [0u8; 9];
-    if input.fill(&mut text) < 9 {
-        return 0;
-    }
-    let high = (pair(text[0], text[1]) << 24) | (pair(text[2], text[3]) << 16);
-    high | (pair(text[4], text[5]) << 8) | pair(text[6], text[7])
-}
-
-// The float that a word stands for.
-pub fn float_of(bits: u32) -> f32 {
-    if bits % 2147483648 > 2139095040 {
-        return 0.0 / 0.0;
-    }
-    f32::from_bits(bits)
-}
-
-pub fn float(input: &mut StandardInput) -> f32 {
-    float_of(word(input))
-}
-
-pub fn colour(input: &mut StandardInput) -> Rgba {
-    Rgba {
-        r: float(input),
-        g: float(input),
-        b: float(input),
-        a: float(input),
+    match b {
+        b'0'..=b'9' => u32::from(b - b'0'),
+        b'a'..=b'f' => u32::from(b - b'a' + 10),
+        _ => 0,
     }
 }
 
-// The word that stands for x; one NaN stands for all.
-pub fn bits(x: f32) -> u32 {
-    if x != x {
-        return 2143289344;
-    }
-    f32::to_bits(x)
+// The first n of xs, or all of it.
+pub fn front<T>(xs: &[T], n: usize) -> &[T] {
+    &xs[..n.min(xs.len())]
 }
 
-// Whether x is the float that a word stands for.
-pub fn is_word(x: f32, word: u32) -> bool {
-    bits(x) == word
-}
-
-fn put(out: &mut [f32], i: usize, x: f32) {
+fn put<T: Copy>(out: &mut [T], i: usize, x: T) {
     if i < out.len() {
         out[i] = x;
     }
 }
 
-// Takes n floats into the start of out; those past its end are read and dropped.
-pub fn floats(input: &mut StandardInput, out: &mut [f32], n: usize) {
-    let mut i = 0;
-    while i < n {
-        put(out, i, float(input));
-        i += 1;
+// The words that are left, and the answers that were compared with those before.
+#[derive(Drop)]
+pub struct Stored {
+    input: StandardInput,
+    pub tally: Tally,
+}
+
+impl Stored {
+    pub fn new(input: StandardInput) -> Stored {
+        Stored {
+            input,
+            tally: Tally::NONE,
+        }
     }
-}
 
-// Takes n floats, each after its own place in out; those past its end are read and dropped.
-pub fn scattered(input: &mut StandardInput, out: &mut [f32], n: u32) {
-    let mut i = 0;
-    while i < n {
-        let at = word(input) as usize;
-        put(out, at, float(input));
-        i += 1;
+    pub fn end(self) -> io::Result<()> {
+        self.input.end()
     }
-}
 
-// The first n of s, or all of it.
-pub fn cut(s: &[f32], n: usize) -> &[f32] {
-    if n < s.len() {
-        return &s[..n];
+    // The next word; 0 once the input has ended.
+    pub fn word(&mut self) -> u32 {
+        let mut text = [0u8; 9];
+        if self.input.fill(&mut text) < 9 {
+            return 0;
+        }
+        text[..8].iter().fold(0, |word, b| (word << 4) | digit(*b))
     }
-    s
-}
 
-fn put_byte(out: &mut [u8], i: usize, x: u8) {
-    if i < out.len() {
-        out[i] = x;
+    pub fn count(&mut self) -> usize {
+        self.word() as usize
     }
-}
 
-fn byte(input: &mut StandardInput) -> u8 {
-    (word(input) % 256) as u8
-}
-
-// The same for bytes, each its own word.
-pub fn bytes(input: &mut StandardInput, out: &mut [u8], n: usize) {
-    let mut i = 0;
-    while i < n {
-        put_byte(out, i, byte(input));
-        i += 1;
+    pub fn float(&mut self) -> f32 {
+        f32::of_word(self.word())
     }
-}
 
-pub fn cut_bytes(s: &[u8], n: usize) -> &[u8] {
-    if n < s.len() {
-        return &s[..n];
+    pub fn colour(&mut self) -> Rgba {
+        Rgba {
+            r: self.float(),
+            g: self.float(),
+            b: self.float(),
+            a: self.float(),
+        }
     }
-    s
-}
 
-pub fn is_number(n: usize, word: u32) -> bool {
-    n == word as usize
-}
-
-pub fn both(a: bool, b: bool) -> bool {
-    if a { b } else { false }
-}
-
-fn item(xs: &[f32], i: u32) -> f32 {
-    if (i as usize) < xs.len() {
-        return xs[i as usize];
+    // Takes n values into the start of out; those past its end are read and dropped.
+    pub fn fill<T: Value>(&mut self, out: &mut [T], n: usize) {
+        for i in 0..n {
+            put(out, i, T::of_word(self.word()));
+        }
     }
-    0.0 / 0.0
-}
 
-// Whether the next n words are the first n of xs. All of them are read.
-pub fn are_words(input: &mut StandardInput, xs: &[f32], n: u32) -> bool {
-    let mut all = true;
-    let mut i = 0;
-    while i < n {
-        all = both(all, is_word(item(xs, i), word(input)));
-        i += 1;
+    // Takes as many values as the next word says, each after its own place in out; those past its end are read and dropped.
+    pub fn scatter<T: Value>(&mut self, out: &mut [T]) {
+        for _ in 0..self.word() {
+            let at = self.count();
+            put(out, at, T::of_word(self.word()));
+        }
     }
-    all
-}
 
-pub fn wide(x: u8) -> u32 {
-    x as u32
-}
-
-// A byte, or 256 past the end.
-fn byte_at(xs: &[u8], i: u32) -> u32 {
-    if (i as usize) < xs.len() {
-        return wide(xs[i as usize]);
+    // Whether the next n words are the first n of xs. All of them are read.
+    pub fn are<T: Value>(&mut self, xs: &[T], n: usize) -> bool {
+        let mut all = true;
+        for i in 0..n {
+            let word = xs.get(i).map_or(T::NONE, |x| x.to_word());
+            all &= word == self.word();
+        }
+        all
     }
-    256
-}
 
-// The same for bytes, each its own word.
-pub fn are_bytes(input: &mut StandardInput, xs: &[u8], n: u32) -> bool {
-    let mut all = true;
-    let mut i = 0;
-    while i < n {
-        all = both(all, byte_at(xs, i) == word(input));
-        i += 1;
+    // Counts one more answer.
+    pub fn compare(&mut self, is_equal: bool) {
+        self.tally = self.tally.with(is_equal);
     }
-    all
+
+    // Compares a slice, as one answer: how many words, and those words.
+    pub fn compare_all<T: Value>(&mut self, xs: &[T]) {
+        let n = self.count();
+        let is_equal = self.are(xs, n);
+        self.compare(is_equal);
+    }
 }

@@ -1,7 +1,6 @@
 // Stored lists as GIMP files: the refusal, or 0, and how many bytes; and the start of the output.
-use crate::{Tally, words};
+use crate::words::{Stored, front};
 use ggr_writing::WriteAnswer;
-use streams::StandardInput;
 
 const MOST_STOPS: usize = 16;
 
@@ -11,66 +10,27 @@ const MOST_BYTES: usize = 2000;
 const RUBBISH: u8 = 7;
 
 // Whether the answer is the next two words: refusal, bytes.
-fn is_answer(input: &mut StandardInput, answer: WriteAnswer) -> bool {
-    let refusal = words::word(input);
-    let bytes = words::word(input);
+fn is_answer(stored: &mut Stored, answer: WriteAnswer) -> bool {
+    let refusal = stored.word();
+    let bytes = stored.count();
     match answer {
-        WriteAnswer::Refused(n) => n as u32 == refusal,
-        WriteAnswer::Written(n) => {
-            if refusal != 0 {
-                return false;
-            }
-            words::is_number(n, bytes)
-        }
+        WriteAnswer::Refused(n) => u32::from(n) == refusal,
+        WriteAnswer::Written(n) => refusal == 0 && n == bytes,
     }
 }
 
-// Writes into the first `room` bytes, or into all of them.
-fn write(positions: &[f32], channels: &[f32], text: &mut [u8], room: usize) -> WriteAnswer {
-    if room < text.len() {
-        return ggr_writing::write(positions, channels, &mut text[..room]);
-    }
-    ggr_writing::write(positions, channels, text)
-}
-
-// The answer and the output, each an answer of its own.
-fn answers(
-    input: &mut StandardInput,
-    positions: &[f32],
-    channels: &[f32],
-    room: usize,
-    before: Tally,
-) -> Tally {
-    let mut text = [RUBBISH; MOST_BYTES];
-    let answer = write(positions, channels, &mut text, room);
-    let answered = before.with(is_answer(input, answer));
-    let n = words::word(input);
-    answered.with(words::are_bytes(input, &text, n))
-}
-
-fn read(
-    input: &mut StandardInput,
-    positions: &mut [f32],
-    channels: &mut [f32],
-    before: Tally,
-) -> Tally {
-    let p = words::word(input) as usize;
-    let c = words::word(input) as usize;
-    let room = words::word(input) as usize;
-    words::floats(input, positions, p);
-    words::floats(input, channels, c);
-    answers(
-        input,
-        words::cut(positions, p),
-        words::cut(channels, c),
-        room,
-        before,
-    )
-}
-
-// The next list with its answers.
-pub fn run(input: &mut StandardInput, before: Tally) -> Tally {
+// The next list, written into the first `room` bytes or into all of them; the answer and the output, each an answer of its own.
+pub fn run(stored: &mut Stored) {
     let mut positions = [0.0f32; MOST_STOPS];
     let mut channels = [0.0f32; 4 * MOST_STOPS];
-    read(input, &mut positions, &mut channels, before)
+    let mut text = [RUBBISH; MOST_BYTES];
+    let p = stored.count();
+    let c = stored.count();
+    let room = stored.count().min(MOST_BYTES);
+    stored.fill(&mut positions, p);
+    stored.fill(&mut channels, c);
+    let answer = ggr_writing::write(front(&positions, p), front(&channels, c), &mut text[..room]);
+    let is_equal = is_answer(stored, answer);
+    stored.compare(is_equal);
+    stored.compare_all(&text);
 }

@@ -10,8 +10,7 @@ use lib.Seq.{drop-cons}
 use lib.Dec.{leb, ltb}
 use borrow.Author.Tests.{le-leb, lt-leb, lt-ltb, le-ltb}
 use Rattle.decimal.specs.Decimal.{is_digit, value_after}
-use Rattle.rows.specs.declared.digits.Digits.{Digits}
-use Rattle.rows.specs.declared.digits.Digits.TheVariants.{Bad, Is}
+use Rattle.std.specs.Prelude.{Option, Some, None}
 use Rattle.text.specs.Text.{every}
 use Rattle.rows.specs.Digits.{digits_of}
 use Rattle.text.proofs.Bytes.{every_step, every_none}
@@ -29,42 +28,30 @@ unfolding value_after
 value_grows v [] = omega arith
 value_grows v (b ∷ s) = omega (arith, value_grows (v * 10 + (b - 48)) s)
 
-pub digit_yes : (b : ℕ) → 48 ≤ b → b ≤ 57 → is_digit b ≡ true
-digit_yes b h k = rw (le-leb 48 b h, le-leb b 57 k)
-
-pub digit_low : (b : ℕ) → b < 48 → is_digit b ≡ false
-digit_low b h = rw (lt-leb 48 b h)
-
-pub digit_high : (b : ℕ) → 57 < b → is_digit b ≡ false
-digit_high b h = rw (lt-leb b 57 h) (and-false (leb 48 b)) where
-  and-false : (t : Bool) → (t && false) ≡ false
-  and-false true = refl
-  and-false false = refl
-
-both_bad : (t : Bool) → cond t Bad Bad ≡ Bad
-both_bad true = refl
-both_bad false = refl
+both_none : (t : Bool) → cond {A = Option ℕ} t None None ≡ None
+both_none true = refl
+both_none false = refl
 
 module _ (l : List ℕ) where
-  pub digits_empty : length l ≡ 0 → Bad ≡ digits_of l
+  pub digits_empty : length l ≡ 0 → None ≡ digits_of l
   unfolding digits_of
   digits_empty e = rw (le-ltb 0 (length l) (omega arith))
 
   -- a byte that is no digit, after i digits
-  pub digits_other : (i : ℕ) → i < length l → every is_digit l ≡ every is_digit (drop i l) → is_digit (get_or l i 0) ≡ false → Bad ≡ digits_of l
+  pub digits_other : (i : ℕ) → i < length l → every is_digit l ≡ every is_digit (drop i l) → is_digit (get_or l i 0) ≡ false → None ≡ digits_of l
   unfolding digits_of
   digits_other i h e f =
       let g : every is_digit l ≡ false = e ∙ every_step is_digit l i h ∙ ap (λ (t : Bool). t && every is_digit (drop (i + 1) l)) f in
       rw g (sym (no (ltb 0 (length l)) _)) where
-        no : (t : Bool) (x : Digits) → cond (t && false) x Bad ≡ Bad
+        no : (t : Bool) (x : Option ℕ) → cond (t && false) x None ≡ None
         no true x = refl
         no false x = refl
 
-  pub digits_big : 2 ^ 64 ≤ value_after 0 l → Bad ≡ digits_of l
+  pub digits_big : 2 ^ 64 ≤ value_after 0 l → None ≡ digits_of l
   unfolding digits_of
-  digits_big h = rw (le-ltb (value_after 0 l) (2 ^ 64) h) (sym (both_bad (ltb 0 (length l) && every is_digit l)))
+  digits_big h = rw (le-ltb (value_after 0 l) (2 ^ 64) h) (sym (both_none (ltb 0 (length l) && every is_digit l)))
 
-  pub digits_is : (v i : ℕ) → 0 < length l → length l ≤ i → every is_digit l ≡ every is_digit (drop i l) → v < 2 ^ 64 → v ≡ value_after 0 l → Is v ≡ digits_of l
+  pub digits_is : (v i : ℕ) → 0 < length l → length l ≤ i → every is_digit l ≡ every is_digit (drop i l) → v < 2 ^ 64 → v ≡ value_after 0 l → Some v ≡ digits_of l
   unfolding digits_of
   digits_is v i k f e h g =
       let d : every is_digit l ≡ true = e ∙ every_none is_digit l i f in

@@ -146,6 +146,7 @@ pub fn row_at(s: &[u8], at: usize, by: Parting, notation: Notation) -> Row
     let mut d = [0.0f32; 15];
     let mut n = 0;
     let mut i = at;
+    // What ends the loop, a field that is none, also tells where what follows starts: no test stands at its head.
     loop {
         let f = field_at(s, i, by);
         let start = f.at;

@@ -3,50 +3,20 @@ use mathlib.Core.Path.{◌≡◌, refl, ◌∙◌}
 use mathlib.Core.Bool.{Bool, true, false, cond, ◌&&◌, ◌||◌}
 use Prim.Native.Nat.{ℕ}
 use native.Mathlib.Omega.{arith}
-use borrow.Author.Tests.{eq-eqb, ne_eqb, eqb-true}
+use borrow.Author.Tests.{eq-eqb, eqb-true}
 use lib.Dec.{eqb}
-use lib.Ieee.{Float, neg, lt}
+use lib.Ieee.{Float}
 use Rattle.refusals.specs.Refusals.{far_domain, bad_record}
 use Rattle.float.proofs.Flags.{both_l, both_r}
 use Rattle.stops.specs.declared.Checked.{Checked}
 use Rattle.stops.specs.declared.Checked.TheVariants as checked
 use Rattle.stops.specs.Lent.{Ramp}
 use Rattle.gradient.specs.Ramp.{check_of, min_of, max_of}
-use Rattle.sampling.specs.Constants.{farthest}
 use Rattle.sampling.specs.Sampling.{beyond_of, and_then, shape_check, sample_check}
 
--- a number below minus 1e38, or tested against 1e38
-pub beyond_low : (x : Float) → lt x (neg farthest) ≡ true → true ≡ beyond_of x
-unfolding beyond_of
-beyond_low x h = simp h
-
-pub beyond_high : (x : Float) → lt x (neg farthest) ≡ false → lt farthest x ≡ beyond_of x
-unfolding beyond_of
-beyond_high x h = simp h
-
 module _ (lo hi : Float) (n m k : ℕ) where
-  pub low_beyond : beyond_of lo ≡ true → checked.Refused far_domain ≡ shape_check lo hi n m k
-  unfolding shape_check
-  low_beyond h = simp h
-
   module _ (l : beyond_of lo ≡ false) where
-    pub high_beyond : beyond_of hi ≡ true → checked.Refused far_domain ≡ shape_check lo hi n m k
-    unfolding shape_check
-    high_beyond h = simp (l, h)
-
     module _ (h : beyond_of hi ≡ false) where
-      pub rows_wrong : (n ≡ 4608 → ⊥) → checked.Refused bad_record ≡ shape_check lo hi n m k
-      unfolding shape_check
-      rows_wrong a = simp (l, h, ne_eqb n 4608 a)
-
-      pub counts_wrong : n ≡ 4608 → (m ≡ 36 → ⊥) → checked.Refused bad_record ≡ shape_check lo hi n m k
-      unfolding shape_check
-      counts_wrong a b = simp (l, h, eq-eqb n 4608 a, ne_eqb m 36 b)
-
-      pub marks_wrong : n ≡ 4608 → m ≡ 36 → (k ≡ 3 → ⊥) → checked.Refused bad_record ≡ shape_check lo hi n m k
-      unfolding shape_check
-      marks_wrong a b c = simp (l, h, eq-eqb n 4608 a, eq-eqb m 36 b, ne_eqb k 3 c)
-
       pub shape_fine : n ≡ 4608 → m ≡ 36 → k ≡ 3 → checked.Fine ≡ shape_check lo hi n m k
       unfolding shape_check
       shape_fine a b c = simp (l, h, eq-eqb n 4608 a, eq-eqb m 36 b, eq-eqb k 3 c)

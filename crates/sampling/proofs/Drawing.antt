@@ -4,7 +4,7 @@ use mathlib.Core.Bool.{Bool, true, false, true≢false, cond}
 use mathlib.Core.List.{List}
 use Prim.Native.Nat.{ℕ, ◌+◌, ◌-◌, ◌≤◌, ◌<◌}
 use native.Mathlib.Omega.{arith}
-use borrow.Author.Tests.{ltb-true, lt-ltb, le-ltb, eqb-true, eq-eqb, ne_eqb}
+use borrow.Author.Tests.{ltb-true, lt-ltb, eqb-true, ne_eqb}
 use lib.Dec.{ltb, eqb}
 use lib.Ieee.{Float}
 use Rattle.blend.specs.Chords.{chords_of, segment_drawn}
@@ -16,33 +16,6 @@ use Rattle.stops.specs.Stops.{colour_at}
 use Rattle.sampling.specs.Segments.{Drawn, drawn_of, curve_of, chords_at, drawn_for, follows, drawn_between, redrawn}
 
 -- ---- what the functions give
-module _ (n i k : ℕ) where
-  pub after_none : i ≡ 0 → false ≡ follows n i k
-  unfolding follows
-  after_none h = simp (le-ltb 0 i (omega arith))
-
-  module _ (some : 0 < i) where
-    pub after_all : n ≤ k → false ≡ follows n i k
-    unfolding follows
-    after_all h = simp (lt-ltb 0 i some, le-ltb k n h)
-
-    module _ (inside : k < n) where
-      pub after_back : k ≤ i → false ≡ follows n i k
-      unfolding follows
-      after_back h =
-          let none : k - i ≡ 0 = omega arith in
-          simp (lt-ltb 0 i some, lt-ltb k n inside, none)
-
-      pub after_one : eqb (k - i) 1 ≡ follows n i k
-      unfolding follows
-      after_one = simp (lt-ltb 0 i some, lt-ltb k n inside)
-
-pub is_there : {there : Bool} {x y : Rgba} (z : Rgba) → there ≡ true → x ≡ y → x ≡ cond there y z
-is_there z h e = e ∙ simp h
-
-pub is_not_there : {there : Bool} {x z : Rgba} (y : Rgba) → there ≡ false → x ≡ z → x ≡ cond there y z
-is_not_there y h e = e ∙ simp h
-
 pub between_is : (cs : List Float) (n i : ℕ) (s : Drawn) (j : ℕ) (u : Drawn) (k : ℕ) {behind ahead : Bool} {m : ℕ} {p q left right before within after : Rgba} {curve r : List (List Float)}
     → behind ≡ follows n i k
     → ahead ≡ follows n k j
@@ -60,25 +33,6 @@ pub between_is : (cs : List Float) (n i : ℕ) (s : Drawn) (j : ℕ) (u : Drawn)
 unfolding drawn_between
 between_is cs n i s j u k b_is a_is m_is p_is q_is left_is right_is before_is within_is after_is curve_is r_is =
     rw (r_is, curve_is, after_is, within_is, before_is, right_is, left_is, q_is, p_is, m_is, a_is, b_is)
-
-module _ (cs : List Float) (n i : ℕ) (s : Drawn) (j : ℕ) (u : Drawn) (k : ℕ) where
-  pub redrawn_none : k ≡ 0 → s ≡ redrawn cs n i s j u k
-  unfolding redrawn
-  redrawn_none h = simp (eq-eqb k 0 h)
-
-  module _ (some : k ≡ 0 → ⊥) where
-    pub redrawn_left : k ≡ i → s ≡ redrawn cs n i s j u k
-    unfolding redrawn
-    redrawn_left h = simp (ne_eqb k 0 some, eq-eqb k i h)
-
-    module _ (other : k ≡ i → ⊥) where
-      pub redrawn_right : k ≡ j → u ≡ redrawn cs n i s j u k
-      unfolding redrawn
-      redrawn_right h = simp (ne_eqb k 0 some, ne_eqb k i other, eq-eqb k j h)
-
-      pub redrawn_anew : {r : Drawn} → (k ≡ j → ⊥) → r ≡ drawn_between cs n i s j u k → r ≡ redrawn cs n i s j u k
-      unfolding redrawn
-      redrawn_anew last e = e ∙ simp (ne_eqb k 0 some, ne_eqb k i other, ne_eqb k j last)
 
 -- a segment is four rows, and its chords leave it whole
 whole : (p0 p1 p2 p3 before within after : Rgba) → curve_of (drawn_of (segment_drawn p0 p1 p2 p3 before within after) before within after) ≡ segment_drawn p0 p1 p2 p3 before within after

@@ -1,26 +1,17 @@
--- The parts of a record: its words are three, one after the other, and a threshold is known by its word. Assumes nothing.
+-- The parts of a record, and a threshold is known by its word. Assumes nothing.
 use mathlib.Core.Path.{◌≡◌, sym, ap, ◌∙◌}
 use mathlib.Core.Bool.{Bool, true, false, cond}
-use mathlib.Core.List.{List, [], ◌∷◌}
+use mathlib.Core.List.{List}
 use Prim.Native.Nat.{ℕ}
-use native.Mathlib.Omega.{arith}
 use lib.Dec.{T}
-use lib.ListN.{length, set, get_or}
-use lib.Ieee.{Float, binary32, fits, of_bits, to_bits, lt}
+use lib.ListN.{get_or}
+use lib.Ieee.{Float, binary32, fits, of_bits, lt}
 use lib.Ieee.Bits.{of_bits-to_bits, of_bits-fits}
 use lib.Ieee.Scale.{finite}
 use Rattle.stops.specs.Lent.{Ramp}
 use Rattle.sampling.specs.Constants.{threshold_of, least_threshold, most_threshold, default_threshold}
 use Rattle.sampling.specs.Lent.{Held, held_of}
-use Rattle.sampling.specs.Sampling.{words_of, marks_of}
-
-pub three_words : (l : List ℕ) (t lo hi : Float) (a b c : ℕ) → length l ≡ 3 → a ≡ to_bits binary32 t → b ≡ to_bits binary32 lo → c ≡ to_bits binary32 hi
-    → set (set (set l 0 a) 1 b) 2 c ≡ words_of t lo hi
-three_words (x ∷ y ∷ z ∷ []) t lo hi a b c h p q r = rw (p, q, r)
-three_words [] t lo hi a b c h p q r = absurd (omega arith)
-three_words (x ∷ []) t lo hi a b c h p q r = absurd (omega arith)
-three_words (x ∷ y ∷ []) t lo hi a b c h p q r = absurd (omega arith)
-three_words (x ∷ y ∷ z ∷ w ∷ l) t lo hi a b c h p q r = absurd (omega arith)
+use Rattle.sampling.specs.Sampling.{marks_of}
 
 -- a record is its three parts
 pub same_held : (h k : Held) → h.rows ≡ k.rows → h.counts ≡ k.counts → h.marks ≡ k.marks → h ≡ k

@@ -49,19 +49,11 @@ fn with_chords(s: [[f32; 4]; 4], before: Rgba, within: Rgba, after: Rgba) -> [[f
 }
 
 // Whether pair k of n stops comes after pair i.
+#[tactic(auto, unfolding(crate::specs::Segments::follows))]
 fn comes_after(n: usize, i: usize, k: usize) -> bool
     ensures { result ≡ follows n i k }
 {
-    if i == 0 {
-        return false;
-    }
-    if n <= k {
-        return false;
-    }
-    if k <= i {
-        return false;
-    }
-    k - i == 1
+    i != 0 && k < n && i < k && k - i == 1
 }
 
 // The chords of two neighbours: those in a row of s, if they are there.
@@ -70,9 +62,10 @@ fn chords_or(there: bool, s: &[[f32; 4]; 7], i: usize, p: Rgba, q: Rgba) -> Rgba
     ensures { result ≡ cond there (chords_at s.now i) (chords_of p q) }
 {
     if there {
-        return chords_at(s, i);
+        chords_at(s, i)
+    } else {
+        catmull_rom::chords(p, q)
     }
-    catmull_rom::chords(p, q)
 }
 
 // The chords within a pair: those after the pair before it, or those before the pair after it, if one of these is in hand.
@@ -87,9 +80,10 @@ fn chords_within(
     ensures { result ≡ cond behind (chords_at s.now 6) (cond ahead (chords_at u.now 4) (chords_of p q)) }
 {
     if behind {
-        return chords_at(s, AFTER);
+        chords_at(s, AFTER)
+    } else {
+        chords_or(ahead, u, BEFORE, p, q)
     }
-    chords_or(ahead, u, BEFORE, p, q)
 }
 
 // Draws pair k, with the pairs i and j in hand: each chord is a root for every channel, and neighbours share two of their three.
@@ -118,6 +112,7 @@ fn draw_between(
 }
 
 // Pair k, with the pairs i and j in hand. For no pair it is what is in hand.
+#[tactic(auto, unfolding(crate::specs::Segments::redrawn))]
 pub(crate) fn redraw(
     channels: &[f32],
     n: usize,
@@ -129,28 +124,22 @@ pub(crate) fn redraw(
 ) -> [[f32; 4]; 7]
     ensures { result ≡ redrawn channels.now n i s.now j u.now k }
 {
-    if k == 0 {
-        return *s;
+    if k == 0 || k == i {
+        *s
+    } else if k == j {
+        *u
+    } else {
+        draw_between(channels, n, i, s, j, u, k)
     }
-    if k == i {
-        return *s;
-    }
-    if k == j {
-        return *u;
-    }
-    draw_between(channels, n, i, s, j, u, k)
 }
 
 // Goes on from pair i, which s has, to pair k.
+#[tactic(auto, unfolding(crate::specs::Segments::redrawn))]
 pub(crate) fn follow(channels: &[f32], n: usize, i: usize, k: usize, s: &mut [[f32; 4]; 7])
     ensures { s.new ≡ redrawn channels.now n i s.old 0 s.old k }
 {
-    if k == 0 {
-        return;
+    if k != 0 && k != i {
+        let held = *s;
+        *s = draw_between(channels, n, i, &held, 0, &held, k);
     }
-    if k == i {
-        return;
-    }
-    let held = *s;
-    *s = draw_between(channels, n, i, &held, 0, &held, k);
 }

@@ -4,15 +4,16 @@
 ghost use Rattle.std.specs.Prelude.{◌≡◌};
 ghost use Rattle.sqrt.specs.Cutoff.{IsCutoff};
 ghost use Rattle.stops.specs.Answers.{Checks};
-ghost use Rattle.stops.specs.Lent.{lent_ramp};
 ghost use Rattle.sampling.specs.Constants.{threshold_of};
 ghost use Rattle.sampling.specs.Sampling.{beyond_of, shape_check, sample_check};
 ghost use Rattle.sampling.specs.Lent.{lent_held};
 ghost use Rattle.sampling.specs.Promises.{Samples, Resamples};
+ghost use Rattle.gradient.specs.Lent.{lent_ramp};
 
 use blend::Rgba;
+use gradient::Ramp;
 use refusals::{BAD_RECORD, FAR_DOMAIN};
-use stops::{Checked, Kind};
+use stops::Checked;
 
 pub mod cells;
 mod drawn;
@@ -45,24 +46,15 @@ impl Sampler {
     pub const FARTHEST: f32 = 100000000000000000000000000000000000000.0;
 
     // A threshold that is not finite becomes the default, another one is clamped.
+    #[tactic(auto, unfolding(crate::specs::Constants::threshold_of))]
     pub fn new(threshold: f32) -> Self
         ensures { result.threshold ≡ threshold_of threshold }
     {
-        if !float::is_finite(threshold) {
-            return Self {
-                threshold: Self::DEFAULT,
-            };
-        }
-        if threshold < Self::LEAST {
-            return Self {
-                threshold: Self::LEAST,
-            };
-        }
-        if threshold > Self::MOST {
-            return Self {
-                threshold: Self::MOST,
-            };
-        }
+        let threshold = if float::is_finite(threshold) {
+            threshold.clamp(Self::LEAST, Self::MOST)
+        } else {
+            Self::DEFAULT
+        };
         Self { threshold }
     }
 }
@@ -76,10 +68,9 @@ pub struct Point {
     pub pair: usize,
 }
 
-// What a sampling works by, beside the ramp's lists: the ramp's kind and domain, and how far apart colours may be.
+// What a sampling works by, beside the ramp: its domain, and how far apart colours may be.
 #[derive(Clone, Copy)]
 pub(crate) struct Task {
-    pub(crate) kind: Kind,
     pub(crate) cutoff: f32,
     pub(crate) min: f32,
     pub(crate) max: f32,
@@ -117,99 +108,60 @@ pub fn cutoff_of(threshold: f32) -> f32
 }
 
 // Beyond plus or minus 1e38.
+#[tactic(auto, unfolding(crate::specs::Sampling::beyond_of))]
 fn beyond(x: f32) -> bool
     ensures { result ≡ beyond_of x }
 {
-    if x < -Sampler::FARTHEST {
-        return true;
-    }
-    x > Sampler::FARTHEST
+    x < -Sampler::FARTHEST || x > Sampler::FARTHEST
 }
 
 // Refusal 4 of a domain, then 5 of a record's lengths.
+#[tactic(auto, unfolding(crate::specs::Sampling::shape_check))]
 fn check_shape(min: f32, max: f32, rows: usize, counts: usize, marks: usize) -> Checked
     ensures { result ≡ shape_check min max rows counts marks }
 {
-    if beyond(min) {
-        return Checked::Refused(FAR_DOMAIN);
+    let fits = rows == Sampler::CELLS * Sampler::ROW
+        && counts == Sampler::CELLS
+        && marks == Sampler::MARKS;
+    if beyond(min) || beyond(max) {
+        Checked::Refused(FAR_DOMAIN)
+    } else if fits {
+        Checked::Fine
+    } else {
+        Checked::Refused(BAD_RECORD)
     }
-    if beyond(max) {
-        return Checked::Refused(FAR_DOMAIN);
-    }
-    if rows != Sampler::CELLS * Sampler::ROW {
-        return Checked::Refused(BAD_RECORD);
-    }
-    if counts != Sampler::CELLS {
-        return Checked::Refused(BAD_RECORD);
-    }
-    if marks != Sampler::MARKS {
-        return Checked::Refused(BAD_RECORD);
-    }
-    Checked::Fine
 }
 
 // Refusals 1 to 5 of a sampling.
-pub fn check_sample(
-    kind: Kind,
-    positions: &[f32],
-    channels: &[f32],
-    codes: &[u8],
-    rows: usize,
-    counts: usize,
-    marks: usize,
-) -> Checked
-    ensures { Checks (sample_check (lent_ramp kind positions channels codes) rows counts marks) result }
+pub fn check_sample(ramp: &Ramp<'_>, rows: usize, counts: usize, marks: usize) -> Checked
+    ensures { Checks (sample_check (lent_ramp ramp.now) rows counts marks) result }
 {
-    match gradient::check(kind, positions, channels, codes) {
+    match ramp.check() {
         Checked::Refused(n) => Checked::Refused(n),
-        Checked::Fine => check_shape(
-            gradient::min_of(kind, positions),
-            gradient::max_of(kind, positions),
-            rows,
-            counts,
-            marks,
-        ),
+        Checked::Fine => check_shape(ramp.min(), ramp.max(), rows, counts, marks),
     }
 }
 
 // Samples a ramp into the lent record, but for the cells kept, which keep what they hold; the record's words are those of this call.
 // A refusal leaves the record as it was.
 pub fn resample(
-    kind: Kind,
-    positions: &[f32],
-    channels: &[f32],
-    codes: &[u8],
+    ramp: &Ramp<'_>,
     threshold: f32,
     keep: [bool; 36],
     rows: &mut [f32],
     counts: &mut [u8],
     marks: &mut [u32],
 ) -> Sampled
-    ensures { Resamples (lent_ramp kind positions channels codes) threshold keep (lent_held rows counts marks) result }
+    ensures { Resamples (lent_ramp ramp.now) threshold keep (lent_held rows counts marks) result }
 {
-    match check_sample(
-        kind,
-        positions,
-        channels,
-        codes,
-        rows.len(),
-        counts.len(),
-        marks.len(),
-    ) {
+    match check_sample(ramp, rows.len(), counts.len(), marks.len()) {
         Checked::Refused(n) => Sampled::Refused(n),
         Checked::Fine => {
             let cutoff = cutoff_of(threshold);
-            let min = gradient::min_of(kind, positions);
-            let max = gradient::max_of(kind, positions);
-            let task = Task {
-                kind,
-                cutoff,
-                min,
-                max,
-            };
-            let n = resampling::resample_cells(
-                task, positions, channels, codes, keep, rows, counts,
-            );
+            let min = ramp.min();
+            let max = ramp.max();
+            let task = Task { cutoff, min, max };
+            let n = resampling::resample_cells(ramp, task, keep, rows, counts);
             marks::put(threshold, min, max, marks);
             let evaluations = 3 * n;
             Sampled::Done(evaluations)
@@ -219,26 +171,13 @@ pub fn resample(
 
 // Samples a ramp into the lent record. A refusal leaves the record as it was.
 pub fn sample(
-    kind: Kind,
-    positions: &[f32],
-    channels: &[f32],
-    codes: &[u8],
+    ramp: &Ramp<'_>,
     threshold: f32,
     rows: &mut [f32],
     counts: &mut [u8],
     marks: &mut [u32],
 ) -> Sampled
-    ensures { Samples (lent_ramp kind positions channels codes) threshold (lent_held rows counts marks) result }
+    ensures { Samples (lent_ramp ramp.now) threshold (lent_held rows counts marks) result }
 {
-    resample(
-        kind,
-        positions,
-        channels,
-        codes,
-        threshold,
-        [false; 36],
-        rows,
-        counts,
-        marks,
-    )
+    resample(ramp, threshold, [false; 36], rows, counts, marks)
 }

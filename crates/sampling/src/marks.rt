@@ -11,7 +11,9 @@ pub(crate) fn put(threshold: f32, min: f32, max: f32, marks: &mut [u32])
     ensures { marks.new ≡ words_of (threshold_of threshold) min max }
 {
     let sampler = Sampler::new(threshold);
-    marks[0] = float::to_bits(sampler.threshold);
-    marks[1] = float::to_bits(min);
-    marks[2] = float::to_bits(max);
+    marks.copy_from_slice(&[
+        float::to_bits(sampler.threshold),
+        float::to_bits(min),
+        float::to_bits(max),
+    ]);
 }

@@ -25,9 +25,9 @@ pub(crate) fn pair_at(kind: Kind, positions: &[f32], channels: &[f32], k: usize,
             stops::right_of(channels, positions.len(), k, p.colour, q.colour),
             t,
         ),
-        Kind::CatmullRom => any_pair(kind, positions, channels, k, t),
-        Kind::Gimp => any_pair(kind, positions, channels, k, t),
-        Kind::GimpSaved => any_pair(kind, positions, channels, k, t),
+        Kind::CatmullRom | Kind::Gimp | Kind::GimpSaved => {
+            any_pair(kind, positions, channels, k, t)
+        }
     }
 }
 

@@ -1,20 +1,18 @@
 -- Codes, and the segment of 15 numbers. Assumes nothing.
-use Prim.Native.Nat.{ℕ, ◌^◌, ◌<◌, min}
+use Prim.Native.Nat.{ℕ, ◌^◌, ◌<◌}
 use native.Mathlib.Omega.{arith}
-use mathlib.Core.Path.{◌≡◌, refl, sym, ap, ◌∙◌}
+use Rattle.std.proofs.lemmas.Int.{ints}
+use mathlib.Core.Path.{◌≡◌, refl, ap, ◌∙◌}
 use mathlib.Core.Bool.{Bool, true, false, cond}
 use mathlib.Core.List.{List}
 use lib.ListN.{get_or}
-use lib.IntN.{ℤ, pos, negsuc}
+use lib.IntN.{ℤ, pos, negsuc, nat_abs}
+use Rattle.std.specs.Prelude.{◌≤ℤ◌, ◌<ℤ◌}
 use lib.Ieee.{Float, nan}
-use lib.Signed.{mag}
-use lib.Dec.{ltb}
 use mir.Syntax.{w64}
 use mir.Val.{to_z, of_z}
 use mir.ValLaws.{to_z-of_z}
-use borrow.Author.Tests.{ltb-true, ltb-false}
 use Rattle.refusals.specs.Refusals.{bad_segment, not_carried}
-use Rattle.float.specs.Number.{whole_of}
 use Rattle.blend.specs.declared.Rgba.{Rgba}
 use Rattle.gradient.specs.declared.gimp.Segment.{Segment}
 use Rattle.stops.specs.declared.Kind.{Kind}
@@ -23,20 +21,24 @@ use Rattle.segment.specs.declared.Rules.{Rules}
 use Rattle.segment.specs.declared.SegmentRead.TheVariants.{Valid, Fault}
 use Rattle.segment.specs.Line.{kind_by, cut, code_of, valid_codes, end_colour, judge, build}
 
--- a key of a `match` on an i64 is its bits
-pub code_key : (x : Float) (z : ℤ) (n : ℕ) → mag z < 2 ^ 63 → z ≡ whole_of x → of_z w64 z ≡ n → cut (to_z w64 n) ≡ code_of x
-code_key x z n ok w e = ap cut (ap (to_z w64) (sym e) ∙ to_z-of_z w64 z (record { sfits = ok }) ∙ w)
-
-six : (z : ℤ) → ((n : ℕ) → n < 6 → of_z w64 z ≡ n → ⊥) → 6 ≡ cut z
+-- a whole number from 0 to 5 is itself, any other is 6
+pub cut_small : (z : ℤ) → pos 0 ≤ℤ z → z ≤ℤ pos 5 → nat_abs (to_z w64 (of_z w64 z)) ≡ cut z
 unfolding cut
-six (negsuc n) h = refl
-six (pos n) h = go (ltb n 6) refl where
-  go : (t : Bool) → ltb n 6 ≡ t → 6 ≡ min n 6
-  go true e = absurd (h n (ltb-true n 6 e) refl)
-  go false e = omega (arith, ltb-false n 6 e)
+cut_small (pos n) l h = let b : n < 2 ^ 63 = omega (arith, ints) in ap nat_abs (to_z-of_z w64 (pos n) (record { sfits = b })) ∙ omega (arith, ints)
+cut_small (negsuc n) l h = absurd (omega (arith, ints))
 
-pub code_none : (x : Float) (z : ℤ) → z ≡ whole_of x → ((n : ℕ) → n < 6 → of_z w64 z ≡ n → ⊥) → 6 ≡ code_of x
-code_none x z w h = six z h ∙ ap cut w
+pub cut_low : (z : ℤ) → z <ℤ pos 0 → 6 ≡ cut z
+unfolding cut
+cut_low (pos n) h = absurd (omega (arith, ints))
+cut_low (negsuc n) h = refl
+
+pub cut_high : (z : ℤ) → pos 5 <ℤ z → 6 ≡ cut z
+unfolding cut
+cut_high (pos n) h = omega (arith, ints)
+cut_high (negsuc n) h = refl
+
+-- what the proof of `code` takes
+pub ruleset cuts = (cut_small, cut_low, cut_high)
 
 -- ---- the segment of 15 numbers
 module _ (rules : Rules) (fg bg : Rgba) (d : List Float) (b k l r : ℕ)

@@ -28,133 +28,128 @@ pub enum SegmentRead {
     Fault(u8),
 }
 
-fn notation_by(rules: Rules) -> Notation
-    ensures { result ≡ notation_by rules }
-{
-    match rules {
-        Rules::Published => Notation::Short,
-        Rules::Saved => Notation::Long,
+impl Rules {
+    // How a number may be written.
+    fn notation(self) -> Notation
+        ensures { result ≡ notation_by self }
+    {
+        match self {
+            Rules::Published => Notation::Short,
+            Rules::Saved => Notation::Long,
+        }
     }
-}
 
-fn kind_by(rules: Rules) -> Kind
-    ensures { result ≡ kind_by rules }
-{
-    match rules {
-        Rules::Published => Kind::Gimp,
-        Rules::Saved => Kind::GimpSaved,
+    // The kind of ramp that the segments make.
+    fn kind(self) -> Kind
+        ensures { result ≡ kind_by self }
+    {
+        match self {
+            Rules::Published => Kind::Gimp,
+            Rules::Saved => Kind::GimpSaved,
+        }
     }
 }
 
 // The code in x; 6, which is no code, for every other number.
+#[tactic(auto, using(crate::proofs::Codes::cuts))]
 fn code(x: f32) -> u8
     ensures { result ≡ code_of x }
 {
     let z = float::whole(x);
     match z {
-        0 => 0,
-        1 => 1,
-        2 => 2,
-        3 => 3,
-        4 => 4,
-        5 => 5,
+        0..=5 => z as u8,
         _ => 6,
     }
 }
 
+#[tactic(auto, unfolding(crate::specs::Line::valid_codes))]
 fn valid_codes(blending: u8, colouring: u8, left: u8, right: u8) -> bool
     ensures { result ≡ valid_codes blending colouring left right }
 {
-    if 5 < blending {
-        return false;
-    }
-    if 2 < colouring {
-        return false;
-    }
-    if 4 < left {
-        return false;
-    }
-    right <= 4
+    blending <= 5 && colouring <= 2 && left <= 4 && right <= 4
 }
 
 fn clear(c: Rgba) -> Rgba
     ensures { result ≡ without_alpha c }
 {
-    Rgba {
-        r: c.r,
-        g: c.g,
-        b: c.b,
-        a: 0.0,
-    }
+    Rgba { a: 0.0, ..c }
 }
 
 // The colour of a segment's end, by its code.
+#[tactic(auto, unfolding(crate::specs::Line::end_colour))]
 fn colour(code: u8, own: Rgba, fg: Rgba, bg: Rgba) -> Rgba
     ensures { result ≡ end_colour code own fg bg }
 {
-    if code == 0 {
-        return own;
+    match code {
+        0 => own,
+        1 => fg,
+        2 => clear(fg),
+        3 => bg,
+        _ => clear(bg),
     }
-    if code == 1 {
-        return fg;
-    }
-    if code == 2 {
-        return clear(fg);
-    }
-    if code == 3 {
-        return bg;
-    }
-    clear(bg)
 }
 
 // The segment of 15 numbers.
 fn built(rules: Rules, d: [f32; 15], fg: Rgba, bg: Rgba) -> SegmentRead
     ensures { result ≡ build rules fg bg d }
 {
-    let blending = code(d[11]);
-    let colouring = code(d[12]);
-    let left = code(d[13]);
-    let right = code(d[14]);
-    if !valid_codes(blending, colouring, left, right) {
+    let [
+        left,
+        middle,
+        right,
+        left_red,
+        left_green,
+        left_blue,
+        left_alpha,
+        right_red,
+        right_green,
+        right_blue,
+        right_alpha,
+        blending,
+        colouring,
+        left_code,
+        right_code,
+    ] = d;
+    let blending = code(blending);
+    let colouring = code(colouring);
+    let left_code = code(left_code);
+    let right_code = code(right_code);
+    if !valid_codes(blending, colouring, left_code, right_code) {
         return SegmentRead::Fault(BAD_SEGMENT);
     }
     let own_left = Rgba {
-        r: d[3],
-        g: d[4],
-        b: d[5],
-        a: d[6],
+        r: left_red,
+        g: left_green,
+        b: left_blue,
+        a: left_alpha,
     };
     let own_right = Rgba {
-        r: d[7],
-        g: d[8],
-        b: d[9],
-        a: d[10],
+        r: right_red,
+        g: right_green,
+        b: right_blue,
+        a: right_alpha,
     };
-    let lcolor = colour(left, own_left, fg, bg);
-    let rcolor = colour(right, own_right, fg, bg);
-    let g = Segment {
-        left: d[0],
-        middle: d[1],
-        right: d[2],
-        lcolor,
-        rcolor,
-        blending,
-        colouring,
-    };
-    let kind = kind_by(rules);
-    if gimp::is_carried(kind, blending, colouring, g.left, g.middle, g.right) {
-        return SegmentRead::Valid(g);
+    let lcolor = colour(left_code, own_left, fg, bg);
+    let rcolor = colour(right_code, own_right, fg, bg);
+    if gimp::is_carried(rules.kind(), blending, colouring, left, middle, right) {
+        SegmentRead::Valid(Segment {
+            left,
+            middle,
+            right,
+            lcolor,
+            rcolor,
+            blending,
+            colouring,
+        })
+    } else {
+        SegmentRead::Fault(NOT_CARRIED)
     }
-    SegmentRead::Fault(NOT_CARRIED)
 }
 
 fn makes_segment(n: usize) -> bool
     ensures { result ≡ segment_length n }
 {
-    if n == 13 {
-        return true;
-    }
-    n == 15
+    n == 13 || n == 15
 }
 
 // A segment line, and where the next line starts.
@@ -168,16 +163,14 @@ pub struct SegmentLine {
 pub fn segment_at(s: &[u8], at: usize, rules: Rules, fg: Rgba, bg: Rgba) -> SegmentLine
     ensures { SegmentAt rules fg bg s.now at result.read result.next }
 {
-    let row = row_at(s, at, Parting::Spaces, notation_by(rules));
-    let n = row.n;
-    let next = row.next;
-    if !makes_segment(n) {
-        return SegmentLine {
-            read: SegmentRead::Fault(BAD_SEGMENT),
-            next,
-        };
+    let row = row_at(s, at, Parting::Spaces, rules.notation());
+    let read = if makes_segment(row.n) {
+        built(rules, row.d, fg, bg)
+    } else {
+        SegmentRead::Fault(BAD_SEGMENT)
+    };
+    SegmentLine {
+        read,
+        next: row.next,
     }
-    let d = row.d;
-    let read = built(rules, d, fg, bg);
-    SegmentLine { read, next }
 }

@@ -31,6 +31,7 @@ fn put_channels(out: &mut [f32], i: usize, left: Rgba, right: Rgba)
     }
 }
 
+// `slices::put` for bytes.
 fn put_byte(out: &mut [u8], at: usize, x: u8)
     ensures { out.new ≡ set out.old at x }
 {

@@ -6,8 +6,8 @@ use Prim.Native.Nat.{ℕ, zero, suc, ◌+◌, ◌≤◌, ◌<◌}
 use native.Mathlib.Numerals.{add-one}
 use native.Mathlib.Omega.{arith}
 use lib.Dec.{ltb}
-use lib.ListN.{length, get_or, take, drop, set, length-append, length-drop, get_or-append}
-use lib.Seq.{drop-cons, set_at, get_or_at, take-suc, take-length}
+use lib.ListN.{length, length-drop, get_or, drop, set, length-append, get_or-append}
+use lib.Seq.{sets, drop-cons, set_at, get_or_at}
 use lib.Ieee.{Float, nan}
 use borrow.Author.Tests.{ltb-true, ltb-false}
 use Rattle.sharp_ramp.specs.Sharp.{listed}
@@ -51,17 +51,15 @@ module _ (f : ℕ → Float) where
         ∙ sym (append_assoc (listed f j) (f j ∷ []) (drop (suc j) old))
         ∙ ap (λ (k : ℕ). listed f k ++ drop k old) (sym (add-one j))
 
+    -- several stores at once
+    pub fill_part : (vs : List Float) (j : ℕ) → j + length vs ≤ length old → {l : List Float} → l ≡ listed f j ++ drop j old → ((t : ℕ) → t < length vs → get_or vs t nan ≡ f (j + t))
+        → sets l j vs ≡ listed f (j + length vs) ++ drop (j + length vs) old
+    fill_part [] j h e each = e ∙ ap (λ (k : ℕ). listed f k ++ drop k old) (omega arith)
+    fill_part (v ∷ vs) j h {l} e each =
+        let first : v ≡ f j = each 0 (omega arith) ∙ ap f (omega arith) in
+        let one : set l j v ≡ listed f (suc j) ++ drop (suc j) old = fill_step j (omega arith) e first ∙ ap (λ (k : ℕ). listed f k ++ drop k old) (omega arith) in
+        fill_part vs (suc j) (omega arith) one (λ t k. each (suc t) (omega arith) ∙ ap f (omega arith))
+        ∙ ap (λ (k : ℕ). listed f k ++ drop k old) (omega arith)
+
     pub fill_end : (j n : ℕ) → j ≤ n → n ≤ j → {l : List Float} → l ≡ listed f j ++ drop j old → l ≡ listed f n ++ drop n old
     fill_end j n a b e = let q : j ≡ n = omega arith in e ∙ ap (λ (k : ℕ). listed f k ++ drop k old) q
-
--- the numbers of a list, one by one, are the list
-abbrev pub numbers : List Float → ℕ → Float
-numbers xs j = get_or xs j nan
-
-part : (xs : List Float) (n : ℕ) → n ≤ length xs → listed (numbers xs) n ≡ take n xs
-unfolding listed
-part xs zero h = refl
-part xs (suc n) h = ap (λ (l : List Float). l ++ (numbers xs n ∷ [])) (part xs n (omega arith)) ∙ sym (take-suc xs n nan (omega arith))
-
-pub listed-numbers : (xs : List Float) → listed (numbers xs) (length xs) ≡ xs
-listed-numbers xs = part xs (length xs) (omega arith) ∙ take-length xs

@@ -158,10 +158,6 @@ pub after_stops : (m k : ℕ) (written old : List Float) → length written ≡ 
 unfolding after_building
 after_stops m k written old h e = e ∙ ap (λ (j : ℕ). written ++ drop j old) (sym h)
 
-pub after_copy : (m : ℕ) (written old xs : List Float) → xs ≡ written → {l : List Float} → l ≡ xs ++ drop (length xs) old → l ≡ after_building (Stops m) written old
-unfolding after_building
-after_copy m written old xs h e = e ∙ ap (λ (ys : List Float). ys ++ drop (length ys) old) h
-
 -- all that `build` promises, from its answer and what that leaves
 pub builds : {colours : List Float} {min max s : Float} {ps ps' cs cs' : List Float} {r : Built} → r ≡ build_of colours min max s (length ps) (length cs)
     → ps' ≡ after_building r (sharp_positions min max s (bands colours)) ps → cs' ≡ after_building r (sharp_channels colours (bands colours)) cs → Builds colours min max s ps ps' cs cs' r

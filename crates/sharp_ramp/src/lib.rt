@@ -20,9 +20,10 @@ fn soften(s: f32) -> f32
     ensures { result ≡ softness_of s }
 {
     if float::is_finite(s) {
-        return float::clamp(s);
+        float::clamp(s)
+    } else {
+        0.1
     }
-    0.1
 }
 
 // How far a stop lies inside its band's end.
@@ -41,16 +42,11 @@ fn band(min: f32, max: f32, inset: f32, n: usize, j: usize) -> f32
     let i = (j / 2) as u16;
     if j % 2 == 0 {
         let left = utils::linspace(min, max, points, i);
-        if 0 < j {
-            return left + inset;
-        }
-        return left;
+        if 0 < j { left + inset } else { left }
+    } else {
+        let right = utils::linspace(min, max, points, i + 1);
+        if j + 1 < 2 * n { right - inset } else { right }
     }
-    let right = utils::linspace(min, max, points, i + 1);
-    if j + 1 < 2 * n {
-        return right - inset;
-    }
-    right
 }
 
 // The positions of the 2n stops, in front.
@@ -59,11 +55,8 @@ fn write_positions(min: f32, max: f32, s: f32, n: usize, positions: &mut [f32])
     ensures { take (2 * n) positions.new ≡ sharp_positions min max s n }
 {
     let inset = inset_of(min, max, s, n);
-    let m = 2 * n;
-    let mut j = 0;
-    while j < m {
+    for j in 0..2 * n {
         positions[j] = band(min, max, inset, n, j);
-        j += 1;
     }
 }
 
@@ -72,45 +65,17 @@ fn write_channels(colours: &[f32], n: usize, channels: &mut [f32])
     requires { (n ≤ most_colours) × (length colours.now ≡ 4 * n) × (8 * n ≤ length channels.old) }
     ensures { channels.new ≡ sharp_channels colours.now n ++ drop (8 * n) channels.old }
 {
-    let m = 8 * n;
-    let mut j = 0;
-    while j < m {
-        let at = 4 * (j / 8) + j % 4;
-        channels[j] = colours[at];
-        j += 1;
-    }
-}
-
-fn copy(from: &[f32], to: &mut [f32])
-    requires { length from.now ≤ length to.old }
-    ensures { to.new ≡ from.now ++ drop (length from.now) to.old }
-{
-    let mut j = 0;
-    while j < from.len() {
-        to[j] = from[j];
-        j += 1;
+    for i in 0..n {
+        let colour = &colours[4 * i..4 * i + 4];
+        channels[8 * i..8 * i + 4].copy_from_slice(colour);
+        channels[8 * i + 4..8 * i + 8].copy_from_slice(colour);
     }
 }
 
 fn domain_fits(n: usize, min: f32, max: f32) -> bool
     ensures { result ≡ domain_fits n min max }
 {
-    if n < 1 {
-        return false;
-    }
-    if n > MOST_COLOURS {
-        return false;
-    }
-    if !float::is_finite(min) {
-        return false;
-    }
-    if !float::is_finite(max) {
-        return false;
-    }
-    if max < min {
-        return false;
-    }
-    true
+    1 <= n && n <= MOST_COLOURS && float::is_finite(min) && float::is_finite(max) && !(max < min)
 }
 
 // The channels of n colours, whole ones, and room for 2n stops.
@@ -118,16 +83,7 @@ fn is_roomy(colours: usize, n: usize, positions: usize, channels: usize) -> bool
     requires { n ≤ most_colours }
     ensures { result ≡ roomy colours n positions channels }
 {
-    if colours != 4 * n {
-        return false;
-    }
-    if positions < 2 * n {
-        return false;
-    }
-    if channels < 8 * n {
-        return false;
-    }
-    true
+    colours == 4 * n && 2 * n <= positions && 8 * n <= channels
 }
 
 // A sharp ramp of the colours, in the lent outputs; past the last stop they keep what they hold. The
@@ -158,7 +114,7 @@ pub fn build(
     if !utils::all_finite(colours) {
         return Built::Refused(NOT_FINITE);
     }
-    copy(&built[..m], positions);
+    positions[..m].copy_from_slice(&built[..m]);
     write_channels(colours, n, channels);
     Built::Stops(m)
 }

@@ -3,14 +3,15 @@ use mathlib.Core.Path.{◌≡◌, refl, sym, ap, ◌∙◌}
 use mathlib.Core.List.{List, [], ◌∷◌, ◌++◌}
 use Prim.Native.Nat.{ℕ, zero, suc, ◌+◌, ◌-◌, ◌*◌, ◌≤◌, ◌<◌}
 use native.Mathlib.Omega.{arith}
-use lib.ListN.{length, get_or, set, take, drop, take-append-drop, length-drop}
-use lib.Seq.{sets, sets-eq, length-sets, set_comm, set-set, get_or-set_other, drop-set-lt, drop-cons, take-add, take-take, length-take-le, get_or-drop}
-use lib.Ieee.{Float, nan}
+use lib.ListN.{length, set, take, drop, take-append-drop, length-drop}
+use lib.Seq.{sets, sets-eq, length-sets, set_comm, set-set, drop-set-lt, take-add, take-take, length-take-le}
+use lib.Ieee.{Float}
 use Rattle.blend.specs.declared.Rgba.{Rgba}
 use Rattle.blend.specs.Channels.{channels_of}
+use Rattle.std.specs.List.{copy_within}
 use Rattle.slices.proofs.Stores.{sets-append}
 use Rattle.refresh.specs.editing.Edited.{changed, spliced}
-use Rattle.refresh.proofs.editing.Splices.{run_next, changed_splice}
+use Rattle.refresh.proofs.editing.Splices.{changed_splice}
 
 -- ---- stores that do not meet
 set-sets : (l : List Float) (i j : ℕ) (x : Float) (ys : List Float) → i < j → sets (set l i x) j ys ≡ set (sets l j ys) i x
@@ -20,14 +21,6 @@ set-sets l i j x (y ∷ ys) h = ap (λ (k : List Float). sets k (suc j) ys) (set
 sets_comm : (l : List Float) (i j : ℕ) (xs ys : List Float) → i + length xs ≤ j → sets (sets l i xs) j ys ≡ sets (sets l j ys) i xs
 sets_comm l i j [] ys h = refl
 sets_comm l i j (x ∷ xs) ys h = sets_comm (set l i x) (suc i) j xs ys (omega arith) ∙ ap (λ (k : List Float). sets k (suc i) xs) (set-sets l i j x ys (omega arith))
-
-before_sets : (l : List Float) (j : ℕ) (ys : List Float) (i : ℕ) → i < j → get_or (sets l j ys) i nan ≡ get_or l i nan
-before_sets l j [] i h = refl
-before_sets l j (y ∷ ys) i h = before_sets (set l j y) (suc j) ys i (omega arith) ∙ get_or-set_other l j i y nan (λ e. absurd (omega arith))
-
-past_sets : (l : List Float) (j : ℕ) (ys : List Float) (i : ℕ) → j + length ys ≤ i → get_or (sets l j ys) i nan ≡ get_or l i nan
-past_sets l j [] i h = refl
-past_sets l j (y ∷ ys) i h = past_sets (set l j y) (suc j) ys i (omega arith) ∙ get_or-set_other l j i y nan (λ e. absurd (omega arith))
 
 drop-sets : (m : ℕ) (l : List Float) (i : ℕ) (xs : List Float) → i + length xs ≤ m → drop m (sets l i xs) ≡ drop m l
 drop-sets m l i [] h = refl
@@ -56,28 +49,11 @@ drop-take (suc m) (suc n) [] = nothing (suc n - suc m)
     nothing (suc k) = refl
 drop-take (suc m) (suc n) (x ∷ l) = let e : suc n - suc m ≡ n - m = omega arith in rw e (drop-take m n l)
 
--- ---- a turn of the loop that opens a gap, and of the one that closes it
-pub open_next : (l cur : List Float) (i j end by : ℕ) → i ≡ suc j → j < end → end ≤ length l → cur ≡ sets l (i + by) (take (end - i) (drop i l))
-    → set cur (j + by) (get_or cur j nan) ≡ sets l (j + by) (take (end - j) (drop j l))
-open_next l cur i j end by e h k is =
-    let read : get_or cur j nan ≡ get_or l j nan = ap (λ (x : List Float). get_or x j nan) is ∙ before_sets l (i + by) (take (end - i) (drop i l)) j (omega arith) in
-    let n : end - j ≡ suc (end - i) = omega arith in
-    let at : i + by ≡ suc (j + by) = omega arith in
-    let d : drop j l ≡ get_or l j nan ∷ drop i l = rw e (drop-cons l j nan (omega arith)) in
-    rw (read, is, n, d, at) (sym (set-sets l (j + by) (suc (j + by)) (get_or l j nan) (take (end - i) (drop i l)) (omega arith)))
-
-pub close_next : (l cur : List Float) (at by i : ℕ) → at + by ≤ i → i < length l → cur ≡ sets l at (take (i - (at + by)) (drop (at + by) l))
-    → set cur (i - by) (get_or cur i nan) ≡ sets l at (take (i + 1 - (at + by)) (drop (at + by) l))
-close_next l cur at by i h k is =
-    let s = drop (at + by) l in
-    let m = i - (at + by) in
-    let long : length (take m s) ≡ m = length-take-le m s (omega (arith, length-drop (at + by) l)) in
-    let a : at + by + m ≡ i = omega arith in
-    let b : at + m ≡ i - by = omega arith in
-    let c : m + 1 ≡ i + 1 - (at + by) = omega arith in
-    let read : get_or cur i nan ≡ get_or s m nan =
-    ap (λ (x : List Float). get_or x i nan) is ∙ past_sets l at (take m s) i (omega (arith, long)) ∙ sym (get_or-drop (at + by) l m nan ∙ ap (λ (x : ℕ). get_or l x nan) a) in
-    rw (read, is, ← b, ← c) (run_next l s at m nan (omega (arith, length-drop (at + by) l)))
+-- ---- items moved within a list are stores of those that stood there
+pub moved : {r : List Float} (l : List Float) (i j at : ℕ) → i ≤ j → j ≤ length l → at + (j - i) ≤ length l → r ≡ copy_within l i j at → r ≡ sets l at (take (j - i) (drop i l))
+moved l i j at h k room e =
+    let n : length (take (j - i) (drop i l)) ≡ j - i = length-take-le (j - i) (drop i l) (omega (arith, length-drop i l)) in
+    e ∙ sym (sets-eq (take (j - i) (drop i l)) l at (omega (arith, n)) ∙ rw n)
 
 -- ---- the first n items of a list, with some left out at a place and others put in
 module _ (l : List Float) (n at gone : ℕ) (items : List Float) (there : at + gone ≤ n) (long : n ≤ length l) where

@@ -1,10 +1,10 @@
 -- How much of what is lent is the ramp, whether a stop more has room, and an edit made in place. Assumes nothing.
-use mathlib.Core.Path.{◌≡◌, refl, sym, ap, ◌∙◌, subst}
+use mathlib.Core.Path.{◌≡◌, refl, ◌∙◌, subst}
 use mathlib.Core.Bool.{Bool, true, false, cond, ◌&&◌}
 use mathlib.Core.List.{List, [], ◌∷◌}
 use Prim.Native.Nat.{ℕ, ◌+◌, ◌-◌, ◌*◌, ◌≤◌, ◌<◌}
 use native.Mathlib.Omega.{arith}
-use borrow.Author.Tests.{lt-ltb, le-ltb, le-leb, lt-leb, leb-true, ltb-true}
+use borrow.Author.Tests.{leb-true, ltb-true}
 use lib.Dec.{leb, ltb}
 use lib.ListN.{length, set, take}
 use lib.Seq.{sets}
@@ -23,19 +23,6 @@ use Rattle.sheet.proofs.Gaps.{replaced, recoloured, unchanged}
 
 -- ---- so many stops
 module _ (kind : Kind) (n positions channels : ℕ) where
-  pub too_many : most_stops < n → false ≡ stops_fit kind n positions channels
-  unfolding stops_fit
-  too_many h = rw (lt-leb n most_stops h)
-
-  module _ (most : n ≤ most_stops) {p : ℕ} (is : p ≡ positions_for kind n) where
-    pub few_positions : positions < p → false ≡ stops_fit kind n positions channels
-    unfolding stops_fit
-    few_positions h = let l : positions < positions_for kind n = rw is at h in rw (le-leb n most_stops most, lt-leb (positions_for kind n) positions l)
-
-    pub by_channels : p ≤ positions → {c : ℕ} → c ≡ channels_for kind n → leb c channels ≡ stops_fit kind n positions channels
-    unfolding stops_fit
-    by_channels h are = let l : positions_for kind n ≤ positions = rw is at h in rw (are, le-leb n most_stops most, le-leb (positions_for kind n) positions l)
-
   pub record Fit : Type 0 where
     pub most : n ≤ most_stops
     pub positions_there : positions_for kind n ≤ positions
@@ -60,14 +47,6 @@ module _ (kind : Kind) (n positions channels : ℕ) where
 
 -- ---- a stop more
 module _ (n positions channels : ℕ) where
-  pub no_place : positions ≤ n → false ≡ room_fits n positions channels
-  unfolding room_fits
-  no_place h = rw (le-ltb n positions h)
-
-  pub by_room : n < positions → leb (4 * n + 4) channels ≡ room_fits n positions channels
-  unfolding room_fits
-  by_room h = rw (lt-ltb n positions h)
-
   pub room_is : room_fits n positions channels ≡ true → (n + 1 ≤ positions) × (4 * n + 4 ≤ channels)
   unfolding room_fits
   room_is h =
@@ -75,16 +54,6 @@ module _ (n positions channels : ℕ) where
       let b = leb (4 * n + 4) channels in
       let l : n < positions = ltb-true n positions (both_l a b h) in
       (omega arith, leb-true (4 * n + 4) channels (both_r a b h))
-
-  -- an edit, by its case
-  pub as_fitted : {e e' r : Edit} → e ≡ e' → r ≡ fitted n positions channels e' → r ≡ fitted n positions channels e
-  as_fitted h k = k ∙ ap (fitted n positions channels) (sym h)
-
-  pub not_fitted : {e : Edit} (k : ℕ) (p : Float) (c : Rgba) → e ≡ Add k p c → room_fits n positions channels ≡ false → Remove 0 ≡ fitted n positions channels e
-  not_fitted k p c h f = rw (h, f)
-
-  pub is_fitted : {e : Edit} (k : ℕ) (p : Float) (c : Rgba) → e ≡ Add k p c → room_fits n positions channels ≡ true → Add k p c ≡ fitted n positions channels e
-  is_fitted k p c h f = rw (h, f)
 
   -- what an edit that is fitted leaves has room
   pub fitted_fits : (e : Edit) → n ≤ positions → 4 * n ≤ channels → (stops_after n (fitted n positions channels e) ≤ positions) × (4 * stops_after n (fitted n positions channels e) ≤ channels)

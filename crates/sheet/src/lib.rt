@@ -1,15 +1,16 @@
 // A sheet: a ramp with room for more stops, its record and its list, which stay of one ramp through any number of edits.
 #![tactic(auto)]
 
-ghost use Rattle.stops.specs.Lent.{lent_ramp};
 ghost use Rattle.sampling.specs.Lent.{lent_held};
 ghost use Rattle.linearize.specs.Lent.{lent_output};
 ghost use Rattle.sheet.specs.Room.{lent_room};
 ghost use Rattle.sheet.specs.Promises.{Opens, Edits};
+ghost use Rattle.gradient.specs.Lent.{lent_ramp};
 
 use crate::listing::list;
 use crate::making::make;
 use crate::room::{channels_of, fits, positions_of, with_room};
+use gradient::Ramp;
 use refresh::editing::Edit;
 use refresh::refresh;
 use refusals::MISSHAPEN;
@@ -46,10 +47,7 @@ pub enum SheetAnswer {
 // Samples the ramp, which is the first `stops` stops of what is lent, or segments of a GIMP ramp, and makes its list. Refusals
 // 1 to 5 leave all as it was; where the list is refused, with 7, 8 or 21, the record is the ramp's and the outputs are zero.
 pub fn open(
-    kind: Kind,
-    positions: &[f32],
-    channels: &[f32],
-    codes: &[u8],
+    ramp: &Ramp<'_>,
     stops: usize,
     threshold: f32,
     sort: ListSort,
@@ -59,38 +57,23 @@ pub fn open(
     places: &mut [f32],
     colours: &mut [f32],
 ) -> SheetAnswer
-    ensures { Opens (lent_ramp kind positions channels codes) stops threshold sort (lent_held rows counts marks) (lent_output places colours) result }
+    ensures { Opens (lent_ramp ramp.now) stops threshold sort (lent_held rows counts marks) (lent_output places colours) result }
 {
-    if !fits(kind, stops, positions.len(), channels.len()) {
+    if !fits(ramp.kind, stops, ramp.positions.len(), ramp.channels.len()) {
         return SheetAnswer::Refused(MISSHAPEN);
     }
-    let n = positions_of(kind, stops);
-    let m = channels_of(kind, stops);
-    match sample(
-        kind,
-        &positions[..n],
-        &channels[..m],
-        codes,
-        threshold,
-        rows,
-        counts,
-        marks,
-    ) {
+    let n = positions_of(ramp.kind, stops);
+    let m = channels_of(ramp.kind, stops);
+    let own = Ramp {
+        positions: &ramp.positions[..n],
+        channels: &ramp.channels[..m],
+        codes: ramp.codes,
+        kind: ramp.kind,
+    };
+    match sample(&own, threshold, rows, counts, marks) {
         Sampled::Refused(number) => SheetAnswer::Refused(number),
         Sampled::Done(spent) => list(
-            kind,
-            &positions[..n],
-            &channels[..m],
-            codes,
-            threshold,
-            sort,
-            rows,
-            counts,
-            marks,
-            places,
-            colours,
-            stops,
-            spent,
+            &own, threshold, sort, rows, counts, marks, places, colours, stops, spent,
         ),
     }
 }
@@ -121,35 +104,25 @@ pub fn edit(
     let n = positions_of(kind, stops);
     let m = channels_of(kind, stops);
     let made = with_room(edit, stops, positions.len(), channels.len());
-    match refresh(
-        kind,
-        &positions[..n],
-        &channels[..m],
+    let ramp = Ramp {
+        positions: &positions[..n],
+        channels: &channels[..m],
         codes,
-        made,
-        threshold,
-        rows,
-        counts,
-        marks,
-    ) {
+        kind,
+    };
+    match refresh(&ramp, made, threshold, rows, counts, marks) {
         Sampled::Refused(number) => SheetAnswer::Refused(number),
         Sampled::Done(spent) => {
             let left = make(positions, channels, stops, made);
             let m = 4 * left;
-            list(
-                kind,
-                &positions[..left],
-                &channels[..m],
+            let ramp = Ramp {
+                positions: &positions[..left],
+                channels: &channels[..m],
                 codes,
-                threshold,
-                sort,
-                rows,
-                counts,
-                marks,
-                places,
-                colours,
-                left,
-                spent,
+                kind,
+            };
+            list(
+                &ramp, threshold, sort, rows, counts, marks, places, colours, left, spent,
             )
         }
     }

@@ -1,22 +1,19 @@
 // The list of a sheet, of either sort.
 ghost use Rattle.std.specs.Prelude.{◌≡◌};
-ghost use Rattle.stops.specs.Lent.{lent_ramp};
 ghost use Rattle.linearize.specs.Lent.{lent_output};
 ghost use Rattle.sheet.specs.Answers.{sheet_by};
 ghost use Rattle.sheet.specs.Lists.{ThinsBy};
 ghost use Rattle.sheet.specs.inner.Making.{read_held, ListsBy};
+ghost use Rattle.gradient.specs.Lent.{lent_ramp};
 
 use crate::{ListSort, SheetAnswer};
+use gradient::Ramp;
 use linearize::{Listed, after, thin};
-use stops::Kind;
 use within::thin_within;
 
-// The list of a record, of either sort.
+// The list of a record, of either sort: the public calls take the sort as a value, which a host has as a number.
 fn list_by(
-    kind: Kind,
-    positions: &[f32],
-    channels: &[f32],
-    codes: &[u8],
+    ramp: &Ramp<'_>,
     threshold: f32,
     sort: ListSort,
     rows: &[f32],
@@ -25,14 +22,12 @@ fn list_by(
     places: &mut [f32],
     colours: &mut [f32],
 ) -> Listed
-    ensures { ThinsBy sort (lent_ramp kind positions channels codes) threshold (read_held rows counts marks) (lent_output places colours) result }
+    ensures { ThinsBy sort (lent_ramp ramp.now) threshold (read_held rows counts marks) (lent_output places colours) result }
 {
     match sort {
-        ListSort::Thinned => thin(
-            kind, positions, channels, codes, threshold, rows, counts, marks, places, colours,
-        ),
+        ListSort::Thinned => thin(ramp, threshold, rows, counts, marks, places, colours),
         ListSort::Within(hold) => thin_within(
-            kind, positions, channels, codes, threshold, hold, rows, counts, marks, places, colours,
+            ramp, threshold, hold, rows, counts, marks, places, colours,
         ),
     }
 }
@@ -56,10 +51,7 @@ fn answer_by(stops: usize, made: Listed) -> SheetAnswer
 
 // Makes the list of a record, after so many evaluations were spent on it.
 pub(crate) fn list(
-    kind: Kind,
-    positions: &[f32],
-    channels: &[f32],
-    codes: &[u8],
+    ramp: &Ramp<'_>,
     threshold: f32,
     sort: ListSort,
     rows: &[f32],
@@ -70,10 +62,8 @@ pub(crate) fn list(
     stops: usize,
     spent: usize,
 ) -> SheetAnswer
-    ensures { ListsBy sort (lent_ramp kind positions channels codes) threshold (read_held rows counts marks) (lent_output places colours) stops spent result }
+    ensures { ListsBy sort (lent_ramp ramp.now) threshold (read_held rows counts marks) (lent_output places colours) stops spent result }
 {
-    let made = list_by(
-        kind, positions, channels, codes, threshold, sort, rows, counts, marks, places, colours,
-    );
+    let made = list_by(ramp, threshold, sort, rows, counts, marks, places, colours);
     answer_by(stops, after(spent, made))
 }

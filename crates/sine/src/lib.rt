@@ -19,10 +19,7 @@ fn from_end(i: usize) -> u64
     requires { i ≤ 1024 }
     ensures { result ≡ nearer i }
 {
-    if i <= 512 {
-        return i as u64;
-    }
-    1024 - i as u64
+    if i <= 512 { i as u64 } else { 1024 - i as u64 }
 }
 
 // One step of the sum.
@@ -55,26 +52,26 @@ fn entry_at(i: usize) -> u32
     let h = height(from_end(i));
     let n = ((h + 0x7_f800) / 0x10_0000) as u32;
     if n != ((h + 0x8_0800) / 0x10_0000) as u32 {
-        return read(i);
+        read(i)
+    } else if i <= 512 {
+        n
+    } else {
+        0x100_0000 - n
     }
-    if i <= 512 {
-        return n;
-    }
-    0x100_0000 - n
 }
 
-// Which entry x lies at or after.
+// Which entry x lies at or after. By tests: `float::whole(x).clamp(0, 1024)` is the same, and makes the factor 6% slower.
 fn index(x: f32) -> usize
     ensures { result ≡ index_of x }
 {
     let z = float::whole(x);
     if z < 0 {
-        return 0;
+        0
+    } else if z < 1024 {
+        z as usize
+    } else {
+        1024
     }
-    if z < 1024 {
-        return z as usize;
-    }
-    1024
 }
 
 // The straight line from entry i to the next.
@@ -96,7 +93,8 @@ pub fn wave(f: f32) -> f32
     let x = c * 1024.0;
     let i = index(x);
     if i == 1024 {
-        return 1.0;
+        1.0
+    } else {
+        line(i, x - float::from_whole(i as u64))
     }
-    line(i, x - float::from_whole(i as u64))
 }

@@ -5,21 +5,13 @@ use Prim.Native.Nat.{ℕ, zero, suc, ◌+◌, ◌-◌, ◌≤◌, ◌<◌}
 use native.Mathlib.Nat.{add-zero, add-suc, suc-add, le_of_suc-le-suc}
 use native.Mathlib.Numerals.{add-one}
 use native.Mathlib.Omega.{arith}
-use lib.ListN.{length, set, take, drop, replicate, length-append, length-replicate, length-drop, replicate-append-replicate, drop_of_length-le, take-append-drop}
+use lib.ListN.{length, set, take, drop, replicate, length-append, length-drop, drop_of_length-le, take-append-drop}
 use lib.Seq.{sets, sets-eq, set_out, take_at, drop-drop, drop-append-add}
 
 module _ {A : Type 0} where
   pub sets-append : (l : List A) (i : ℕ) (xs ys : List A) → sets l i (xs ++ ys) ≡ sets (sets l i xs) (i + length xs) ys
   sets-append l i [] ys = rw add-zero
   sets-append l i (x ∷ xs) ys = sets-append (set l i x) (suc i) xs ys ∙ rw (add-suc, suc-add)
-
-  -- a turn of a loop that fills
-  pub fill_next : (l : List A) (from i n : ℕ) (z : A) → from ≤ i → n ≡ i - from
-      → set (sets l from (replicate n z)) i z ≡ sets l from (replicate (i + 1 - from) z)
-  fill_next l from i n z le e =
-      let k : from + length (replicate n z) ≡ i = omega (arith, length-replicate n z) in
-      let m : i + 1 - from ≡ n + 1 = omega arith in
-      rw (m, ← replicate-append-replicate, sets-append, k)
 
   -- as many stores as there are places
   pub sets_all : (l vs : List A) → length vs ≡ length l → sets l 0 vs ≡ vs

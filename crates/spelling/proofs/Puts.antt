@@ -1,11 +1,15 @@
 -- Laws of bytes put into a buffer, and of what the bytes of a line stand for. Assumes nothing.
 use Prim.Native.Nat.{ℕ, suc, ◌+◌, ◌≤◌, ◌<◌}
 use native.Mathlib.Numerals.{add-one}
+use native.Mathlib.Omega.{arith}
 use mathlib.Core.Path.{◌≡◌, refl, sym, ap, ◌∙◌}
 use mathlib.Core.List.{List, [], ◌∷◌, ◌++◌}
 use lib.ListN.{length, drop, get_or, set, length-set, drop_of_length-le}
 use lib.Seq.{drop-cons}
+use lib.Dec.{eqb}
 use borrow.Author.Tests.{lt-ltb, le-ltb, eq-eqb, ne_eqb}
+use Rattle.std.specs.List.{count_by}
+use Rattle.std.proofs.lemmas.List.Recursion.{is_count_by}
 use Rattle.spelling.specs.Spelling.{next_in, put_all, place_after, plain_of, meant_by, meant, hits}
 
 pub next_in_lem : (size at : ℕ) → at < size → at + 1 ≡ next_in size at
@@ -89,15 +93,6 @@ unfolding meant
 meant_none = refl
 
 -- ---- how many
-module _ (b : ℕ) (s : List ℕ) (i : ℕ) where
-  pub hits_yes : i < length s → get_or s i 0 ≡ b → hits b (drop i s) ≡ suc (hits b (drop (i + 1) s))
-  unfolding hits
-  hits_yes h e = rw (add-one, drop-cons s i 0 h, eq-eqb _ _ e)
-
-  pub hits_no : i < length s → (get_or s i 0 ≡ b → ⊥) → hits b (drop i s) ≡ hits b (drop (i + 1) s)
-  unfolding hits
-  hits_no h e = rw (add-one, drop-cons s i 0 h, ne_eqb _ _ e)
-
-  pub hits_end : length s ≤ i → hits b (drop i s) ≡ 0
-  unfolding hits
-  hits_end h = rw (drop_of_length-le s h)
+pub hits_are : (b : ℕ) (s : List ℕ) → count_by (λ c. eqb c b) s ≡ hits b s
+unfolding hits
+hits_are b s = sym (is_count_by (hits b) (λ c. eqb c b) refl (λ x xs. let e : 1 + hits b xs ≡ suc (hits b xs) = omega arith in rw e) s)

@@ -9,25 +9,14 @@ ghost use Rattle.spelling.specs.Spelling.{next_in, Appends, plain_of, meant_by, 
 pub fn front(s: &[u8], n: usize) -> &[u8]
     ensures { result.now ≡ take n s.now }
 {
-    if n <= s.len() {
-        return &s[..n];
-    }
-    s
+    &s[..n.min(s.len())]
 }
 
 // How many bytes of s are b.
 pub fn count(s: &[u8], b: u8) -> usize
     ensures { result ≡ hits b s.now }
 {
-    let mut n = 0;
-    let mut i = 0;
-    while i < s.len() {
-        if s[i] == b {
-            n += 1;
-        }
-        i += 1;
-    }
-    n
+    s.iter().filter(|c| **c == b).count()
 }
 
 fn put(buf: &mut [u8], at: usize, b: u8) -> usize
@@ -35,9 +24,10 @@ fn put(buf: &mut [u8], at: usize, b: u8) -> usize
 {
     if at < buf.len() {
         buf[at] = b;
-        return at + 1;
+        at + 1
+    } else {
+        at
     }
-    at
 }
 
 // s put into buf from `at` on, as far as there is room; the place after it.
@@ -45,33 +35,24 @@ pub fn append(buf: &mut [u8], at: usize, s: &[u8]) -> usize
     ensures { Appends buf.old buf.new at s.now result }
 {
     let mut n = at;
-    let mut i = 0;
-    while i < s.len() {
-        n = put(buf, n, s[i]);
-        i += 1;
+    for b in s {
+        n = put(buf, n, *b);
     }
     n
 }
 
+#[tactic(auto, unfolding(crate::specs::Spelling::plain_of))]
 fn plain(b: u8) -> u8
     ensures { result ≡ plain_of b }
 {
-    if b == b'|' {
-        return 10;
+    match b {
+        b'|' => 10,
+        b'^' => 13,
+        b'_' => 9,
+        b'~' => 11,
+        b'!' => 200,
+        _ => b,
     }
-    if b == b'^' {
-        return 13;
-    }
-    if b == b'_' {
-        return 9;
-    }
-    if b == b'~' {
-        return 11;
-    }
-    if b == b'!' {
-        return 200;
-    }
-    b
 }
 
 // What a byte stands for, put into buf.
@@ -79,9 +60,10 @@ fn put_plain(buf: &mut [u8], at: usize, b: u8) -> usize
     ensures { Appends buf.old buf.new at (meant_by b) result }
 {
     if b == b'@' {
-        return append(buf, at, b"\xef\xbb\xbf");
+        append(buf, at, b"\xef\xbb\xbf")
+    } else {
+        put(buf, at, plain(b))
     }
-    put(buf, at, plain(b))
 }
 
 // The text that s stands for, put into buf; its length.
@@ -89,10 +71,8 @@ pub fn decode(buf: &mut [u8], s: &[u8]) -> usize
     ensures { Appends buf.old buf.new 0 (meant s.now) result }
 {
     let mut n = 0;
-    let mut i = 0;
-    while i < s.len() {
-        n = put_plain(buf, n, s[i]);
-        i += 1;
+    for b in s {
+        n = put_plain(buf, n, *b);
     }
     n
 }

@@ -4,7 +4,8 @@ ghost use Rattle.std.specs.Float.{binary32};
 ghost use Rattle.std.specs.Float.Ieee.{of_bits};
 ghost use Rattle.sqrt.specs.Cutoff.{above, IsCutoff};
 
-use super::{INFINITY, root};
+use super::root;
+use float::INFINITY;
 
 // Whether the test holds of the f32 with the pattern b, from +0 up to the infinity.
 fn passes(b: u32, t: f32) -> bool
@@ -52,8 +53,7 @@ fn start(t: f32) -> u32
     if square != square {
         return INFINITY;
     }
-    let b = f32::to_bits(square);
-    if b < INFINITY { b } else { INFINITY }
+    square.to_bits().min(INFINITY)
 }
 
 // For every f32 s: half the root of s is above t exactly when s is above the result. Below zero the test

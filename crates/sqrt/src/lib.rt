@@ -7,16 +7,8 @@ ghost use Rattle.sqrt.specs.inner.Steps.{Rootable, StandsFor};
 
 pub mod half_root;
 
+use float::{FIELD, INFINITY, SIGN};
 use wholeroot::nearest_root;
-
-// The weight of the exponent's field in a pattern: the first pattern that is not subnormal.
-const FIELD: u32 = 0x0080_0000;
-
-// The infinity's pattern: the first that is not finite.
-const INFINITY: u32 = 0x7f80_0000;
-
-// The weight of the sign: the pattern of -0.
-const SIGN: u32 = 0x8000_0000;
 
 // What a root is taken of: n * 4 ^ k. The root is guessed at the pattern `at`.
 #[derive(Clone, Copy)]
@@ -49,7 +41,7 @@ fn subnormal(b: u32) -> Radicand
     requires { (0 < b) × (b < 0x80_0000) }
     ensures { StandsFor b result.n result.k }
 {
-    let z = u32::leading_zeros(b) - 8;
+    let z = b.leading_zeros() - 8;
     let c = 128 - z;
     let s = b << z;
     Radicand {
@@ -64,10 +56,7 @@ fn read(b: u32) -> Radicand
     requires { (0 < b) × (b < 0x7f80_0000) }
     ensures { StandsFor b result.n result.k }
 {
-    if b < FIELD {
-        return subnormal(b);
-    }
-    normal(b)
+    if b < FIELD { subnormal(b) } else { normal(b) }
 }
 
 // The root of a radicand. With one caller the compiler puts it in place.
@@ -87,15 +76,13 @@ pub fn root(x: f32) -> f32
     if x != x {
         return x;
     }
-    let b = f32::to_bits(x);
-    if 0 < b {
-        if b < INFINITY {
-            let a = read(b);
-            return root_of(a.n, a.k, a.at);
-        }
+    let b = x.to_bits();
+    if 0 < b && b < INFINITY {
+        let a = read(b);
+        root_of(a.n, a.k, a.at)
+    } else if b <= SIGN {
+        x
+    } else {
+        f32::NAN
     }
-    if b <= SIGN {
-        return x;
-    }
-    0.0 / 0.0
 }

@@ -9,7 +9,7 @@ use lib.Dec.{leb, eqb}
 use lib.ListN.{length}
 use lib.Ieee.{Float, inf, lt}
 use lib.Ieee.Scale.{finite}
-use borrow.Author.Tests.{leb-true, eqb-true, lt-leb, le-leb, eq-eqb, ne_eqb}
+use borrow.Author.Tests.{leb-true, eqb-true, le-leb, eq-eqb}
 use Rattle.refusals.specs.Refusals.{misshapen, not_finite, falling}
 use Rattle.refusals.specs.Limits.{most_stops}
 use Rattle.float.proofs.Flags.{both_l, both_r, parts4}
@@ -47,36 +47,6 @@ shape kind n m c h =
 pub from_shape : (kind : Kind) (n m c : ℕ) → Shape kind n m c → shaped kind n m c ≡ true
 unfolding shaped
 from_shape kind n m c s = simp (le-leb 2 n s.least, le-leb n most_stops s.most, eq-eqb m (4 * n) s.four, eq-eqb c 0 s.codeless, s.paired)
-
--- test by test
-module _ (kind : Kind) (n m c : ℕ) where
-  pub few : n < 2 → false ≡ shaped kind n m c
-  unfolding shaped
-  few h = simp (lt-leb 2 n h)
-
-  module _ (least : 2 ≤ n) where
-    pub many : most_stops < n → false ≡ shaped kind n m c
-    unfolding shaped
-    many h = simp (le-leb 2 n least, lt-leb n most_stops h)
-
-    module _ (most : n ≤ most_stops) where
-      pub unlike : (m ≡ 4 * n → ⊥) → false ≡ shaped kind n m c
-      unfolding shaped
-      unlike h = simp (le-leb 2 n least, le-leb n most_stops most, ne_eqb m (4 * n) h)
-
-      module _ (four : m ≡ 4 * n) where
-        pub coded : (c ≡ 0 → ⊥) → false ≡ shaped kind n m c
-        unfolding shaped
-        coded h = simp (le-leb 2 n least, le-leb n most_stops most, eq-eqb m (4 * n) four, ne_eqb c 0 h)
-
-        module _ (codeless : c ≡ 0) where
-          pub if_sharp : is_sharp kind ≡ true → eqb (n % 2) 0 ≡ shaped kind n m c
-          unfolding shaped
-          if_sharp h = simp (le-leb 2 n least, le-leb n most_stops most, eq-eqb m (4 * n) four, eq-eqb c 0 codeless, h)
-
-          pub not_sharp : is_sharp kind ≡ false → true ≡ shaped kind n m c
-          unfolding shaped
-          not_sharp h = simp (le-leb 2 n least, le-leb n most_stops most, eq-eqb m (4 * n) four, eq-eqb c 0 codeless, h)
 
 module _ (ramp : Ramp) where
   abbrev is_shaped : Bool

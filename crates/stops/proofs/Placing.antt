@@ -4,8 +4,7 @@ use mathlib.Core.Bool.{Bool, true, false}
 use mathlib.Core.List.{List}
 use Prim.Native.Nat.{ℕ, ◌-◌}
 use lib.ListN.{length}
-use lib.Ieee.{Float, le, ne}
-use Rattle.float.proofs.Order.{ne_self}
+use lib.Ieee.{Float, le, is_nan}
 use Rattle.stops.specs.Stops.{pos_at}
 use Rattle.stops.specs.Place.{narrowed_at, place_in}
 use Rattle.stops.specs.declared.Place.TheVariants.{End, Nowhere, Between}
@@ -26,10 +25,10 @@ module _ (ps : List Float) (t : Float) {x : Float} (d : x ≡ pos_at ps 0) where
     unfolding place_in
     at_last b = ap End p ∙ simp (first_not, last_is b)
 
-    pub at_nan : le y t ≡ false → ne t t ≡ true → Nowhere ≡ place_in ps t
+    pub at_nan : le y t ≡ false → is_nan t ≡ true → Nowhere ≡ place_in ps t
     unfolding place_in
-    at_nan b n = simp (first_not, last_is b, sym (ne_self t) ∙ n)
+    at_nan b n = simp (first_not, last_is b, n)
 
-    pub at_between : {k : ℕ} → le y t ≡ false → ne t t ≡ false → k ≡ narrowed_at t ps → Between k ≡ place_in ps t
+    pub at_between : {k : ℕ} → le y t ≡ false → is_nan t ≡ false → k ≡ narrowed_at t ps → Between k ≡ place_in ps t
     unfolding place_in
-    at_between b n h = ap Between h ∙ simp (first_not, last_is b, sym (ne_self t) ∙ n)
+    at_between b n h = ap Between h ∙ simp (first_not, last_is b, n)

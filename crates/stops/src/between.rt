@@ -3,7 +3,7 @@ ghost use Rattle.std.specs.Prelude.{◌≡◌};
 ghost use Rattle.stops.specs.Place.{place_in};
 ghost use Rattle.stops.specs.Pair.{beyond, left_of, right_of, pair_of, between, colour_in};
 
-use crate::{Kind, Place, colour, find_place, less, stop};
+use crate::{BLACK, Kind, Place, colour, find_place, less, stop};
 use blend::{Rgba, Stop, basis, catmull_rom, linear, sharp, smoothstep};
 
 // What would lie past the end p from q.
@@ -23,18 +23,20 @@ pub fn left_of(channels: &[f32], k: usize, p: Rgba, q: Rgba) -> Rgba
     ensures { result ≡ left_of channels.now k p q }
 {
     if 1 < k {
-        return colour(channels, k - 2);
+        colour(channels, k - 2)
+    } else {
+        past(p, q)
     }
-    past(p, q)
 }
 
 pub fn right_of(channels: &[f32], n: usize, k: usize, p: Rgba, q: Rgba) -> Rgba
     ensures { result ≡ right_of channels.now n k p q }
 {
     if k < less(n) {
-        return colour(channels, k + 1);
+        colour(channels, k + 1)
+    } else {
+        past(q, p)
     }
-    past(q, p)
 }
 
 // The colour between p, which is stop k - 1, and q, which is stop k, of n stops.
@@ -59,18 +61,7 @@ fn pair_colour(kind: Kind, channels: &[f32], n: usize, k: usize, p: Stop, q: Sto
             right_of(channels, n, k, p.colour, q.colour),
             t,
         ),
-        Kind::Gimp => Rgba {
-            r: 0.0,
-            g: 0.0,
-            b: 0.0,
-            a: 1.0,
-        },
-        Kind::GimpSaved => Rgba {
-            r: 0.0,
-            g: 0.0,
-            b: 0.0,
-            a: 1.0,
-        },
+        Kind::Gimp | Kind::GimpSaved => BLACK,
     }
 }
 
@@ -88,12 +79,7 @@ pub fn colour_in(kind: Kind, positions: &[f32], channels: &[f32], t: f32, place:
 {
     match place {
         Place::End(i) => colour(channels, i),
-        Place::Nowhere => Rgba {
-            r: 0.0,
-            g: 0.0,
-            b: 0.0,
-            a: 1.0,
-        },
+        Place::Nowhere => BLACK,
         Place::Between(k) => between_at(kind, positions, channels, k, t),
     }
 }

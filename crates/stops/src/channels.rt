@@ -10,10 +10,7 @@ use slices::put;
 pub fn item(items: &[f32], i: usize) -> f32
     ensures { result ≡ pos_at items.now i }
 {
-    if i < items.len() {
-        return items[i];
-    }
-    0.0 / 0.0
+    items.get(i).copied().unwrap_or(f32::NAN)
 }
 
 // The colour of stop i where its channels do not all exist.
@@ -21,12 +18,11 @@ fn torn_colour(channels: &[f32], i: usize) -> Rgba
     ensures { result ≡ colour_at channels.now i }
 {
     if channels.len() < i {
-        let x = 0.0 / 0.0;
         return Rgba {
-            r: x,
-            g: x,
-            b: x,
-            a: x,
+            r: f32::NAN,
+            g: f32::NAN,
+            b: f32::NAN,
+            a: f32::NAN,
         };
     }
     let at = 4 * i;
@@ -42,16 +38,11 @@ fn torn_colour(channels: &[f32], i: usize) -> Rgba
 pub fn colour(channels: &[f32], i: usize) -> Rgba
     ensures { result ≡ colour_at channels.now i }
 {
-    if i < channels.len() / 4 {
-        let at = 4 * i;
-        return Rgba {
-            r: channels[at],
-            g: channels[at + 1],
-            b: channels[at + 2],
-            a: channels[at + 3],
-        };
+    let (colours, _) = channels.as_chunks::<4>();
+    match colours.get(i) {
+        Some(&[r, g, b, a]) => Rgba { r, g, b, a },
+        None => torn_colour(channels, i),
     }
-    torn_colour(channels, i)
 }
 
 pub fn stop(positions: &[f32], channels: &[f32], i: usize) -> Stop
@@ -92,8 +83,8 @@ pub fn put_colour(out: &mut [f32], k: usize, c: Rgba)
     if k < out.len() {
         if 3 < out.len() - k {
             put_whole(out, k, c);
-            return;
+        } else {
+            put_torn(out, k, c);
         }
-        put_torn(out, k, c);
     }
 }

@@ -15,11 +15,12 @@ pub use crate::between::{colour_at, colour_in, left_of, right_of};
 pub use crate::channels::{colour, item, stop};
 pub use crate::rules::{check, is_finite_colour, is_steady};
 pub use crate::search::{below, find_place};
+use blend::Rgba;
 
 // The kinds of ramp. Stops are n positions and 4n channels, with no codes. GIMP segments are 3n positions
 // (left, middle, right), 8n channels (left, then right) and 2n codes (blending, colouring). `GimpSaved` takes every
 // segment that GIMP saves, `Gimp` no curved ones.
-#[derive(Clone, Copy)]
+#[derive(Clone, Copy, PartialEq, Eq)]
 pub enum Kind {
     Linear,
     Smoothstep,
@@ -52,12 +53,17 @@ pub struct Window {
     pub count: usize,
 }
 
+// The colour where a ramp has none.
+pub const BLACK: Rgba = Rgba {
+    r: 0.0,
+    g: 0.0,
+    b: 0.0,
+    a: 1.0,
+};
+
 // One less, and 0 of 0.
 pub fn less(i: usize) -> usize
     ensures { result ≡ i - 1 }
 {
-    if i == 0 {
-        return 0;
-    }
-    i - 1
+    i.saturating_sub(1)
 }

@@ -3,7 +3,7 @@
 ghost use Rattle.std.specs.Prelude.{◌≡◌};
 ghost use Rattle.stops.specs.Near.{is_between, place_near, pair_or, segment_for, segment_in};
 
-use crate::{Place, below, colour, left_of, less, right_of, stop};
+use crate::{BLACK, Place, below, colour, left_of, less, right_of, stop};
 use blend::{Rgba, catmull_rom, utils};
 
 // Whether t lies past stop k - 1 and before stop k. Each of the two answers is 1 or 0, and k is less than n, the number of
@@ -26,17 +26,17 @@ pub fn find_place(positions: &[f32], t: f32, k: usize) -> Place
     ensures { result ≡ place_near positions.now t k }
 {
     if is_between(positions, t, k) {
-        return Place::Between(k);
+        Place::Between(k)
+    } else {
+        crate::find_place(positions, t)
     }
-    crate::find_place(positions, t)
 }
 
 pub fn pair_or(place: Place, k: usize) -> usize
     ensures { result ≡ pair_or place k }
 {
     match place {
-        Place::End(_) => k,
-        Place::Nowhere => k,
+        Place::End(_) | Place::Nowhere => k,
         Place::Between(j) => j,
     }
 }
@@ -62,12 +62,7 @@ pub fn segment_colour(
 {
     match place {
         Place::End(i) => colour(channels, i),
-        Place::Nowhere => Rgba {
-            r: 0.0,
-            g: 0.0,
-            b: 0.0,
-            a: 1.0,
-        },
+        Place::Nowhere => BLACK,
         Place::Between(k) => {
             let p = stop(positions, channels, less(k));
             let q = stop(positions, channels, k);

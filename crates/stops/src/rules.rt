@@ -2,7 +2,7 @@
 ghost use Rattle.std.specs.Prelude.{◌≡◌, true};
 ghost use Rattle.std.specs.Float.{inf};
 ghost use Rattle.stops.specs.Lent.{lent_ramp};
-ghost use Rattle.stops.specs.Stops.{finite_rgba, is_sharp, shaped, stops_check, steady};
+ghost use Rattle.stops.specs.Stops.{finite_rgba, shaped, stops_check, steady};
 ghost use Rattle.stops.specs.Answers.{Checks};
 
 use crate::{Checked, Kind, colour};
@@ -12,52 +12,14 @@ use refusals::{FALLING, MISSHAPEN, MOST_STOPS, NOT_FINITE};
 pub fn is_finite_colour(c: Rgba) -> bool
     ensures { result ≡ finite_rgba c }
 {
-    if !float::is_finite(c.r) {
-        return false;
-    }
-    if !float::is_finite(c.g) {
-        return false;
-    }
-    if !float::is_finite(c.b) {
-        return false;
-    }
-    float::is_finite(c.a)
-}
-
-fn is_sharp(kind: Kind) -> bool
-    ensures { result ≡ is_sharp kind }
-{
-    match kind {
-        Kind::Linear => false,
-        Kind::Smoothstep => false,
-        Kind::Sharp => true,
-        Kind::Basis => false,
-        Kind::CatmullRom => false,
-        Kind::Gimp => false,
-        Kind::GimpSaved => false,
-    }
+    float::is_finite(c.r) && float::is_finite(c.g) && float::is_finite(c.b) && float::is_finite(c.a)
 }
 
 // n positions, m channels and no code make a ramp of the kind.
 fn is_shaped(kind: Kind, n: usize, m: usize, codes: usize) -> bool
     ensures { result ≡ shaped kind n m codes }
 {
-    if n < 2 {
-        return false;
-    }
-    if MOST_STOPS < n {
-        return false;
-    }
-    if m != 4 * n {
-        return false;
-    }
-    if codes != 0 {
-        return false;
-    }
-    if is_sharp(kind) {
-        return n % 2 == 0;
-    }
-    true
+    2 <= n && n <= MOST_STOPS && m == 4 * n && codes == 0 && (kind != Kind::Sharp || n % 2 == 0)
 }
 
 // Refusal 1, then stop by stop 2 and 3.
@@ -68,21 +30,15 @@ pub fn check(kind: Kind, positions: &[f32], channels: &[f32], codes: &[u8]) -> C
     if !is_shaped(kind, n, channels.len(), codes.len()) {
         return Checked::Refused(MISSHAPEN);
     }
-    let mut prev = -1.0 / 0.0;
-    let mut i = 0;
-    while i < n {
-        let p = positions[i];
-        if !float::is_finite(p) {
-            return Checked::Refused(NOT_FINITE);
-        }
-        if !is_finite_colour(colour(channels, i)) {
+    let mut prev = f32::NEG_INFINITY;
+    for (i, &p) in positions.iter().enumerate() {
+        if !float::is_finite(p) || !is_finite_colour(colour(channels, i)) {
             return Checked::Refused(NOT_FINITE);
         }
         if p < prev {
             return Checked::Refused(FALLING);
         }
         prev = p;
-        i += 1;
     }
     Checked::Fine
 }
@@ -91,18 +47,12 @@ pub fn check(kind: Kind, positions: &[f32], channels: &[f32], codes: &[u8]) -> C
 pub fn is_steady(positions: &[f32], max: f32) -> bool
     ensures { result ≡ steady max (inf true) positions.now }
 {
-    let mut prev = -1.0 / 0.0;
-    let mut j = 0;
-    while j < positions.len() {
-        let p = positions[j];
-        if !float::is_finite(p) {
-            return false;
-        }
-        if p < prev {
+    let mut prev = f32::NEG_INFINITY;
+    for &p in positions {
+        if !float::is_finite(p) || p < prev {
             return false;
         }
         prev = p;
-        j += 1;
     }
     prev == max
 }

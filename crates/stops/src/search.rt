@@ -9,7 +9,7 @@ use crate::{Place, item, less};
 pub fn below(x: f32, t: f32) -> usize
     ensures { (result ≡ cond (lt x t) 1 0) × (result ≤ 1) }
 {
-    if x < t { 1 } else { 0 }
+    usize::from(x < t)
 }
 
 // The first index whose position is t or more; t lies past the first position and before the last.
@@ -41,7 +41,7 @@ pub fn find_place(positions: &[f32], t: f32) -> Place
     if t >= item(positions, last) {
         return Place::End(last);
     }
-    if t != t {
+    if t.is_nan() {
         return Place::Nowhere;
     }
     Place::Between(narrowed(positions, t))

@@ -17,25 +17,7 @@ pub const FEW: usize = 32;
 pub fn is_catmull_rom(kind: Kind) -> bool
     ensures { result ≡ is_catmull_rom kind }
 {
-    match kind {
-        Kind::Linear => false,
-        Kind::Smoothstep => false,
-        Kind::Sharp => false,
-        Kind::Basis => false,
-        Kind::CatmullRom => true,
-        Kind::Gimp => false,
-        Kind::GimpSaved => false,
-    }
-}
-
-// The pairs of n stops from `base` on.
-fn pairs_from(n: usize, base: usize) -> usize
-    ensures { result ≡ n - base }
-{
-    if n <= base {
-        return 0;
-    }
-    n - base
+    kind == Kind::CatmullRom
 }
 
 // The chords from stop k - 1 to stop k.
@@ -59,9 +41,10 @@ fn chords_before(k: usize, last: Rgba, left: Rgba, p: Rgba) -> Rgba
     ensures { result ≡ cond (ltb 1 k) last (chords_of left p) }
 {
     if 1 < k {
-        return last;
+        last
+    } else {
+        catmull_rom::chords(left, p)
     }
-    catmull_rom::chords(left, p)
 }
 
 // The segment of the pair k - 1, k, with the chords of the pair before it, its own and those after it in hand.
@@ -96,22 +79,17 @@ fn segment_next(
 pub fn fill(channels: &[f32], n: usize, base: usize, table: &mut [[[f32; 4]; 4]]) -> usize
     ensures { FillsTable channels.now n base table.old table.new result }
 {
-    let pairs = pairs_from(n, base);
+    let count = n.saturating_sub(base).min(table.len());
     let mut last = chords_within(channels, less(base));
     let mut within = chords_within(channels, base);
-    let mut i = 0;
-    while i < table.len() {
-        if pairs <= i {
-            return i;
-        }
+    for i in 0..count {
         let k = base + i;
         let after = chords_after(channels, n, k);
         table[i] = segment_next(channels, n, k, last, within, after);
         last = within;
         within = after;
-        i += 1;
     }
-    i
+    count
 }
 
 // The segment of the pair k - 1, k: out of a table of the pairs from `base` on, or worked out where the table has none.
@@ -124,12 +102,9 @@ pub fn segment(
 ) -> [[f32; 4]; 4]
     ensures { result ≡ segment_by channels.now n base table.now k }
 {
-    if k < base {
-        return near::segment_for(channels, n, k);
+    if base <= k && k - base < table.len() {
+        table[k - base]
+    } else {
+        near::segment_for(channels, n, k)
     }
-    let i = k - base;
-    if i < table.len() {
-        return table[i];
-    }
-    near::segment_for(channels, n, k)
 }

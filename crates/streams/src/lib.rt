@@ -1,10 +1,11 @@
 // What the programs read and write: standard input and output, each with its first failure, which `main` answers at the end.
 #![tactic(auto)]
 
-ghost use Rattle.std.specs.Prelude.{◌≡◌, ◌<◌, ◌≤◌, length, take, IfOk, OnOk, OnErr, IsOk, decimal};
+ghost use Rattle.std.specs.Prelude.{◌≡◌, ◌<◌, ◌≤◌, length, take, IfOk, IfSome, OnOk, OnErr, IsOk, decimal};
 ghost use Rattle.streams.specs.Hex.{eight_digits};
 ghost use Rattle.std.specs.Io.KnownBytes.{Appends, Consumes, IsAtEnd};
 
+use std::fmt::Display;
 use std::io;
 use std::io::{Read, Stdin, Stdout, Write};
 
@@ -101,22 +102,28 @@ impl<W: Write + Drop> Output<W> {
         }
     }
 
+    // What `write!` and `writeln!` call. They answer nothing here, since the failure is kept.
+    pub fn write_fmt<D: Display + Drop>(&mut self, text: D)
+        ensures bytes { OnOk self.new.result (IfSome (D.output text) (Appends (W.contents self.old.writer) (W.contents self.new.writer))) }
+        ensures kept { OnErr self.old.result (self.new ≡ self.old) }
+    {
+        if self.result.is_ok() {
+            self.result = self.writer.write_fmt(text);
+        }
+    }
+
     pub fn decimal(&mut self, n: u64)
         ensures bytes { OnOk self.new.result (Appends (W.contents self.old.writer) (W.contents self.new.writer) (decimal n)) }
         ensures kept { OnErr self.old.result (self.new ≡ self.old) }
     {
-        if self.result.is_ok() {
-            self.result = write!(self.writer, "{n}");
-        }
+        write!(self, "{n}");
     }
 
     pub fn hex(&mut self, n: u32)
         ensures bytes { OnOk self.new.result (Appends (W.contents self.old.writer) (W.contents self.new.writer) (eight_digits n)) }
         ensures kept { OnErr self.old.result (self.new ≡ self.old) }
     {
-        if self.result.is_ok() {
-            self.result = write!(self.writer, "{n:08x}");
-        }
+        write!(self, "{n:08x}");
     }
 
     pub fn end(self) -> io::Result<()>

@@ -1,15 +1,21 @@
 -- Laws of bytes one after the other: runs of a class, tests of every byte, marks, starts, trimming. Assumes nothing.
 use Prim.Native.Nat.{ℕ, zero, suc, ◌+◌, ◌-◌, ◌≤◌, ◌<◌}
-use native.Mathlib.Nat.{add-zero, zero-add}
+use native.Mathlib.Nat.{zero-add}
 use native.Mathlib.Numerals.{add-one}
 use native.Mathlib.Omega.{arith}
-use mathlib.Core.Path.{◌≡◌, refl, sym, ap, ◌∙◌}
+use mathlib.Core.Path.{◌≡◌, refl, sym, ap, ap₂, ◌∙◌}
 use mathlib.Core.Bool.{Bool, true, false, cond, ◌&&◌}
 use mathlib.Core.List.{List, [], ◌∷◌, ◌++◌}
-use lib.ListN.{length, take, drop, get_or, drop_of_length-le, length-drop, length-append}
-use lib.Seq.{drop-cons, take-suc, get_or-drop, drop-drop, take_all}
+use lib.ListN.{length, take, drop, get_or, drop_of_length-le, length-drop}
+use lib.Seq.{drop-cons, drop-drop, take_all, length-take-le}
 use lib.Dec.{leb, eqb}
-use borrow.Author.Tests.{eqb-true, eq-eqb, ne_eqb, le-leb, leb-true}
+use borrow.Author.Tests.{ne_eqb, le-leb, lt-leb}
+use Rattle.std.specs.Prelude.{nat_eq}
+use Rattle.std.specs.Bool.{MatchBool}
+use Rattle.std.specs.List.{starts_with}
+use Rattle.std.specs.Str.{IsAscii, IsNotAscii}
+use Rattle.std.specs.Cmp.Lexicographic.{pointwise}
+use Rattle.std.proofs.lemmas.Bool.Decides.{nat_tests}
 use Rattle.float.proofs.Flags.{both_l, both_r}
 use Rattle.text.specs.declared.Class.TheVariants.{White}
 use Rattle.text.specs.Text.{every, ascii, unmark, white, same, starts, trim_start, trim_end}
@@ -71,72 +77,37 @@ every_drop p zero s h = h
 every_drop p (suc n) [] h = refl
 every_drop p (suc n) (b ∷ s) h = every_drop p n s (both_r (p b) (every p s) h)
 
--- the greatest byte so far, top, is ASCII where all so far are
-top_more : (top b : ℕ) (e : Bool) → top < b → (leb top 127 && (leb b 127 && e)) ≡ (leb b 127 && e)
-top_more top b e h = go (leb b 127) refl where
-  go : (t : Bool) → leb b 127 ≡ t → (leb top 127 && (t && e)) ≡ (t && e)
-  go true f = rw (le-leb top 127 (omega (arith, leb-true b 127 f)))
-  go false f = and-false (leb top 127) where
+-- what a slice tells of itself
+pub ascii_told : (s : List ℕ) (t : Bool) → MatchBool t (IsAscii s) (IsNotAscii s) → t ≡ every ascii s
+unfolding every
+ascii_told s true h = sym (all s h) where
+  all : (s : List ℕ) → IsAscii s → every ascii s ≡ true
+  all [] h = refl
+  all (b ∷ s) h = let l : b < 128 = h 0 in rw (le-leb b 127 (omega arith)) (all s (λ i. h (suc i)))
+ascii_told s false h = sym (some s h.0 h.1) where
+  some : (s : List ℕ) (i : ℕ) → 128 ≤ get_or s i 0 → every ascii s ≡ false
+  some [] i h = absurd (omega arith)
+  some (b ∷ s) zero h = rw (lt-leb b 127 (omega arith))
+  some (b ∷ s) (suc i) h = rw (some s i h) (and-false (leb b 127)) where
     and-false : (t : Bool) → (t && false) ≡ false
     and-false true = refl
     and-false false = refl
 
-top_same : (top b : ℕ) (e : Bool) → b ≤ top → (leb top 127 && (leb b 127 && e)) ≡ (leb top 127 && e)
-top_same top b e h = go (leb top 127) refl where
-  go : (t : Bool) → leb top 127 ≡ t → (t && (leb b 127 && e)) ≡ (t && e)
-  go true f = rw (le-leb b 127 (omega (arith, leb-true top 127 f)))
-  go false f = refl
-
-module _ (s : List ℕ) (i top : ℕ) (h : i < length s) (now : every ascii s ≡ (leb top 127 && every ascii (drop i s))) where
-  next : every ascii s ≡ (leb top 127 && (leb (get_or s i 0) 127 && every ascii (drop (i + 1) s)))
-  next = now ∙ ap (λ (t : Bool). leb top 127 && t) (every_step ascii s i h)
-
-  pub ascii_above : top < get_or s i 0 → every ascii s ≡ (leb (get_or s i 0) 127 && every ascii (drop (i + 1) s))
-  ascii_above k = next ∙ top_more top (get_or s i 0) (every ascii (drop (i + 1) s)) k
-
-  pub ascii_below : get_or s i 0 ≤ top → every ascii s ≡ (leb top 127 && every ascii (drop (i + 1) s))
-  ascii_below k = next ∙ top_same top (get_or s i 0) (every ascii (drop (i + 1) s)) k
-
-pub ascii_all : (s : List ℕ) (i top : ℕ) → length s ≤ i → every ascii s ≡ (leb top 127 && every ascii (drop i s)) → leb top 127 ≡ every ascii s
-ascii_all s i top h e = sym (e ∙ ap (λ (t : Bool). leb top 127 && t) (every_none ascii s i h) ∙ and-true (leb top 127)) where
-  and-true : (t : Bool) → (t && true) ≡ t
-  and-true true = refl
-  and-true false = refl
-
 -- ---- starts, and the same
-module _ (p s : List ℕ) (i : ℕ) where
-  pub starts_yes : i < length p → i < length s → get_or s i 0 ≡ get_or p i 0 → starts (drop i p) (drop i s) ≡ starts (drop (i + 1) p) (drop (i + 1) s)
-  unfolding starts
-  starts_yes h k e = rw (add-one, drop-cons p i 0, drop-cons s i 0, eq-eqb _ _ e)
+pub starts_is : (p s : List ℕ) → starts_with nat_eq s p ≡ starts p s
+unfolding starts
+starts_is [] s = refl
+starts_is (a ∷ p) [] = refl
+starts_is (a ∷ p) (b ∷ s) = ap₂ ◌&&◌ (eqb_sym a b) (starts_is p s) where
+  eqb_sym : (a b : ℕ) → eqb a b ≡ eqb b a
+  eqb_sym a b = grind (arith, nat_tests)
 
-  pub starts_no : i < length p → i < length s → (get_or s i 0 ≡ get_or p i 0 → ⊥) → starts (drop i p) (drop i s) ≡ false
-  unfolding starts
-  starts_no h k e = rw (drop-cons p i 0, drop-cons s i 0, ne_eqb _ _ e)
-
-  pub starts_short : i < length p → length s ≤ i → starts (drop i p) (drop i s) ≡ false
-  unfolding starts
-  starts_short h k = rw (drop-cons p i 0, drop_of_length-le s k)
-
-  pub starts_end : length p ≤ i → starts (drop i p) (drop i s) ≡ true
-  unfolding starts
-  starts_end h = rw (drop_of_length-le p h)
-
-pub same_length : (p s : List ℕ) → length s ≡ length p → starts p s ≡ same p s
-unfolding starts same
-same_length [] [] h = refl
-same_length [] (b ∷ s) h = absurd (omega arith)
-same_length (a ∷ p) [] h = absurd (omega arith)
-same_length (a ∷ p) (b ∷ s) h = ap (λ (t : Bool). eqb b a && t) (same_length p s (omega arith))
-
-pub same_not : (p s : List ℕ) → (length s ≡ length p → ⊥) → false ≡ same p s
+pub same_is : (p s : List ℕ) → pointwise nat_eq s p ≡ same p s
 unfolding same
-same_not [] [] h = absurd (h refl)
-same_not [] (b ∷ s) h = refl
-same_not (a ∷ p) [] h = refl
-same_not (a ∷ p) (b ∷ s) h = go (eqb b a) (same_not p s (λ e. h (ap suc e))) where
-  go : (t : Bool) → false ≡ same p s → false ≡ (t && same p s)
-  go true e = e
-  go false e = refl
+same_is [] [] = refl
+same_is [] (b ∷ s) = refl
+same_is (a ∷ p) [] = refl
+same_is (a ∷ p) (b ∷ s) = ap (λ (t : Bool). eqb b a && t) (same_is p s)
 
 pub starts_long : (p s : List ℕ) → starts p s ≡ true → length p ≤ length s
 unfolding starts
@@ -155,66 +126,52 @@ pub trim_from : (s : List ℕ) (n : ℕ) → n ≡ 0 + span (in_class White) (dr
 unfolding in_class
 trim_from s n e = ap (λ (i : ℕ). drop i s) (e ∙ zero-add _) ∙ trim_start_lem s
 
-trim_snoc : (l : List ℕ) (b : ℕ) → white b ≡ true → trim_end (l ++ b ∷ []) ≡ trim_end l
+-- white space from r on, and none just before it
+pub trim_at : (s : List ℕ) (r : ℕ) → r ≤ length s → ((n : ℕ) → r ≡ n + 1 → white (get_or s n 0) ≡ false) → ((k : ℕ) → r ≤ k → k < length s → white (get_or s k 0) ≡ true) → take r s ≡ trim_end s
 unfolding trim_end
-trim_snoc [] b e = rw e
-trim_snoc (a ∷ l) b e = rw (trim_snoc l b e)
-
-trim_kept : (l : List ℕ) (b : ℕ) → white b ≡ false → trim_end (l ++ b ∷ []) ≡ l ++ b ∷ []
-unfolding trim_end
-trim_kept [] b e = rw e
-trim_kept (a ∷ l) b e =
-    let n : length (l ++ b ∷ []) ≡ 0 → ⊥ = λ z. omega (arith, length-append l (b ∷ [])) in
-    rw (trim_kept l b e, ne_eqb (length (l ++ b ∷ [])) 0 n) (and_no (white a) (l ++ b ∷ []) a) where
-      and_no : (t : Bool) (l : List ℕ) (a : ℕ) → cond (t && false) [] (a ∷ l) ≡ a ∷ l
-      and_no true l a = refl
-      and_no false l a = refl
-
-module _ (s : List ℕ) (e : ℕ) (h : e ≤ length s) (k : 0 < e) where
-  snoc_at : take e s ≡ take (e - 1) s ++ get_or s (e - 1) 0 ∷ []
-  snoc_at =
-      let q : e ≡ suc (e - 1) = omega arith in
-      ap (λ (n : ℕ). take n s) q ∙ take-suc s (e - 1) 0 (omega arith)
-
-  pub trim_less : white (get_or s (e - 1) 0) ≡ true → trim_end (take e s) ≡ trim_end (take (e - 1) s)
-  trim_less t = ap trim_end snoc_at ∙ trim_snoc _ _ t
-
-  pub trim_stop : white (get_or s (e - 1) 0) ≡ false → trim_end (take e s) ≡ take e s
-  trim_stop t = ap trim_end snoc_at ∙ trim_kept (take (e - 1) s) (get_or s (e - 1) 0) t ∙ sym snoc_at
-
-pub trim_zero : (s : List ℕ) (e : ℕ) → e ≡ 0 → trim_end (take e s) ≡ take e s
-unfolding trim_end
-trim_zero s e z = rw z
+trim_at [] zero h last after = refl
+trim_at [] (suc r) h last after = absurd (omega arith)
+trim_at (b ∷ s) zero h last after = rw (← trim_at s zero (omega arith) (λ n e. absurd (omega arith)) (λ k i j. after (suc k) (omega arith) (omega arith)), after 0 (omega arith) (omega arith))
+trim_at (b ∷ s) (suc r) h last after =
+    rw (← trim_at s r (omega arith) (λ n e. last (suc n) (omega arith)) (λ k i j. after (suc k) (omega arith) (omega arith))) (go r (white b) (last 0) (length-take-le r s (omega arith))) where
+      go : (r : ℕ) (t : Bool) → (suc r ≡ 0 + 1 → t ≡ false) → length (take r s) ≡ r → b ∷ take r s ≡ cond (t && eqb (length (take r s)) 0) [] (b ∷ take r s)
+      go zero t f l = rw (f refl)
+      go (suc r) true f l = rw (ne_eqb (length (take (suc r) s)) 0 (omega arith))
+      go (suc r) false f l = refl
 
 -- ---- marks
-unmark_no : (l : List ℕ) → (3 ≤ length l → get_or l 0 0 ≡ 0xEF → get_or l 1 0 ≡ 0xBB → get_or l 2 0 ≡ 0xBF → ⊥) → unmark l ≡ l
-unfolding unmark
-unmark_no [] h = refl
-unmark_no (a ∷ []) h = refl
-unmark_no (a ∷ b ∷ []) h = refl
-unmark_no (a ∷ b ∷ c ∷ s) h = go _ refl where
-  go : (t : Bool) → eqb a 0xEF && (eqb b 0xBB && eqb c 0xBF) ≡ t → cond t (unmark s) (a ∷ b ∷ c ∷ s) ≡ a ∷ b ∷ c ∷ s
-  go true e =
-      let f = both_r (eqb a 0xEF) (eqb b 0xBB && eqb c 0xBF) e in
-      absurd (h (omega arith) (eqb-true _ _ (both_l (eqb a 0xEF) _ e)) (eqb-true _ _ (both_l (eqb b 0xBB) _ f)) (eqb-true _ _ (both_r (eqb b 0xBB) _ f)))
-  go false e = refl
+abbrev pub mark : List ℕ
+mark = 0xEF ∷ 0xBB ∷ 0xBF ∷ []
 
-unmark_yes : (l : List ℕ) → 3 ≤ length l → get_or l 0 0 ≡ 0xEF → get_or l 1 0 ≡ 0xBB → get_or l 2 0 ≡ 0xBF → unmark l ≡ unmark (drop 3 l)
-unfolding unmark
-unmark_yes [] h e f g = absurd (omega arith)
-unmark_yes (a ∷ []) h e f g = absurd (omega arith)
-unmark_yes (a ∷ b ∷ []) h e f g = absurd (omega arith)
-unmark_yes (a ∷ b ∷ c ∷ s) h e f g = rw (eq-eqb a 0xEF e, eq-eqb b 0xBB f, eq-eqb c 0xBF g)
+unmark_by : (l : List ℕ) → unmark l ≡ cond (starts mark l) (unmark (drop 3 l)) l
+unfolding unmark starts
+unmark_by [] = refl
+unmark_by (a ∷ []) = go (eqb a 0xEF) where
+  go : (t : Bool) → a ∷ [] ≡ cond (t && false) (unmark []) (a ∷ [])
+  go true = refl
+  go false = refl
+unmark_by (a ∷ b ∷ []) = go (eqb a 0xEF) (eqb b 0xBB) where
+  go : (t u : Bool) → a ∷ b ∷ [] ≡ cond (t && (u && false)) (unmark []) (a ∷ b ∷ [])
+  go true true = refl
+  go true false = refl
+  go false u = refl
+unmark_by (a ∷ b ∷ c ∷ s) = go (eqb a 0xEF) (eqb b 0xBB) (eqb c 0xBF) where
+  go : (t u v : Bool) → cond (t && (u && v)) (unmark s) (a ∷ b ∷ c ∷ s) ≡ cond (t && (u && (v && true))) (unmark s) (a ∷ b ∷ c ∷ s)
+  go true true true = refl
+  go true true false = refl
+  go true false v = refl
+  go false u v = refl
 
--- the code's tests are of s at i, i + 1 and i + 2
-module _ (s : List ℕ) (i : ℕ) (h : i ≤ length s) where
-  pub marks_no : (3 ≤ length s - i → get_or s i 0 ≡ 0xEF → get_or s (i + 1) 0 ≡ 0xBB → get_or s (i + 2) 0 ≡ 0xBF → ⊥) → unmark (drop i s) ≡ drop i s
-  marks_no k =
-      unmark_no (drop i s) (λ n e f g. k (omega (arith, length-drop i s)) (sym (at_0 s i) ∙ e) (sym (get_or-drop i s 1 0) ∙ f) (sym (get_or-drop i s 2 0) ∙ g)) where
-        at_0 : (s : List ℕ) (i : ℕ) → get_or (drop i s) 0 0 ≡ get_or s i 0
-        at_0 s i = get_or-drop i s 0 0 ∙ ap (λ (n : ℕ). get_or s n 0) (add-zero i)
+-- of what is left from i on, as the code lends it
+module _ (s : List ℕ) (i : ℕ) {t : Bool} (told : t ≡ starts mark (take (length s - i) (drop i s))) where
+  starts_at : starts mark (drop i s) ≡ t
+  starts_at = sym (told ∙ ap (starts mark) (part_tail s i))
 
-  pub marks_yes : 3 ≤ length s - i → get_or s i 0 ≡ 0xEF → get_or s (i + 1) 0 ≡ 0xBB → get_or s (i + 2) 0 ≡ 0xBF → unmark (drop i s) ≡ unmark (drop (i + 3) s)
-  marks_yes k e f g =
-      unmark_yes (drop i s) (omega (arith, length-drop i s)) (get_or-drop i s 0 0 ∙ ap (λ (n : ℕ). get_or s n 0) (add-zero i) ∙ e) (get_or-drop i s 1 0 ∙ f) (get_or-drop i s 2 0 ∙ g)
-      ∙ ap unmark (drop-drop 3 i s)
+  pub marks_no : t ≡ false → unmark (drop i s) ≡ drop i s
+  marks_no e = unmark_by (drop i s) ∙ rw (starts_at, e)
+
+  pub marks_yes : t ≡ true → unmark (drop i s) ≡ unmark (drop (i + 3) s)
+  marks_yes e = unmark_by (drop i s) ∙ rw (starts_at, e, drop-drop 3 i s)
+
+  pub marks_room : t ≡ true → 3 ≤ length s - i
+  marks_room e = omega (arith, starts_long mark (drop i s) (starts_at ∙ e), length-drop i s)

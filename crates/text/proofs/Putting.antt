@@ -2,16 +2,16 @@
 use Prim.Native.Nat.{ℕ, zero, suc, ◌+◌, ◌-◌, ◌/◌, ◌%◌, ◌^◌, ◌≤◌, ◌<◌, min}
 use native.Mathlib.Nat.{div-lt_iff_lt-mul, pow-suc, lt_of_lt_of_le, le_of_eq}
 use native.Mathlib.Decide.{dec_le}
-use native.Mathlib.Numerals.{add-one}
 use native.Mathlib.Omega.{arith}
 use mathlib.Core.Path.{◌≡◌, refl, sym, ap, ◌∙◌}
 use mathlib.Core.Bool.{Bool, true, false, cond}
 use mathlib.Core.List.{List, [], ◌∷◌, ◌++◌}
 use lib.Dec.{ltb, lit<}
-use lib.ListN.{length, take, get_or, length-append}
-use lib.Seq.{sets, length-sets, set_out, take-suc, take_all}
+use lib.ListN.{length, take, set, length-append, length-set}
+use lib.Seq.{sets, length-sets, length-take-le}
+use borrow.Rule.Slice.PartMut.{put_mid}
 use borrow.Author.Tests.{lt-ltb, le-ltb}
-use Rattle.slices.proofs.Stores.{sets-append, sets_out}
+use Rattle.slices.proofs.Stores.{sets-append, sets_out, part_sets}
 use Rattle.text.specs.Output.{decimal_of, most_place, PutsFrom, Puts}
 
 -- ---- one text after another
@@ -53,16 +53,21 @@ puts_size {out} {out'} {at} {r} {text} p = ap length p.written ∙ length-sets o
 pub puts_as : {out out' : List ℕ} {at r : ℕ} {xs ys : List ℕ} → Puts out out' at xs r → xs ≡ ys → Puts out out' at ys r
 puts_as {out} {out'} {at} {r} {xs} {ys} p e = record { next = p.next ∙ ap (λ (l : List ℕ). at + length l) e; written = p.written ∙ ap (sets out at) e }
 
--- a byte where there is no room
-pub put_out : (out : List ℕ) (at b r : ℕ) → length out ≤ at → r ≡ min (at + 1) most_place → PutsFrom out out at (b ∷ []) r
-put_out out at b r h e = record { next = e; written = sym (set_out out at b h) }
+-- stores beyond the end are none, however many
+sets_cut : (l : List ℕ) (i : ℕ) (vs : List ℕ) (n : ℕ) → (n < length vs → length l ≤ i + n) → sets l i (take n vs) ≡ sets l i vs
+sets_cut l i [] zero h = refl
+sets_cut l i [] (suc n) h = refl
+sets_cut l i (v ∷ vs) zero h = sym (sets_out l i (v ∷ vs) (omega arith))
+sets_cut l i (v ∷ vs) (suc n) h = sets_cut (set l i v) (suc i) vs n (λ k. omega (arith, length-set l i v, h (omega arith)))
 
--- a text, byte by byte
-pub bytes_next : {out mid out' : List ℕ} {at m r : ℕ} (text : List ℕ) (i : ℕ) → i < length text → PutsFrom out mid at (take i text) m → PutsFrom mid out' m (get_or text i 0 ∷ []) r → length out ≤ most_place → PutsFrom out out' at (take (i + 1) text) r
-bytes_next text i h p q k = from_as (puts_then p (λ l. q) k) (sym (ap (λ (n : ℕ). take n text) (add-one i) ∙ take-suc text i 0 h))
-
-pub bytes_done : {out mid : List ℕ} {at m : ℕ} (text : List ℕ) (i : ℕ) → length text ≤ i → PutsFrom out mid at (take i text) m → PutsFrom out mid at text m
-bytes_done text i h p = from_as p (take_all i text h)
+-- a text, as far as the output goes
+pub part_put : {out text part : List ℕ} {at from n r : ℕ} → from ≡ min at (length out) → n ≡ min (length text) (length out - from) → part ≡ take n text → r ≡ min (at + length text) most_place → PutsFrom out (put_mid from (from + n - from) out part) at text r
+part_put {out} {text} {part} {at} {from} {n} {r} e f g h =
+    let long : length part ≡ from + n - from = ap length g ∙ length-take-le n text (omega arith) ∙ omega arith in
+    record { next = h; written = part_sets out part from (from + n) (omega arith) (omega arith) long ∙ ap (sets out from) g ∙ go (dec_le at (length out)) } where
+      go : Dec (at ≤ length out) → sets out from (take n text) ≡ sets out at text
+      go (yes a) = let k : from ≡ at = omega arith in ap (λ (i : ℕ). sets out i (take n text)) k ∙ sets_cut out at text n (λ l. omega arith)
+      go (no a) = let k : n ≡ 0 = omega arith in ap (λ (i : ℕ). sets out from (take i text)) k ∙ sym (sets_out out at text (omega arith))
 
 -- ---- digit by digit
 pub decimal_none : (out : List ℕ) (at n left : ℕ) → at ≤ most_place → left ≡ 0 → PutsFrom out out at (decimal_of left n) at

@@ -14,7 +14,8 @@ const LF: u8 = 10;
 
 const CR: u8 = 13;
 
-// The classes of bytes that the reader scans for; a blank is white space within a line.
+// The classes of bytes that the reader scans for; a blank is white space within a line. No closure stands for a class,
+// since the contract of `span_end` names it: `in_class k`.
 #[derive(Clone, Copy)]
 pub enum Class {
     NotLf,
@@ -24,22 +25,21 @@ pub enum Class {
     NotTab,
 }
 
+#[tactic(auto, unfolding(crate::specs::Text::white))]
 fn is_white(b: u8) -> bool
     ensures { result ≡ white b }
 {
-    if b == 32 {
-        return true;
-    }
-    if 9 <= b { b <= 13 } else { false }
+    matches!(b, 9..=13 | 32)
 }
 
+#[tactic(auto, unfolding(crate::specs::Places::in_class))]
 fn belongs(k: Class, b: u8) -> bool
     ensures { result ≡ in_class k b }
 {
     match k {
         Class::NotLf => b != LF,
         Class::White => is_white(b),
-        Class::Blank => { if is_white(b) { b != LF } else { false } }
+        Class::Blank => is_white(b) && b != LF,
         Class::NotWhite => !is_white(b),
         Class::NotTab => b != TAB,
     }
@@ -49,15 +49,12 @@ fn belongs(k: Class, b: u8) -> bool
 pub fn span_end(s: &[u8], from: usize, k: Class) -> usize
     ensures { result ≡ from + span (in_class k) (drop from s.now) }
 {
-    let mut i = from;
-    while i < s.len() {
-        let b = s[i];
-        if !belongs(k, b) {
+    for i in from..s.len() {
+        if !belongs(k, s[i]) {
             return i;
         }
-        i += 1;
     }
-    i
+    s.len().max(from)
 }
 
 #[derive(Clone, Copy)]
@@ -74,94 +71,46 @@ pub fn line_at(s: &[u8], at: usize) -> Line
     if s.len() <= n {
         return Line { end: n, next: n };
     }
-    if at < n {
-        if s[n - 1] == CR {
-            return Line {
-                end: n - 1,
-                next: n + 1,
-            };
-        }
-    }
-    Line {
-        end: n,
-        next: n + 1,
-    }
+    let end = if at < n && s[n - 1] == CR { n - 1 } else { n };
+    Line { end, next: n + 1 }
 }
 
-// The greatest byte tells whether all are ASCII: a loop without an exit runs many bytes at a time.
 pub fn is_ascii(s: &[u8]) -> bool
     ensures { result ≡ every ascii s.now }
 {
-    let mut top: u8 = 0;
-    let mut i = 0;
-    while i < s.len() {
-        let b = s[i];
-        if top < b {
-            top = b;
-        }
-        i += 1;
-    }
-    top <= 127
+    s.is_ascii()
 }
 
 // Where s starts after its leading byte-order marks.
 pub fn marks(s: &[u8]) -> usize
     ensures { (result ≤ length s.now) × (drop result s.now ≡ unmark s.now) }
 {
-    let mut i = 0;
-    while 3 <= s.len() - i {
-        if s[i] != 0xEF {
-            return i;
-        }
-        if s[i + 1] != 0xBB {
-            return i;
-        }
-        if s[i + 2] != 0xBF {
-            return i;
-        }
-        i += 3;
+    let mut at = 0;
+    while starts_with(&s[at..], b"\xef\xbb\xbf") {
+        at += 3;
     }
-    i
+    at
 }
 
 pub fn starts_with(s: &[u8], p: &[u8]) -> bool
     ensures { result ≡ starts p.now s.now }
 {
-    let mut i = 0;
-    while i < p.len() {
-        if s.len() <= i {
-            return false;
-        }
-        if s[i] != p[i] {
-            return false;
-        }
-        i += 1;
-    }
-    true
+    s.starts_with(p)
 }
 
 pub fn is_same(s: &[u8], p: &[u8]) -> bool
     ensures { result ≡ same p.now s.now }
 {
-    if s.len() != p.len() {
-        return false;
-    }
-    starts_with(s, p)
+    s == p
 }
 
 // Where s ends without the white space at its end.
 fn trim_end(s: &[u8]) -> usize
     ensures { (result ≤ length s.now) × (take result s.now ≡ trim_end s.now) }
 {
-    let mut e = s.len();
-    while 0 < e {
-        let b = s[e - 1];
-        if !is_white(b) {
-            return e;
-        }
-        e -= 1;
-    }
-    e
+    s.iter()
+        .rposition(|b| !is_white(*b))
+        .map_or(0, |last| last + 1)
 }
 
 // s without white space at either end, as a part of s.

@@ -6,33 +6,26 @@ ghost use Rattle.text.specs.Output.{decimal_of, PutsFrom};
 // Digits of the greatest number.
 pub const DECIMALS: usize = 20;
 
-const MOST_PLACE: usize = 18446744073709551615;
-
 // Writes a byte at a place; the place after it.
 pub fn put(out: &mut [u8], at: usize, b: u8) -> usize
     ensures { PutsFrom out.old out.new at (b ∷ []) result }
 {
     if at < out.len() {
         out[at] = b;
-        return at + 1;
+        at + 1
+    } else {
+        at.saturating_add(1)
     }
-    if at < MOST_PLACE {
-        return at + 1;
-    }
-    at
 }
 
 // Writes bytes from a place on; the place after them.
 pub fn put_all(out: &mut [u8], at: usize, text: &[u8]) -> usize
     ensures { PutsFrom out.old out.new at text.now result }
 {
-    let mut next = at;
-    let mut i = 0;
-    while i < text.len() {
-        next = put(out, next, text[i]);
-        i += 1;
-    }
-    next
+    let from = at.min(out.len());
+    let n = text.len().min(out.len() - from);
+    out[from..from + n].copy_from_slice(&text[..n]);
+    at.saturating_add(text.len())
 }
 
 // Writes the digits of n, the last `left` where it has more; the place after them.

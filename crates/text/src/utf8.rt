@@ -20,63 +20,47 @@ fn still(more: u8, low: u8, high: u8) -> Due
 }
 
 // What is due after the first byte of a character.
+#[tactic(auto, unfolding(crate::specs::Utf8::opened))]
 fn open(b: u8) -> Due
     ensures { result ≡ opened b }
 {
-    if b <= 0x7F {
+    // Most bytes are ASCII, and are told first.
+    if b.is_ascii() {
         return still(0, 0x80, 0xBF);
     }
-    if b < 0xC2 {
-        return still(NEVER, 1, 0);
+    match b {
+        0xC2..=0xDF => still(1, 0x80, 0xBF),
+        0xE0 => still(2, 0xA0, 0xBF),
+        0xED => still(2, 0x80, 0x9F),
+        0xE1..=0xEF => still(2, 0x80, 0xBF),
+        0xF0 => still(3, 0x90, 0xBF),
+        0xF1..=0xF3 => still(3, 0x80, 0xBF),
+        0xF4 => still(3, 0x80, 0x8F),
+        _ => still(NEVER, 1, 0),
     }
-    if b <= 0xDF {
-        return still(1, 0x80, 0xBF);
-    }
-    if b == 0xE0 {
-        return still(2, 0xA0, 0xBF);
-    }
-    if b == 0xED {
-        return still(2, 0x80, 0x9F);
-    }
-    if b <= 0xEF {
-        return still(2, 0x80, 0xBF);
-    }
-    if b == 0xF0 {
-        return still(3, 0x90, 0xBF);
-    }
-    if b <= 0xF3 {
-        return still(3, 0x80, 0xBF);
-    }
-    if b == 0xF4 {
-        return still(3, 0x80, 0x8F);
-    }
-    still(NEVER, 1, 0)
 }
 
 // What is due after one more byte.
+#[tactic(auto, unfolding(crate::specs::Utf8::due_after))]
 fn next(d: Due, b: u8) -> Due
     ensures { result ≡ due_after d b }
 {
     if d.more == 0 {
-        return open(b);
+        open(b)
+    } else if d.low <= b && b <= d.high {
+        still(d.more - 1, 0x80, 0xBF)
+    } else {
+        still(NEVER, 1, 0)
     }
-    if b < d.low {
-        return still(NEVER, 1, 0);
-    }
-    if d.high < b {
-        return still(NEVER, 1, 0);
-    }
-    still(d.more - 1, 0x80, 0xBF)
 }
 
+// No call of str::from_utf8: `utf8` (specs/Utf8) is defined by this walk, and `Due` is the type that it names.
 pub fn is_utf8(s: &[u8]) -> bool
     ensures { result ≡ utf8 s.now }
 {
     let mut d = still(0, 0x80, 0xBF);
-    let mut i = 0;
-    while i < s.len() {
-        d = next(d, s[i]);
-        i += 1;
+    for b in s {
+        d = next(d, *b);
     }
     d.more == 0
 }

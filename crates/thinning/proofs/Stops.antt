@@ -1,9 +1,9 @@
--- The refusals 7, 8 and 9 of a stop, by the tests that lead to them. Assumes nothing.
+-- A stop that is not refused: the tests that it passes, and that it has room. Assumes nothing.
 use mathlib.Core.Path.{◌≡◌, refl}
 use mathlib.Core.Bool.{Bool, true, false, cond}
-use Prim.Native.Nat.{ℕ, ◌≤◌, ◌<◌}
+use Prim.Native.Nat.{ℕ, ◌<◌}
 use native.Mathlib.Omega.{arith}
-use borrow.Author.Tests.{le-leb, lt-leb, leb-false}
+use borrow.Author.Tests.{lt-leb, leb-false}
 use lib.Dec.{leb}
 use lib.Ieee.{Float, lt}
 use lib.Ieee.Scale.{finite}
@@ -12,25 +12,9 @@ use Rattle.stops.specs.Stops.{finite_rgba}
 use Rattle.thinning.specs.Kept.{stop_refusal}
 
 module _ (room n : ℕ) (last t : Float) (c : Rgba) where
-  pub no_room : room ≤ n → 7 ≡ stop_refusal room n last t c
-  unfolding stop_refusal
-  no_room h = simp (le-leb room n h)
-
   module _ (h : n < room) where
-    pub place_not : finite t ≡ false → 8 ≡ stop_refusal room n last t c
-    unfolding stop_refusal
-    place_not p = simp (lt-leb room n h, p)
-
     module _ (p : finite t ≡ true) where
-      pub colour_not : finite_rgba c ≡ false → 8 ≡ stop_refusal room n last t c
-      unfolding stop_refusal
-      colour_not q = simp (lt-leb room n h, p, q)
-
       module _ (q : finite_rgba c ≡ true) where
-        pub falls : lt t last ≡ true → 9 ≡ stop_refusal room n last t c
-        unfolding stop_refusal
-        falls l = simp (lt-leb room n h, p, q, l)
-
         pub stop_fine : lt t last ≡ false → 0 ≡ stop_refusal room n last t c
         unfolding stop_refusal
         stop_fine l = simp (lt-leb room n h, p, q, l)

@@ -36,28 +36,19 @@ pub struct Weighed {
 
 // 2^-23.
 const NEAR: f32 = 0.00000011920928955078125;
-// The largest count.
-const MOST: usize = 18446744073709551615;
 
 // The sum of two counts, or the largest where the sum is none.
 pub fn sum(a: usize, b: usize) -> usize
     ensures { result ≡ sum_of a b }
 {
-    if a <= MOST - b {
-        return a + b;
-    }
-    MOST
+    a.saturating_add(b)
 }
 
 // The whole stops that both outputs hold.
 pub fn room_of(positions: usize, channels: usize) -> usize
     ensures { result ≡ min positions (channels / 4) }
 {
-    let k = channels / 4;
-    if positions <= k {
-        return positions;
-    }
-    k
+    positions.min(channels / 4)
 }
 
 // Nearer than 2^-23: as two comparisons, since the magnitude asks for the sign first.
@@ -69,22 +60,19 @@ fn near(last: f32, x: f32) -> bool
 }
 
 // 7, 8, 9, or 0 where the stop may be written.
+#[tactic(auto, unfolding(crate::specs::Kept::stop_refusal))]
 pub fn stop_refusal(room: usize, n: usize, last: f32, t: f32, c: Rgba) -> u8
     ensures { result ≡ stop_refusal room n last t c }
 {
     if room <= n {
-        return NO_ROOM;
+        NO_ROOM
+    } else if !float::is_finite(t) || !is_finite_colour(c) {
+        LIST_NOT_FINITE
+    } else if t < last {
+        LIST_FALLING
+    } else {
+        0
     }
-    if !float::is_finite(t) {
-        return LIST_NOT_FINITE;
-    }
-    if !is_finite_colour(c) {
-        return LIST_NOT_FINITE;
-    }
-    if t < last {
-        return LIST_FALLING;
-    }
-    0
 }
 
 // The colour of stop n, as much of it as there is room for.

@@ -4,17 +4,18 @@ use mathlib.Core.Bool.{Bool, true, false, ◌&&◌, ◌||◌, true≢false}
 use mathlib.Core.List.{List, [], ◌∷◌, ◌++◌}
 use Prim.Native.Nat.{ℕ, suc, ◌+◌, ◌≤◌, ◌<◌}
 use native.Mathlib.Omega.{arith}
-use borrow.Author.Tests.{lt-ltb, le-ltb, ltb-true, ltb-false, leb-true, le-leb, lt-leb, eq-eqb, ne_eqb, eqb-true}
+use borrow.Author.Tests.{ltb-true, ltb-false, leb-true, le-leb, eq-eqb, eqb-true}
 use lib.Dec.{leb, eqb, ltb}
 use lib.ListN.{length, length-append}
 use lib.Seq.{sets}
 use lib.Ieee.{Float}
+use Rattle.std.specs.Prelude.{Option, None, Some}
+use Rattle.std.specs.Option.{is_some}
 use Rattle.refusals.specs.Limits.{most_stops}
 use Rattle.float.proofs.Flags.{both_l, both_r}
 use Rattle.slices.proofs.Stores.{sets-append}
-use Rattle.stops.specs.declared.Checked.TheVariants as checked
-use Rattle.records.specs.Fitness.{counts_good, counts_check}
-use Rattle.records.proofs.Counting.{each_good, all_good, counts_good_lem}
+use Rattle.records.specs.Fitness.{counts_good}
+use Rattle.records.proofs.Counting.{each_good, all_good}
 use Rattle.places.specs.Places.{list_of, first_place, InRecord, Ready}
 use Rattle.places.proofs.Following.{first_within, first_before, list_most}
 use Rattle.weighed.specs.Points.{Site, own_of, merged}
@@ -58,6 +59,16 @@ nothing_comes : (max last : Float) (ts : List Float) (os : List Site) → ts ≡
 unfolding merged
 nothing_comes max last ts os e d = rw (e, d)
 
+-- ---- whether there is a next
+module _ (ps : List Float) where
+  some_next : (n : Option Next) → is_some n ≡ true → 0 < length (handed (own_left ps) n)
+  some_next (Some n) e = omega arith
+  some_next None e = absurd (true≢false (sym e))
+
+  none_next : (n : Option Next) → is_some n ≡ false → handed (own_left ps) n ≡ []
+  none_next (Some n) e = absurd (true≢false e)
+  none_next None e = refl
+
 -- ---- the loop
 module _ (ps rows : List Float) (counts : List ℕ) (lo max : Float) (ts₀ : List Float) (ms₀ : List ℕ) where
   pub record Merging (ts : List Float) (ms : List ℕ) (s : Merge) : Type 0 where
@@ -70,7 +81,7 @@ module _ (ps rows : List Float) (counts : List ℕ) (lo max : Float) (ts₀ : Li
     pub placed : InRecord counts s.place
 
   module _ (ok : Ready rows counts) where
-    pub merging_start : length ps ≤ 2048 → (nx : Next) → own_left ps (record { below = 0; lent = 0; above = 0 }) ≡ handed (own_left ps) nx
+    pub merging_start : length ps ≤ 2048 → (nx : Option Next) → own_left ps (record { below = 0; lent = 0; above = 0 }) ≡ handed (own_left ps) nx
         → Merging ts₀ ms₀ (record { count = 0; last = lo; place = first_place; next = nx })
     unfolding to_come merged_of times_of marks_of own_left beside_left own_of list_of
     merging_start few nx e =
@@ -90,15 +101,15 @@ module _ (ps rows : List Float) (counts : List ℕ) (lo max : Float) (ts₀ : Li
         }
 
     module _ (ts : List Float) (ms : List ℕ) (s : Merge) (w : Merging ts ms s) where
-      some_left : (ltb s.place.row 36 || s.next.some) ≡ true → 0 < steps_left ps rows counts max s
-      some_left h = go (ltb s.place.row 36) refl s.next.some refl
+      some_left : (ltb s.place.row 36 || (is_some s.next)) ≡ true → 0 < steps_left ps rows counts max s
+      some_left h = go (ltb s.place.row 36) refl (is_some s.next) refl
         where
-          go : (a : Bool) → ltb s.place.row 36 ≡ a → (b : Bool) → s.next.some ≡ b → 0 < steps_left ps rows counts max s
+          go : (a : Bool) → ltb s.place.row 36 ≡ a → (b : Bool) → is_some s.next ≡ b → 0 < steps_left ps rows counts max s
           go true e b d = omega (arith, ap length (record_more rows counts max ok s.place w.placed (ltb-true s.place.row 36 e)))
-          go false e true d = let n : length (handed (own_left ps) s.next) ≡ suc (length (own_left ps s.next.with)) = rw d in omega arith
+          go false e true d = omega (arith, some_next ps s.next d)
           go false e false d = absurd (true≢false (sym (rw (e, d) at h)))
 
-      pub merging_may : (ltb s.place.row 36 || s.next.some) ≡ true → MayMerge ps rows counts max 10753 s
+      pub merging_may : (ltb s.place.row 36 || (is_some s.next)) ≡ true → MayMerge ps rows counts max 10753 s
       merging_may h = record { ready = ok; placed = w.placed; some = some_left h; fits = w.fits }
 
       pub merging_next : (ts' : List Float) (ms' : List ℕ) (r : Merge) → MergesOn ps rows counts max ts ms s ts' ms' r → Merging ts' ms' r
@@ -120,55 +131,25 @@ module _ (ps rows : List Float) (counts : List ℕ) (lo max : Float) (ts₀ : Li
             placed = m.placed;
           }
 
-      pub merging_done : (ltb s.place.row 36 || s.next.some) ≡ false → Gathers (merged_of ps rows counts lo max) ts₀ ms₀ ts ms s.count
+      pub merging_done : (ltb s.place.row 36 || (is_some s.next)) ≡ false → Gathers (merged_of ps rows counts lo max) ts₀ ms₀ ts ms s.count
       unfolding merged to_come merged_of
-      merging_done h = go (ltb s.place.row 36) refl s.next.some refl
+      merging_done h = go (ltb s.place.row 36) refl (is_some s.next) refl
         where
-          all : (a : Bool) → ltb s.place.row 36 ≡ a → a ≡ false → s.next.some ≡ false → w.taken ≡ merged_of ps rows counts lo max
+          all : (a : Bool) → ltb s.place.row 36 ≡ a → a ≡ false → is_some s.next ≡ false → w.taken ≡ merged_of ps rows counts lo max
           all a e f d =
               let r = record_none rows counts max ok s.place w.placed (λ k. let l = ltb-false s.place.row 36 (e ∙ f) in absurd (omega (arith, k, l))) in
-              let o : handed (own_left ps) s.next ≡ [] = rw d in
+              let o = none_next ps s.next d in
               sym (append-nil w.taken) ∙ ap (λ (l : List Site). w.taken ++ l) (sym (nothing_comes max s.last _ _ r o)) ∙ w.same
 
-          go : (a : Bool) → ltb s.place.row 36 ≡ a → (b : Bool) → s.next.some ≡ b → Gathers (merged_of ps rows counts lo max) ts₀ ms₀ ts ms s.count
+          go : (a : Bool) → ltb s.place.row 36 ≡ a → (b : Bool) → is_some s.next ≡ b → Gathers (merged_of ps rows counts lo max) ts₀ ms₀ ts ms s.count
           go true e b d = absurd (true≢false (rw e at h))
           go false e true d = absurd (true≢false (rw (e, d) at h))
           go false e false d = rw (← all false e refl d) (record { many = w.many; times = w.times; marks = w.marks })
 
 -- ---- the guard
-module _ (n long : ℕ) (counts : List ℕ) where
-  pub too_many : 2048 < n → false ≡ weighable n long counts
-  unfolding weighable most_stops
-  too_many h = rw (lt-leb n 2048 h)
-
-  module _ (few : n ≤ 2048) where
-    pub other_rows : (long ≡ 4608 → ⊥) → false ≡ weighable n long counts
-    unfolding weighable most_stops
-    other_rows h = rw (le-leb n 2048 few, ne_eqb long 4608 h)
-
-    module _ (e : long ≡ 4608) where
-      pub other_counts : (length counts ≡ 36 → ⊥) → false ≡ weighable n long counts
-      unfolding weighable most_stops
-      other_counts h = rw (le-leb n 2048 few, eq-eqb long 4608 e, ne_eqb (length counts) 36 h)
-
-      module _ (d : length counts ≡ 36) where
-        good : weighable n long counts ≡ counts_good counts
-        unfolding weighable most_stops
-        good = rw (le-leb n 2048 few, eq-eqb long 4608 e, eq-eqb (length counts) 36 d)
-
-        pub good_counts : counts_check counts ≡ checked.Fine → true ≡ weighable n long counts
-        good_counts h = sym (good ∙ counts_good_lem counts h)
-
-        pub bad_counts : (k : ℕ) → counts_check counts ≡ checked.Refused k → false ≡ weighable n long counts
-        unfolding counts_check
-        bad_counts k h = go (counts_good counts) refl
-          where
-            go : (b : Bool) → counts_good counts ≡ b → false ≡ weighable n long counts
-            go true f = absurd (other (rw f at h))
-              where
-                other : checked.Fine ≡ checked.Refused k → ⊥
-                other u = let z : ◌≡◌ {A = ℕ} 0 1 = cc in omega arith
-            go false f = sym (good ∙ f)
+good : (n long : ℕ) (counts : List ℕ) → n ≤ 2048 → long ≡ 4608 → length counts ≡ 36 → weighable n long counts ≡ counts_good counts
+unfolding weighable most_stops
+good n long counts few e d = rw (le-leb n 2048 few, eq-eqb long 4608 e, eq-eqb (length counts) 36 d)
 
 module _ (ps rows : List Float) (counts : List ℕ) (h : weighable (length ps) (length rows) counts ≡ true) where
   pub few_positions : length ps ≤ 2048
@@ -204,10 +185,3 @@ module _ (ps rows : List Float) (counts : List ℕ) (lo hi : Float) where
   gathered_ready ok few =
       let g = all_good counts (λ i h. (ok.some i (omega (arith, ok.many)), ok.most i (omega (arith, ok.many)))) in
       rw (good (length ps) (length rows) counts few ok.long ok.many, g)
-
--- ---- whether there is one left
-pub on_row : (row : ℕ) (some : Bool) → row < 36 → true ≡ (ltb row 36 || some)
-on_row row some h = rw (lt-ltb row 36 h)
-
-pub past_rows : (row : ℕ) (some : Bool) → 36 ≤ row → some ≡ (ltb row 36 || some)
-past_rows row some h = rw (le-ltb row 36 h)

@@ -1,13 +1,14 @@
 -- The next of the lent positions and their neighbours, and those left after it. Assumes nothing.
 use mathlib.Core.Path.{◌≡◌, refl, sym, ap, ap₂, ◌∙◌}
-use mathlib.Core.Bool.{Bool, true, false, cond, ◌&&◌}
+use mathlib.Core.Bool.{true, false}
 use mathlib.Core.List.{List, [], ◌∷◌}
 use Prim.Native.Nat.{ℕ, zero, suc, ◌+◌, ◌≤◌, ◌<◌}
 use native.Mathlib.Numerals.{add-one}
 use native.Mathlib.Omega.{arith}
 use lib.ListN.{length, get_or, drop, drop_of_length-le}
 use lib.Ieee.{Float, nan, lt}
-use Rattle.float.specs.F32.{f0}
+use Rattle.std.specs.Prelude.{Option, None, Some}
+use Rattle.std.specs.Option.{IfSome}
 use Rattle.float.specs.Number.{above_of, below_of}
 use Rattle.weighed.specs.Points.{Site, site, beside_mark, lent_mark, sites_by, before, joined_with}
 use Rattle.weighed.specs.inner.Joining.{belows, aboves, lents, beside_left, own_left, next_of, next_below, next_above, handed, NextBeside}
@@ -58,17 +59,17 @@ module _ (ps : List Float) (at : Taken) where
   abbrev upper : List Site
   upper = drop at.above (aboves ps)
 
-  pub beside_none : length ps ≤ at.below → length ps ≤ at.above → NextBeside ps at (record { some = false; t = f0; mark = beside_mark; with = at })
+  pub beside_none : length ps ≤ at.below → length ps ≤ at.above → NextBeside ps at None
   unfolding beside_left
-  beside_none a b = record { left = ap₂ joined_with (none_by below_of beside_mark ps at.below a) (none_by above_of beside_mark ps at.above b) ∙ no_first []; lent = refl }
+  beside_none a b = record { left = ap₂ joined_with (none_by below_of beside_mark ps at.below a) (none_by above_of beside_mark ps at.above b) ∙ no_first []; lent = tt }
 
-  pub beside_above : (r : Next) → length ps ≤ at.below → at.above < length ps → r ≡ next_above ps at → NextBeside ps at r
+  pub beside_above : (r : Next) → length ps ≤ at.below → at.above < length ps → r ≡ next_above ps at → NextBeside ps at (Some r)
   unfolding beside_left joined_with
   beside_above r a b e =
       let none = none_by below_of beside_mark ps at.below a in
       rw e (record { left = ap₂ joined_with none (some_by above_of beside_mark ps at.above b) ∙ no_first _ ∙ sym (ap (λ (l : List Site). site (above_of (get_or ps at.above nan)) beside_mark ∷ joined_with l (drop (at.above + 1) (aboves ps))) none); lent = refl })
 
-  pub beside_below : (r : Next) → at.below < length ps → length ps ≤ at.above → r ≡ next_below ps at → NextBeside ps at r
+  pub beside_below : (r : Next) → at.below < length ps → length ps ≤ at.above → r ≡ next_below ps at → NextBeside ps at (Some r)
   unfolding beside_left
   beside_below r a b e =
       let none = none_by above_of beside_mark ps at.above b in
@@ -79,7 +80,7 @@ module _ (ps : List Float) (at : Taken) where
       rw e (record { left = left'; lent = refl })
 
   module _ (a : at.below < length ps) (b : at.above < length ps) where
-    pub beside_first : (x y : Next) → x ≡ next_below ps at → y ≡ next_above ps at → lt x.t y.t ≡ true → NextBeside ps at x
+    pub beside_first : (x y : Next) → x ≡ next_below ps at → y ≡ next_above ps at → lt x.t y.t ≡ true → NextBeside ps at (Some x)
     unfolding beside_left
     beside_first x y e d h =
         let k : lt (below_of (get_or ps at.below nan)) (above_of (get_or ps at.above nan)) ≡ true = rw (e, d) at h in
@@ -90,7 +91,7 @@ module _ (ps : List Float) (at : Taken) where
         ∙ ap (λ (l : List Site). site (below_of (get_or ps at.below nan)) beside_mark ∷ joined_with (drop (at.below + 1) (belows ps)) l) (sym u) in
         rw e (record { left = l; lent = refl })
 
-    pub beside_second : (x y : Next) → x ≡ next_below ps at → y ≡ next_above ps at → lt x.t y.t ≡ false → NextBeside ps at y
+    pub beside_second : (x y : Next) → x ≡ next_below ps at → y ≡ next_above ps at → lt x.t y.t ≡ false → NextBeside ps at (Some y)
     unfolding beside_left
     beside_second x y e d h =
         let k : lt (below_of (get_or ps at.below nan)) (above_of (get_or ps at.above nan)) ≡ false = rw (e, d) at h in
@@ -102,24 +103,17 @@ module _ (ps : List Float) (at : Taken) where
         rw d (record { left = l; lent = refl })
 
 -- ---- the next of all, of the next neighbour x
-module _ (ps : List Float) (at : Taken) (x : Next) (w : NextBeside ps at x) where
+module _ (ps : List Float) (at : Taken) where
   abbrev lents_left : List Site
   lents_left = drop at.lent (lents ps)
 
-  -- what is left of the neighbours, by whether there is one
-  beside_some : x.some ≡ true → beside_left ps at ≡ site x.t x.mark ∷ beside_left ps x.with
-  beside_some h = w.left ∙ rw h
-
-  beside_gone : x.some ≡ false → beside_left ps at ≡ []
-  beside_gone h = w.left ∙ rw h
-
   -- x is the next of all, if what is left of all begins with it
-  as_next : (b : Bool) → x.some ≡ b → own_left ps at ≡ cond b (site x.t x.mark ∷ joined_with (beside_left ps x.with) lents_left) [] → own_left ps at ≡ handed (own_left ps) x
+  as_next : (x : Next) → NextBeside ps at (Some x) → own_left ps at ≡ site x.t x.mark ∷ joined_with (beside_left ps x.with) lents_left → own_left ps at ≡ handed (own_left ps) (Some x)
   unfolding own_left beside_left
-  as_next b h e = rw (h, w.lent) e
+  as_next x w e = rw w.lent e
 
-  pub no_lent : length ps ≤ at.lent → own_left ps at ≡ handed (own_left ps) x
-  no_lent h = go x.some refl
+  pub no_lent : (x : Option Next) → NextBeside ps at x → length ps ≤ at.lent → own_left ps at ≡ handed (own_left ps) x
+  no_lent x w h = go x w
     where
       none : lents_left ≡ []
       none = none_by (λ p. p) lent_mark ps at.lent h
@@ -127,9 +121,9 @@ module _ (ps : List Float) (at : Taken) (x : Next) (w : NextBeside ps at x) wher
       alone : own_left ps at ≡ beside_left ps at
       alone = unfold own_left in ap (joined_with (beside_left ps at)) none ∙ joined_nil (beside_left ps at)
 
-      go : (b : Bool) → x.some ≡ b → own_left ps at ≡ handed (own_left ps) x
-      go true e = as_next true e (alone ∙ beside_some e ∙ ap (λ (l : List Site). site x.t x.mark ∷ l) (sym (ap (joined_with (beside_left ps x.with)) none ∙ joined_nil (beside_left ps x.with))))
-      go false e = as_next false e (alone ∙ beside_gone e)
+      go : (y : Option Next) → NextBeside ps at y → own_left ps at ≡ handed (own_left ps) y
+      go (Some y) v = as_next y v (alone ∙ v.left ∙ ap (λ (l : List Site). site y.t y.mark ∷ l) (sym (ap (joined_with (beside_left ps y.with)) none ∙ joined_nil (beside_left ps y.with))))
+      go None v = alone ∙ v.left
 
   module _ (l : at.lent < length ps) where
     abbrev p : Site
@@ -141,26 +135,25 @@ module _ (ps : List Float) (at : Taken) (x : Next) (w : NextBeside ps at x) wher
     here : lents_left ≡ p ∷ rest
     here = some_by (λ p. p) lent_mark ps at.lent l
 
-    pub beside_next : (x.some && lt x.t (get_or ps at.lent nan)) ≡ true → own_left ps at ≡ handed (own_left ps) x
-    beside_next h = go x.some refl
-      where
-        go : (b : Bool) → x.some ≡ b → own_left ps at ≡ handed (own_left ps) x
-        go false e = absurd (no (rw e at h))
-          where
-            no : false ≡ true → ⊥
-            no z = let y : ◌≡◌ {A = ℕ} 0 1 = cc in omega arith
-        go true e =
-            as_next true e
-            (unfold own_left in ap₂ joined_with (beside_some e) here ∙ first_joined (site x.t x.mark) p (beside_left ps x.with) rest (rw e at h)
-            ∙ ap (λ (l : List Site). site x.t x.mark ∷ joined_with (beside_left ps x.with) l) (sym here))
+    pub beside_next : (x : Option Next) (n : Next) → x ≡ Some n → NextBeside ps at x → lt n.t (get_or ps at.lent nan) ≡ true → own_left ps at ≡ handed (own_left ps) (Some n)
+    beside_next x n e v h =
+        let w : NextBeside ps at (Some n) = rw e at v in
+        as_next n w
+        (unfold own_left in ap₂ joined_with w.left here ∙ first_joined (site n.t n.mark) p (beside_left ps n.with) rest h
+        ∙ ap (λ (l : List Site). site n.t n.mark ∷ joined_with (beside_left ps n.with) l) (sym here))
 
-    pub lent_next : (x.some && lt x.t (get_or ps at.lent nan)) ≡ false
-        → own_left ps at ≡ handed (own_left ps) (next_of (get_or ps at.lent nan) lent_mark (record { below = at.below; lent = at.lent + 1; above = at.above }))
+    -- the lent position, before a neighbour that is not less
+    abbrev pub NotBefore : Option Next → Type 0
+    NotBefore x = IfSome x (λ n. lt n.t (get_or ps at.lent nan) ≡ false)
+
+    pub none_before : (x : Option Next) → ((n : Next) → x ≡ Some n → ⊥) → NotBefore x
+    none_before None h = tt
+    none_before (Some n) h = absurd (h n refl)
+
+    pub lent_next : (x : Option Next) → NextBeside ps at x → NotBefore x
+        → own_left ps at ≡ handed (own_left ps) (Some (next_of (get_or ps at.lent nan) lent_mark (record { below = at.below; lent = at.lent + 1; above = at.above })))
     unfolding own_left beside_left
-    lent_next h = go x.some refl
-      where
-        go : (b : Bool) → x.some ≡ b → joined_with (beside_left ps at) lents_left ≡ p ∷ joined_with (beside_left ps at) rest
-        go false e = ap₂ joined_with (beside_gone e) here ∙ no_first (p ∷ rest) ∙ ap (λ (l : List Site). p ∷ l) (sym (ap (λ (l : List Site). joined_with l rest) (beside_gone e) ∙ no_first rest))
-        go true e =
-            ap₂ joined_with (beside_some e) here ∙ second_joined (site x.t x.mark) p (beside_left ps x.with) rest (rw e at h)
-            ∙ ap (λ (l : List Site). p ∷ joined_with l rest) (sym (beside_some e))
+    lent_next None w h = ap₂ joined_with w.left here ∙ no_first (p ∷ rest) ∙ ap (λ (l : List Site). p ∷ l) (sym (ap (λ (l : List Site). joined_with l rest) w.left ∙ no_first rest))
+    lent_next (Some x) w h =
+        ap₂ joined_with w.left here ∙ second_joined (site x.t x.mark) p (beside_left ps x.with) rest h
+        ∙ ap (λ (l : List Site). p ∷ joined_with l rest) (sym w.left)

@@ -1,6 +1,6 @@
 -- A step of the merge over a record and lent positions: what is left of them, and that what comes stays the same. Assumes nothing.
 use mathlib.Core.Path.{◌≡◌, refl, sym, ap, ◌∙◌, subst}
-use mathlib.Core.Bool.{Bool, true, false, not, cond, ◌&&◌, true≢false}
+use mathlib.Core.Bool.{Bool, true, false, not, ◌&&◌, true≢false}
 use mathlib.Core.List.{List, [], ◌∷◌}
 use Prim.Native.Nat.{ℕ, ◌+◌, ◌≤◌, ◌<◌}
 use native.Mathlib.Numerals.{add-one}
@@ -10,6 +10,7 @@ use lib.Dec.{ltb}
 use lib.ListN.{length, get_or, set, drop, length-append, get_or-append, drop_of_length-le}
 use lib.Seq.{drop-cons}
 use lib.Ieee.{Float, nan, lt}
+use Rattle.std.specs.Prelude.{Option, None, Some}
 use Rattle.float.proofs.Flags.{both_l, both_r}
 use Rattle.float.proofs.Order.{as_T, lt→le, not_lt_from_le}
 use Rattle.places.specs.Places.{list_of, next_place, point_at, points_before, InRecord, Ready}
@@ -68,11 +69,26 @@ module _ (ps rows : List Float) (counts : List ℕ) (max : Float) (s : Merge) (w
   none : 36 ≤ s.place.row → points ≡ []
   none h = record_none rows counts max w.ready s.place w.placed (λ k. absurd (omega arith))
 
-  some_own : s.next.some ≡ true → owns ≡ site s.next.t s.next.mark ∷ own_left ps s.next.with
-  some_own h = rw h
+  some_own : (n : Next) → s.next ≡ Some n → owns ≡ site n.t n.mark ∷ own_left ps n.with
+  some_own n h = ap (handed (own_left ps)) h
 
-  no_own : s.next.some ≡ false → owns ≡ []
-  no_own h = rw h
+  no_own : s.next ≡ None → owns ≡ []
+  no_own h = ap (handed (own_left ps)) h
+
+  -- the next of the others, if there is one, lies between, and is more than t
+  abbrev pub Later : Option Next → Type 0
+  Later None = Unit {0}
+  Later (Some n) = (inside max s.last n.t ≡ true) × (lt t n.t ≡ true)
+
+  pub later_some : (n : Next) → s.next ≡ Some n → (j : Bool) → j ≡ inside max s.last n.t → j ≡ true → lt t n.t ≡ true → Later s.next
+  later_some n is j ej a b = subst (λ (o : Option Next). Later o) (sym is) (sym ej ∙ a, b)
+
+  pub later_none : ((n : Next) → s.next ≡ Some n → ⊥) → Later s.next
+  later_none h = go s.next h
+    where
+      go : (o : Option Next) → ((n : Next) → o ≡ Some n → ⊥) → Later o
+      go None k = tt
+      go (Some n) k = absurd (k n refl)
 
   at-end : 36 ≤ s.place.row → t ≡ max
   at-end h = et ∙ sym (point_end rows max s.place h)
@@ -105,25 +121,24 @@ module _ (ps rows : List Float) (counts : List ℕ) (max : Float) (s : Merge) (w
           }
 
       -- it is taken
-      module _ (j : Bool) (ej : j ≡ inside max s.last s.next.t) (a : (ltb s.place.row 36 && not i) ≡ false) (b : (s.next.some && not j) ≡ false)
-          (d : (s.next.some && not (lt t s.next.t)) ≡ false) where
+      module _ (a : (ltb s.place.row 36 && not i) ≡ false) (d : Later s.next) where
         -- the record has one left: past its end the next of the others would have been taken
         has_row : s.place.row < 36
-        has_row = go (ltb s.place.row 36) refl s.next.some refl
+        has_row = go (ltb s.place.row 36) refl s.next refl d
           where
-            go : (r : Bool) → ltb s.place.row 36 ≡ r → (o : Bool) → s.next.some ≡ o → s.place.row < 36
-            go true e o k = ltb-true s.place.row 36 e
-            go false e true k =
-                let m : lt max s.next.t ≡ true = ap (λ (x : Float). lt x s.next.t) (sym (at-end (ltb-false s.place.row 36 e))) ∙ then_yes s.next.some (lt t s.next.t) d k in
-                absurd (true≢false (sym m ∙ inside_below max s.last s.next.t (sym ej ∙ then_yes s.next.some j b k)))
-            go false e false k = absurd (omega (arith, w.some, ap length (none (ltb-false s.place.row 36 e)), ap length (no_own k)))
+            go : (r : Bool) → ltb s.place.row 36 ≡ r → (o : Option Next) → s.next ≡ o → Later o → s.place.row < 36
+            go true e o k v = ltb-true s.place.row 36 e
+            go false e (Some n) k v =
+                let m : lt max n.t ≡ true = ap (λ (x : Float). lt x n.t) (sym (at-end (ltb-false s.place.row 36 e))) ∙ v.1 in
+                absurd (true≢false (sym m ∙ inside_below max s.last n.t v.0))
+            go false e None k v = absurd (omega (arith, w.some, ap length (none (ltb-false s.place.row 36 e)), ap length (no_own k)))
 
         own_after : OwnAfter max s.last t owns
-        own_after = go s.next.some refl
+        own_after = go s.next d
           where
-            go : (o : Bool) → s.next.some ≡ o → OwnAfter max s.last t (cond o (site s.next.t s.next.mark ∷ own_left ps s.next.with) [])
-            go true k = (sym ej ∙ then_yes s.next.some j b k, then_yes s.next.some (lt t s.next.t) d k)
-            go false k = tt
+            go : (o : Option Next) → Later o → OwnAfter max s.last t (handed (own_left ps) o)
+            go (Some n) v = v
+            go None v = tt
 
         pub took_record : (ts : List Float) (ms : List ℕ)
             → MergesOn ps rows counts max ts ms s (set ts s.count t) (set ms s.count sampled_mark) (record { count = s.count + 1; last = t; place = q; next = s.next })
@@ -141,9 +156,9 @@ module _ (ps rows : List Float) (counts : List ℕ) (max : Float) (s : Merge) (w
             }
 
     -- the next of the others is passed over or taken
-    module _ (a : (ltb s.place.row 36 && not i) ≡ false) (j : Bool) (ej : j ≡ inside max s.last s.next.t) (nx : Next) (en : own_left ps s.next.with ≡ handed (own_left ps) nx) where
-      own_left_lem : s.next.some ≡ true → owns ≡ site s.next.t s.next.mark ∷ handed (own_left ps) nx
-      own_left_lem h = some_own h ∙ ap (λ (l : List Site). site s.next.t s.next.mark ∷ l) en
+    module _ (a : (ltb s.place.row 36 && not i) ≡ false) (n : Next) (is : s.next ≡ Some n) (j : Bool) (ej : j ≡ inside max s.last n.t) (nx : Option Next) (en : own_left ps n.with ≡ handed (own_left ps) nx) where
+      own_left_lem : owns ≡ site n.t n.mark ∷ handed (own_left ps) nx
+      own_left_lem = some_own n is ∙ ap (λ (l : List Site). site n.t n.mark ∷ l) en
 
       -- the record's next lies between, if there is one
       head_in : HeadIn max s.last points
@@ -153,45 +168,41 @@ module _ (ps rows : List Float) (counts : List ℕ) (max : Float) (s : Merge) (w
           go true e = subst (HeadIn max s.last) (sym (more (ltb-true s.place.row 36 e))) (sym ei ∙ then_yes (ltb s.place.row 36) i a e)
           go false e = subst (HeadIn max s.last) (sym (none (ltb-false s.place.row 36 e))) tt
 
-      pub passed_own : (ts : List Float) (ms : List ℕ) → (s.next.some && not j) ≡ true
+      pub passed_own : (ts : List Float) (ms : List ℕ) → j ≡ false
           → MergesOn ps rows counts max ts ms s ts ms (record { count = s.count; last = s.last; place = s.place; next = nx })
       unfolding to_come times_of marks_of
       passed_own ts ms e =
-          let k = both_l s.next.some (not j) e in
-          let o : inside max s.last s.next.t ≡ false = sym ej ∙ not-true j (both_r s.next.some (not j) e) in
+          let o : inside max s.last n.t ≡ false = sym ej ∙ e in
           record {
             taken = [];
-            same = pass_own max s.last points (site s.next.t s.next.mark) owns (handed (own_left ps) nx) (own_left_lem k) head_in o;
+            same = pass_own max s.last points (site n.t n.mark) owns (handed (own_left ps) nx) own_left_lem head_in o;
             times = refl;
             marks = refl;
             many = omega arith;
             one = omega arith;
-            less = omega (arith, ap length (own_left_lem k));
+            less = omega (arith, ap length own_left_lem);
             placed = w.placed;
           }
 
-      module _ (b : (s.next.some && not j) ≡ false) (d : (s.next.some && not (lt t s.next.t)) ≡ true) where
-        has_own : s.next.some ≡ true
-        has_own = both_l s.next.some (not (lt t s.next.t)) d
-
-        head_after : HeadAfter max s.next.t points
+      module _ (b : j ≡ true) (d : lt t n.t ≡ false) where
+        head_after : HeadAfter max n.t points
         head_after = go (ltb s.place.row 36) refl
           where
-            go : (r : Bool) → ltb s.place.row 36 ≡ r → HeadAfter max s.next.t points
-            go true e = subst (HeadAfter max s.next.t) (sym (more (ltb-true s.place.row 36 e))) (not-true (lt t s.next.t) (both_r s.next.some (not (lt t s.next.t)) d))
-            go false e = subst (HeadAfter max s.next.t) (sym (none (ltb-false s.place.row 36 e))) tt
+            go : (r : Bool) → ltb s.place.row 36 ≡ r → HeadAfter max n.t points
+            go true e = subst (HeadAfter max n.t) (sym (more (ltb-true s.place.row 36 e))) d
+            go false e = subst (HeadAfter max n.t) (sym (none (ltb-false s.place.row 36 e))) tt
 
         pub took_own : (ts : List Float) (ms : List ℕ)
-            → MergesOn ps rows counts max ts ms s (set ts s.count s.next.t) (set ms s.count s.next.mark) (record { count = s.count + 1; last = s.next.t; place = s.place; next = nx })
+            → MergesOn ps rows counts max ts ms s (set ts s.count n.t) (set ms s.count n.mark) (record { count = s.count + 1; last = n.t; place = s.place; next = nx })
         unfolding to_come times_of marks_of
         took_own ts ms =
             record {
-              taken = site s.next.t s.next.mark ∷ [];
-              same = take_own max s.last points (site s.next.t s.next.mark) owns (handed (own_left ps) nx) (own_left_lem has_own) head_in head_after (sym ej ∙ then_yes s.next.some j b has_own);
+              taken = site n.t n.mark ∷ [];
+              same = take_own max s.last points (site n.t n.mark) owns (handed (own_left ps) nx) own_left_lem head_in head_after (sym ej ∙ b);
               times = refl;
               marks = refl;
               many = omega arith;
               one = omega arith;
-              less = omega (arith, ap length (own_left_lem has_own));
+              less = omega (arith, ap length own_left_lem);
               placed = w.placed;
             }

@@ -34,7 +34,7 @@ struct Merge {
     count: usize,
     last: f32,
     place: RowPlace,
-    next: Next,
+    next: Option<Next>,
 }
 
 fn is_inside(last: f32, t: f32, max: f32) -> bool
@@ -69,25 +69,26 @@ fn merge_step(
             next,
         };
     }
-    let u = next.t;
-    let with = next.with;
-    if next.some & !is_inside(last, u, max) {
-        return Merge {
-            count: n,
-            last,
-            place,
-            next: next_own(positions, with),
-        };
-    }
-    if next.some & !(t < u) {
-        ts[n] = u;
-        marks[n] = next.mark;
-        return Merge {
-            count: n + 1,
-            last: u,
-            place,
-            next: next_own(positions, with),
-        };
+    if let Some(own) = next {
+        let u = own.t;
+        if !is_inside(last, u, max) {
+            return Merge {
+                count: n,
+                last,
+                place,
+                next: next_own(positions, own.with),
+            };
+        }
+        if !(t < u) {
+            ts[n] = u;
+            marks[n] = own.mark;
+            return Merge {
+                count: n + 1,
+                last: u,
+                place,
+                next: next_own(positions, own.with),
+            };
+        }
     }
     ts[n] = t;
     marks[n] = SAMPLED;
@@ -102,10 +103,7 @@ fn merge_step(
 fn goes_on(row: usize, some: bool) -> bool
     ensures { result ≡ (ltb row cells || some) }
 {
-    if row < Sampler::CELLS {
-        return true;
-    }
-    some
+    row < Sampler::CELLS || some
 }
 
 // All of them, of a record that may be thinned.
@@ -132,29 +130,21 @@ fn merge_all(
         place: RowPlace { row: 0, index: 0 },
         next: next_own(positions, none),
     };
-    while goes_on(s.place.row, s.next.some) {
+    while goes_on(s.place.row, s.next.is_some()) {
         s = merge_step(positions, rows, counts, max, s, ts, marks);
     }
     s.count
 }
 
 // No more positions than a ramp has, and a record of the right lengths and counts.
+#[tactic(auto, unfolding(crate::specs::Gathered::weighable, refusals::specs::Limits::most_stops, records::specs::Fitness::counts_check))]
 fn may_gather(positions: usize, rows: usize, counts: &[u8]) -> bool
     ensures { result ≡ weighable positions rows counts.now }
 {
-    if MOST_STOPS < positions {
-        return false;
-    }
-    if rows != Sampler::CELLS * Sampler::ROW {
-        return false;
-    }
-    if counts.len() != Sampler::CELLS {
-        return false;
-    }
-    match check_counts(counts) {
-        Checked::Refused(_) => false,
-        Checked::Fine => true,
-    }
+    positions <= MOST_STOPS
+        && rows == Sampler::CELLS * Sampler::ROW
+        && counts.len() == Sampler::CELLS
+        && matches!(check_counts(counts), Checked::Fine)
 }
 
 // The points strictly between min and max, and what each is, from the start of two arrays on; and how many there are. Of a

@@ -13,14 +13,13 @@ pub(crate) struct Taken {
     pub(crate) above: usize,
 }
 
-// The next of them, if there is one, and how many are taken with it. The widest comes first: so no copy of it begins beside a
-// store, which it would wait for.
+// The next of them, and how many are taken with it. The widest comes first: so no copy of it begins beside a store, which it would
+// wait for.
 #[derive(Clone, Copy)]
 pub(crate) struct Next {
     pub(crate) with: Taken,
     pub(crate) t: f32,
     pub(crate) mark: u8,
-    pub(crate) some: bool,
 }
 
 fn next_below(positions: &[f32], at: Taken) -> Next
@@ -34,7 +33,6 @@ fn next_below(positions: &[f32], at: Taken) -> Next
         above: at.above,
     };
     Next {
-        some: true,
         t: below(positions[b]),
         mark: BESIDE,
         with,
@@ -52,7 +50,6 @@ fn next_above(positions: &[f32], at: Taken) -> Next
         above: a + 1,
     };
     Next {
-        some: true,
         t: above(positions[a]),
         mark: BESIDE,
         with,
@@ -60,7 +57,7 @@ fn next_above(positions: &[f32], at: Taken) -> Next
 }
 
 // The next neighbour: at a tie the one above.
-fn next_beside(positions: &[f32], at: Taken) -> Next
+fn next_beside(positions: &[f32], at: Taken) -> Option<Next>
     ensures { NextBeside positions.now at result }
 {
     let n = positions.len();
@@ -68,28 +65,23 @@ fn next_beside(positions: &[f32], at: Taken) -> Next
     let a = at.above;
     if n <= b {
         if n <= a {
-            return Next {
-                some: false,
-                t: 0.0,
-                mark: BESIDE,
-                with: at,
-            };
+            return None;
         }
-        return next_above(positions, at);
+        return Some(next_above(positions, at));
     }
     if n <= a {
-        return next_below(positions, at);
+        return Some(next_below(positions, at));
     }
     let x = next_below(positions, at);
     let y = next_above(positions, at);
     if x.t < y.t {
-        return x;
+        return Some(x);
     }
-    y
+    Some(y)
 }
 
-// The next of all: at a tie the lent position.
-pub(crate) fn next_own(positions: &[f32], at: Taken) -> Next
+// The next of all, if there is one: at a tie the lent position.
+pub(crate) fn next_own(positions: &[f32], at: Taken) -> Option<Next>
     ensures { own_left positions.now at ≡ handed (own_left positions.now) result }
 {
     let x = next_beside(positions, at);
@@ -98,18 +90,19 @@ pub(crate) fn next_own(positions: &[f32], at: Taken) -> Next
         return x;
     }
     let p = positions[l];
-    if x.some & (x.t < p) {
-        return x;
+    if let Some(y) = x {
+        if y.t < p {
+            return x;
+        }
     }
     let with = Taken {
         below: at.below,
         lent: l + 1,
         above: at.above,
     };
-    Next {
-        some: true,
+    Some(Next {
         t: p,
         mark: LENT,
         with,
-    }
+    })
 }

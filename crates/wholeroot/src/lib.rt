@@ -60,8 +60,9 @@ pub fn nearest_root(n: u64, at: u32) -> u64
     ensures { result ≡ nearest_whole n }
 {
     let q = guess(at);
-    if std::num::wrapping_sub_u64(q * q + q, n) < 2 * q {
-        return q;
+    if (q * q + q).wrapping_sub(n) < 2 * q {
+        q
+    } else {
+        walk_to_root(n, q)
     }
-    walk_to_root(n, q)
 }

@@ -1,9 +1,13 @@
 -- The points in two arrays, as a list; and a test of numbers one after the other. Assumes nothing.
-use mathlib.Core.Path.{◌≡◌, refl, ap, ap₂, ◌∙◌}
+use mathlib.Core.Path.{◌≡◌, refl, sym, ap, ap₂, ◌∙◌}
+use mathlib.Core.Logic.{⊎_elim}
 use mathlib.Core.Bool.{Bool, true, false, ◌&&◌}
 use mathlib.Core.List.{List, [], ◌∷◌, ◌++◌}
 use Prim.Native.Nat.{ℕ, zero, suc, ◌+◌, ◌-◌, ◌≤◌, ◌<◌, min}
+use native.Mathlib.Nat.{eq-or-lt_of_le}
 use native.Mathlib.Omega.{arith}
+use Rattle.std.specs.Prelude.{◌↔◌, IsTrue}
+use Rattle.float.proofs.Flags.{both_l, both_r}
 use lib.ListN.{length, get_or, take, drop}
 use lib.Seq.{sets, sets-eq}
 use lib.Ieee.{Float, nan}
@@ -87,10 +91,29 @@ module _ (f : ℕ → Bool) where
   pub none_left : (i to : ℕ) → to ≤ i → all_from f i (to - i) ≡ true
   none_left i to h = let n : to - i ≡ 0 = omega arith in rw n (none_asked i)
 
-  pub one_asked : (i k : ℕ) → 0 < k → all_from f i k ≡ (f i && all_from f (i + 1) (k - 1))
+-- a test of all is the one of each
+module _ (f : ℕ → Bool) where
+  each_from : (i k : ℕ) → all_from f i k ≡ true → (j : ℕ) → i ≤ j → j < i + k → f j ≡ true
   unfolding all_from
-  one_asked i zero h = absurd (omega arith)
-  one_asked i (suc k) h = let p : i + 1 ≡ suc i = omega arith in let q : suc k - 1 ≡ k = omega arith in rw (p, q)
+  each_from i zero e j h l = absurd (omega arith)
+  each_from i (suc k) e j h l =
+      ⊎_elim
+      (λ q. rw (← q) (both_l (f i) (all_from f (suc i) k) e))
+      (λ q. each_from (suc i) k (both_r (f i) (all_from f (suc i) k) e) j (omega arith) (omega arith))
+      (eq-or-lt_of_le {n = i} {m = j} h)
+
+  all_each : (i k : ℕ) → ((j : ℕ) → i ≤ j → j < i + k → f j ≡ true) → all_from f i k ≡ true
+  unfolding all_from
+  all_each i zero each = refl
+  all_each i (suc k) each = rw (each i (omega arith) (omega arith)) (all_each (suc i) k (λ j h l. each j (omega arith) (omega arith)))
+
+  pub all_is : (from to : ℕ) (r : Bool) → IsTrue r ↔ ((i : ℕ) → from ≤ i → i < to → IsTrue (f i)) → r ≡ all_from f from (to - from)
+  all_is from to true w = sym (all_each from (to - from) (λ j h l. w.0 refl j h (omega arith)))
+  all_is from to false w = by (all_from f from (to - from)) refl
+    where
+      by : (b : Bool) → all_from f from (to - from) ≡ b → false ≡ b
+      by true e = w.1 (λ i h l. each_from from (to - from) e i h (omega arith))
+      by false e = refl
 
 pub same_test : (f g : ℕ → Bool) (i k : ℕ) → ((j : ℕ) → i ≤ j → j < i + k → f j ≡ g j) → all_from f i k ≡ all_from g i k
 unfolding all_from

@@ -1,11 +1,11 @@
 -- The colours of a block: how it is filled, and that what is asked of it is asked of the ramp. Assumes nothing.
-use mathlib.Core.Path.{◌≡◌, sym, ap, ap₂, ◌∙◌}
+use mathlib.Core.Path.{◌≡◌, sym, ap, ◌∙◌}
 use mathlib.Core.Bool.{Bool, true, false, not, ◌&&◌}
 use mathlib.Core.List.{List, []}
 use Prim.Native.Nat.{ℕ, ◌+◌, ◌-◌, ◌≤◌, ◌<◌}
 use native.Mathlib.Decide.{dec_le}
 use native.Mathlib.Omega.{arith}
-use borrow.Author.Tests.{lt-ltb, le-ltb, ltb-true, eq-eqb, ne_eqb}
+use borrow.Author.Tests.{ltb-true}
 use lib.Dec.{T, ltb}
 use lib.ListN.{length, get_or, set}
 use lib.Seq.{get_or-set_same, get_or-set_other}
@@ -37,7 +37,7 @@ use Rattle.sampling.proofs.Along.{drawn_point}
 use Rattle.difference.specs.Difference.{clamped_of, squares_of}
 use Rattle.within.specs.Shown.{Near, off_at, near_below, fairly}
 use Rattle.within.specs.inner.Weighing.{entry_at, point_fair, block_fair, fair_from, all_from, is_up_to, ColoursInHand}
-use Rattle.within.proofs.Arrays.{same_test, one_asked}
+use Rattle.within.proofs.Arrays.{same_test}
 
 -- ---- filling
 module _ (g : Gradient) (ts : List Float) (base : ℕ) where
@@ -63,32 +63,10 @@ pub nothing_in_hand : (g : Gradient) (ts : List Float) (block : List (List Float
 nothing_in_hand g ts block l = record { long = l; fits = omega arith; within = omega arith; each = λ i h. absurd (omega arith) }
 
 -- ---- the test of one point
-pub off_sampled : (t h : Float) (m : ℕ) → m ≡ 0 → t ≡ off_at t h m
-off_sampled t h m e = rw (eq-eqb m 0 e)
-
-pub off_other : (t h : Float) (m : ℕ) → (m ≡ 0 → ⊥) → h ≡ off_at t h m
-off_other t h m e = rw (ne_eqb m 0 e)
-
 pub fair_by : (t h : Float) (m : ℕ) (a b x : Point) {y : Rgba} {o : Float} {r : Bool} → y ≡ linear a.colour b.colour ((x.t ⊖ a.t) ⊘ (b.t ⊖ a.t)) → o ≡ off_at t h m
     → r ≡ le (squares_of (clamped_of x.colour) (clamped_of y)) o → r ≡ point_fair (near_below t h) m a b x
 unfolding point_fair near_below
 fair_by t h m a b x p q e = e ∙ rw (p, q)
-
--- ---- the points of a block, one after the other
-module _ (near : Near) (a b : Point) (ts : List Float) (ms : List ℕ) (block : List (List Float)) (base to i : ℕ) (h : i < to) (c : Rgba) (ec : c ≡ entry_at block (i - base)) (r : Bool)
-    (er : r ≡ point_fair near (get_or ms i 0) a b (record { colour = c; t = get_or ts i nan; pair = 0 })) where
-  one_more : all_from (block_fair near a b ts ms block base) i (to - i) ≡ (r && all_from (block_fair near a b ts ms block base) (i + 1) (to - (i + 1)))
-  one_more =
-      let n : to - i - 1 ≡ to - (i + 1) = omega arith in
-      let f : block_fair near a b ts ms block base i ≡ r = sym (er ∙ ap (λ (x : Rgba). point_fair near (get_or ms i 0) a b (record { colour = x; t = get_or ts i nan; pair = 0 })) ec) in
-      one_asked (block_fair near a b ts ms block base) i (to - i) (omega arith)
-      ∙ ap₂ (λ (x y : Bool). x && y) f (ap (all_from (block_fair near a b ts ms block base) (i + 1)) n)
-
-  pub block_no : r ≡ false → all_from (block_fair near a b ts ms block base) i (to - i) ≡ false
-  block_no e = one_more ∙ rw e
-
-  pub block_yes : r ≡ true → all_from (block_fair near a b ts ms block base) i (to - i) ≡ all_from (block_fair near a b ts ms block base) (i + 1) (to - (i + 1))
-  block_yes e = one_more ∙ rw e
 
 -- ---- the colour of a point in hand
 module _ (g : Gradient) (ts : List Float) (w : Window) (block : List (List Float)) (hand : ColoursInHand g ts w block) where
@@ -112,18 +90,6 @@ not-le : (x y : Float) → T (lt x y) → le y x ≡ false
 not-le x y h = le_is y x (no_nan_r x y (lt→le x y h)) (no_nan_l x y (lt→le x y h)) ∙ ap not (is_true (lt x y) h)
 
 module _ (ps : List Float) (t : Float) (k : ℕ) where
-  pub no_pair : k ≡ 0 → false ≡ is_up_to ps t k
-  unfolding is_up_to
-  no_pair h = rw (le-ltb 0 k (omega arith))
-
-  pub past_all : (k ≡ 0 → ⊥) → length ps ≤ k → false ≡ is_up_to ps t k
-  unfolding is_up_to
-  past_all h l = rw (lt-ltb 0 k (omega arith), le-ltb k (length ps) l)
-
-  pub is_pair : (k ≡ 0 → ⊥) → k < length ps → (lt (pos_at ps (k - 1)) t && le t (pos_at ps k) && lt t (pos_at ps (length ps - 1))) ≡ is_up_to ps t k
-  unfolding is_up_to
-  is_pair h l = rw (lt-ltb 0 k (omega arith), lt-ltb k (length ps) l)
-
   record UpTo : Type 0 where
     some : 0 < k
     within : k < length ps
@@ -177,7 +143,3 @@ module _ (ramp : Ramp) (fine : check_of ramp ≡ Fine) (t : Float) (k : ℕ) (h 
       let v = valid ramp e fine in
       let w = drawn_point ramp fine curved t i (has curved) (sym (found ramp.positions t k v.rising h)) q in
       (w.0, (λ d. w.1))
-
--- ---- a window has an index
-pub holds_in : (b n i : ℕ) → b ≤ i → ltb (i - b) n ≡ true → (b ≤ i) × (i < b + n)
-holds_in b n i h e = let k = ltb-true (i - b) n e in (h, omega arith)

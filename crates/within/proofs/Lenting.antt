@@ -4,7 +4,7 @@ use mathlib.Core.Bool.{Bool, true, false, cond, ◌&&◌}
 use mathlib.Core.List.{List, [], ◌∷◌}
 use Prim.Native.Nat.{ℕ, zero, suc, ◌+◌, ◌-◌, ◌≤◌, ◌<◌}
 use native.Mathlib.Omega.{arith}
-use borrow.Author.Tests.{le-leb, lt-leb, leb-true, leb-false, eqb-true, eqb-false, eq-eqb, ne_eqb}
+use borrow.Author.Tests.{le-leb, lt-leb, leb-true, leb-false, eqb-true, eqb-false}
 use lib.Dec.{leb, eqb}
 use lib.ListN.{get_or}
 use Rattle.float.proofs.Flags.{both_l, both_r}
@@ -86,13 +86,6 @@ at-end = refl
 past_end : (r : ℕ) → 1 < r → lent_to [] r ≡ 0
 unfolding points_to lent_left
 past_end r h = rw (lt-leb r 1 h)
-
--- ---- how many are left after a point
-pub after_lent : (m n : ℕ) → m ≡ 2 → n - 1 ≡ cond (eqb m lent_mark) (n - 1) n
-after_lent m n e = rw (eq-eqb m 2 e)
-
-pub after_other : (m n : ℕ) → (m ≡ 2 → ⊥) → n ≡ cond (eqb m lent_mark) (n - 1) n
-after_other m n e = rw (ne_eqb m 2 e)
 
 -- ---- the loop: what is sought from the start is what is left to seek, so many points further
 module _ (ms : List ℕ) (from count : ℕ) where

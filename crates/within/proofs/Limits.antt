@@ -1,5 +1,5 @@
 -- The hold lies between the least threshold and the threshold in force; and a finite colour is near itself. Assumes nothing.
-use mathlib.Core.Path.{◌≡◌, refl, sym, ◌∙◌}
+use mathlib.Core.Path.{◌≡◌, refl, sym}
 use mathlib.Core.Bool.{Bool, true, false, cond, true≢false}
 use Prim.Native.Nat.{◌-◌, ◌*◌}
 use native.Mathlib.Nat.{mul-pos}
@@ -125,26 +125,6 @@ in_force x a b =
 
 pub hold_in_force : (asked hold : Float) → threshold_of (hold_of asked hold) ≡ hold_of asked hold
 hold_in_force asked hold = in_force (hold_of asked hold) (hold_least asked hold) (le_trans (hold_of asked hold) (threshold_of asked) most_threshold (hold_most asked hold) (threshold_most asked))
-
--- ---- by its cases
-module _ (asked hold : Float) where
-  pub hold_not_finite : finite hold ≡ false → least_threshold ≡ hold_of asked hold
-  unfolding hold_of
-  hold_not_finite f = rw f
-
-  module _ (f : finite hold ≡ true) where
-    pub hold_below : lt hold least_threshold ≡ true → least_threshold ≡ hold_of asked hold
-    unfolding hold_of
-    hold_below e = rw (f, e)
-
-    module _ (e : lt hold least_threshold ≡ false) where
-      pub hold_above : {t : Float} → t ≡ threshold_of asked → lt t hold ≡ true → t ≡ hold_of asked hold
-      unfolding hold_of
-      hold_above {t} q d = let k : lt (threshold_of asked) hold ≡ true = rw q at d in q ∙ rw (f, e, k)
-
-      pub hold_itself : {t : Float} → t ≡ threshold_of asked → lt t hold ≡ false → hold ≡ hold_of asked hold
-      unfolding hold_of
-      hold_itself {t} q d = let k : lt (threshold_of asked) hold ≡ false = rw q at d in rw (f, e, k)
 
 -- ---- a colour and itself
 sub_self : (x : Float) → finite x ≡ true → x ⊖ x ≡ f0

@@ -61,9 +61,6 @@ points_most false rest r = go (leb r (suc (length rest))) refl
     go true e = leb-true r (suc (length rest)) e
     go false e = omega arith
 
-pub points_lent : (l : Bool) (ss : List Site) (r n : ℕ) → l ≡ true → n ≡ points_to true ss r → n ≡ points_to l ss r
-points_lent l ss r n h e = e ∙ ap (λ (b : Bool). points_to b ss r) (sym h)
-
 module _ (l : Bool) (ms : List ℕ) (from count r : ℕ) (h : l ≡ false) where
   pub points_past : count - from + 1 < r → 0 ≡ points_to l (sites_from [] ms from (count - from)) r
   unfolding points_to

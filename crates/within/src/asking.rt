@@ -1,16 +1,16 @@
 // Whether a point and another after it show what they must.
 ghost use Rattle.std.specs.Prelude.{◌≤◌};
-ghost use Rattle.stops.specs.Lent.{ramp_in, lent_ramp};
 ghost use Rattle.within.specs.inner.Weighing.{Asking, Answers, MayShow, ShowsTo};
+ghost use Rattle.gradient.specs.Lent.{lent_ramp};
 
 use crate::block::{point_after, refill};
 use crate::fair::{Allowed, shows};
-use crate::fewer::at_most;
 use crate::lent::{Ahead, points_to};
+use gradient::Ramp;
 use sampling::Point;
-use stops::{Kind, Window};
+use stops::Window;
 
-// An answer, and the block in hand after it.
+// An answer, and the block in hand after it: that stands with a no as well, so this is no Option.
 #[derive(Clone, Copy)]
 pub(crate) struct Answer {
     pub(crate) yes: bool,
@@ -19,10 +19,7 @@ pub(crate) struct Answer {
 
 // Whether a and b show the points from `from` up to `to`, block by block.
 fn shows_to(
-    kind: Kind,
-    positions: &[f32],
-    channels: &[f32],
-    codes: &[u8],
+    ramp: &Ramp<'_>,
     offs: Allowed,
     a: Point,
     b: Point,
@@ -34,14 +31,14 @@ fn shows_to(
     to: usize,
     count: usize,
 ) -> Answer
-    requires { MayShow (ramp_in kind positions channels codes) ts.now w block.old a b from to count }
-    ensures { ShowsTo (lent_ramp kind positions channels codes) offs ts.now marks.now a b from to block.new result }
+    requires { MayShow (lent_ramp ramp.now) ts.now w block.old a b from to count }
+    ensures { ShowsTo (lent_ramp ramp.now) offs ts.now marks.now a b from to block.new result }
 {
     let mut i = from;
     let mut v = w;
     while i < to {
-        v = refill(kind, positions, channels, codes, ts, v, i, count, block);
-        let stop = at_most(to, v.base + v.count);
+        v = refill(ramp, ts, v, i, count, block);
+        let stop = to.min(v.base + v.count);
         if !shows(offs, a, b, ts, marks, block, v.base, i, stop) {
             return Answer { yes: false, w: v };
         }
@@ -52,10 +49,7 @@ fn shows_to(
 
 // Whether a and the r-th after it show what they must.
 pub(crate) fn ask(
-    kind: Kind,
-    positions: &[f32],
-    channels: &[f32],
-    codes: &[u8],
+    ramp: &Ramp<'_>,
     offs: Allowed,
     a: Point,
     ts: &[f32; 10753],
@@ -65,8 +59,8 @@ pub(crate) fn ask(
     at: Ahead,
     r: usize,
 ) -> Answer
-    requires { Asking (ramp_in kind positions channels codes) ts.now w block.old a at × (1 ≤ r) }
-    ensures { Answers (lent_ramp kind positions channels codes) offs ts.now marks.now a at r block.new result }
+    requires { Asking (lent_ramp ramp.now) ts.now w block.old a at × (1 ≤ r) }
+    ensures { Answers (lent_ramp ramp.now) offs ts.now marks.now a at r block.new result }
 {
     let k = points_to(marks, at, r);
     if k == 0 {
@@ -75,11 +69,7 @@ pub(crate) fn ask(
     let from = at.from;
     let count = at.count;
     let end = at.end;
-    let b = point_after(
-        kind, positions, channels, codes, ts, marks, from, count, end, a.pair, k, w, block,
-    );
-    let to = at_most(from + k, count);
-    shows_to(
-        kind, positions, channels, codes, offs, a, b, ts, marks, w, block, from, to, count,
-    )
+    let b = point_after(ramp, ts, marks, from, count, end, a.pair, k, w, block);
+    let to = (from + k).min(count);
+    shows_to(ramp, offs, a, b, ts, marks, w, block, from, to, count)
 }

@@ -21,9 +21,10 @@ fn off_at(offs: Allowed, mark: u8) -> f32
     ensures { result ≡ off_at offs.threshold offs.hold mark }
 {
     if mark == SAMPLED {
-        return offs.threshold;
+        offs.threshold
+    } else {
+        offs.hold
     }
-    offs.hold
 }
 
 fn is_fair(offs: Allowed, mark: u8, a: Point, b: Point, x: Point) -> bool
@@ -62,17 +63,12 @@ pub(crate) fn shows(
     requires { (base ≤ from) × ((to ≤ base + 1024) × (to ≤ 10753)) }
     ensures { result ≡ all_from (block_fair (near_below offs.threshold offs.hold) a b ts.now marks.now block.now base) from (to - from) }
 {
-    let mut i = from;
-    while i < to {
+    (from..to).all(|i| {
         let x = Point {
             colour: colour_of(block, i - base),
             t: ts[i],
             pair: 0,
         };
-        if !is_fair(offs, marks[i], a, b, x) {
-            return false;
-        }
-        i += 1;
-    }
-    true
+        is_fair(offs, marks[i], a, b, x)
+    })
 }

@@ -11,10 +11,7 @@ fn left_after(mark: u8, left: usize) -> usize
     requires { 1 ≤ left }
     ensures { result ≡ cond (eqb mark lent_mark) (left - 1) left }
 {
-    if mark == LENT {
-        return left - 1;
-    }
-    left
+    if mark == LENT { left - 1 } else { left }
 }
 
 // The points up to the r-th lent position from `from` on, max last; 0 where there is none.
@@ -26,19 +23,14 @@ pub(crate) fn to_lent(marks: &[u8; 10753], from: usize, count: usize, r: usize) 
         return 0;
     }
     let mut left = r;
-    let mut i = from;
-    while i < count {
+    for i in from..count {
         let mark = marks[i];
         if (mark == LENT) & (left == 1) {
             return i - from + 1;
         }
         left = left_after(mark, left);
-        i += 1;
     }
-    if left == 1 {
-        return count - from + 1;
-    }
-    0
+    if left == 1 { count - from + 1 } else { 0 }
 }
 
 // What lies ahead: where the points left begin, how many there are in all, max, and whether lent positions alone are asked.
@@ -56,10 +48,10 @@ pub(crate) fn points_to(marks: &[u8; 10753], at: Ahead, r: usize) -> usize
     ensures { result ≡ points_to at.lent (sites_from [] marks.now at.from (at.count - at.from)) r }
 {
     if at.lent {
-        return to_lent(marks, at.from, at.count, r);
+        to_lent(marks, at.from, at.count, r)
+    } else if r <= at.count - at.from + 1 {
+        r
+    } else {
+        0
     }
-    if at.count - at.from + 1 < r {
-        return 0;
-    }
-    r
 }

@@ -6,26 +6,24 @@ ghost use Rattle.thinning.specs.Kept.{written_of};
 ghost use Rattle.linearize.specs.Desk.{listed_of};
 ghost use Rattle.linearize.specs.Lent.{lent_output};
 ghost use Rattle.stops.specs.declared.Checked.TheVariants.{Fine};
-ghost use Rattle.stops.specs.Lent.{ramp_in, lent_ramp};
 ghost use Rattle.within.specs.inner.Weighing.{StopsAfter, AllStops};
+ghost use Rattle.gradient.specs.Lent.{lent_ramp};
 
 use crate::block::point_after;
 use crate::fair::Allowed;
 use crate::steps::step_from;
+use gradient::Ramp;
 use linearize::Listed;
 use refusals::NOT_SHOWN;
 use sampling::Point;
 use sampling::cells::evaluate;
 use slices::zero_from;
-use stops::{Kind, Window};
+use stops::Window;
 use thinning::{Progress, emit};
 
 // The stops after the first. A stop is compared with itself: points rise, so there is no 9.
 fn thin_sites(
-    kind: Kind,
-    positions: &[f32],
-    channels: &[f32],
-    codes: &[u8],
+    ramp: &Ramp<'_>,
     offs: Allowed,
     room: usize,
     start: Progress,
@@ -37,24 +35,19 @@ fn thin_sites(
     places: &mut [f32],
     colours: &mut [f32],
 ) -> Progress
-    requires codes_value { (check_of (ramp_in kind positions channels codes) ≡ Fine) × ((count ≤ 10752) × ((start.refusal ≡ 0) × (length block.old ≡ 1024))) }
-    requires coloured { Coloured (colour_of (ramp_in kind positions channels codes)) start.last × Coloured (colour_of (ramp_in kind positions channels codes)) end }
-    ensures { StopsAfter (lent_ramp kind positions channels codes) offs room start count end ts.now marks.now (lent_output places colours) result }
+    requires codes_value { (check_of (lent_ramp ramp.now) ≡ Fine) × ((count ≤ 10752) × ((start.refusal ≡ 0) × (length block.old ≡ 1024))) }
+    requires coloured { Coloured (colour_of (lent_ramp ramp.now)) start.last × Coloured (colour_of (lent_ramp ramp.now)) end }
+    ensures { StopsAfter (lent_ramp ramp.now) offs room start count end ts.now marks.now (lent_output places colours) result }
 {
     let mut s = start;
     let mut i = 0;
     let mut w = Window { base: 0, count: 0 };
     while i <= count {
         let a = s.last;
-        let step = step_from(
-            kind, positions, channels, codes, offs, a, ts, marks, w, block, i, count, end,
-        );
+        let step = step_from(ramp, offs, a, ts, marks, w, block, i, count, end);
         w = step.w;
         let b = point_after(
-            kind,
-            positions,
-            channels,
-            codes,
+            ramp,
             ts,
             marks,
             i,
@@ -91,10 +84,7 @@ fn thin_sites(
 
 // All stops: min is the first.
 pub(crate) fn thin_all(
-    kind: Kind,
-    positions: &[f32],
-    channels: &[f32],
-    codes: &[u8],
+    ramp: &Ramp<'_>,
     offs: Allowed,
     room: usize,
     ts: &[f32; 10753],
@@ -105,11 +95,11 @@ pub(crate) fn thin_all(
     places: &mut [f32],
     colours: &mut [f32],
 ) -> Progress
-    requires { (check_of (ramp_in kind positions channels codes) ≡ Fine) × (count ≤ 10752) }
-    ensures { AllStops (lent_ramp kind positions channels codes) offs room count min max ts.now marks.now (lent_output places colours) result }
+    requires { (check_of (lent_ramp ramp.now) ≡ Fine) × (count ≤ 10752) }
+    ensures { AllStops (lent_ramp ramp.now) offs room count min max ts.now marks.now (lent_output places colours) result }
 {
-    let end = evaluate(kind, positions, channels, codes, max, 1);
-    let first = evaluate(kind, positions, channels, codes, min, 1);
+    let end = evaluate(ramp, max, 1);
+    let first = evaluate(ramp, min, 1);
     let start = Progress {
         last: first,
         stops: 0,
@@ -123,12 +113,12 @@ pub(crate) fn thin_all(
     }
     let mut block = [[0.0f32; 4]; 1024];
     thin_sites(
-        kind, positions, channels, codes, offs, room, s, ts, marks, &mut block, count, end, places,
-        colours,
+        ramp, offs, room, s, ts, marks, &mut block, count, end, places, colours,
     )
 }
 
-// The answer; a refusal sets both outputs to zero.
+// The answer; a refusal sets both outputs to zero. It has a twin in linearize: shared, it would be public there, and so a call
+// that the library promises.
 pub(crate) fn finish(
     s: Progress,
     evaluations: usize,

@@ -1,13 +1,14 @@
 // How far the next stop lies: as far as the question is answered yes.
 ghost use Rattle.std.specs.Prelude.{◌*◌, ◌^◌, ◌≤◌};
-ghost use Rattle.stops.specs.Lent.{ramp_in, lent_ramp};
 ghost use Rattle.within.specs.inner.Weighing.{ahead_of, Asking, Reaches, StepsFrom};
+ghost use Rattle.gradient.specs.Lent.{lent_ramp};
 
 use crate::asking::ask;
 use crate::fair::Allowed;
 use crate::lent::{Ahead, to_lent};
+use gradient::Ramp;
 use sampling::Point;
-use stops::{Kind, Window};
+use stops::Window;
 
 // How far, and the block in hand.
 #[derive(Clone, Copy)]
@@ -18,10 +19,7 @@ pub(crate) struct Reach {
 
 // r doubled while the answer is yes, and then the halves.
 fn reach_from(
-    kind: Kind,
-    positions: &[f32],
-    channels: &[f32],
-    codes: &[u8],
+    ramp: &Ramp<'_>,
     offs: Allowed,
     a: Point,
     ts: &[f32; 10753],
@@ -32,40 +30,22 @@ fn reach_from(
     k: usize,
     r: usize,
 ) -> Reach
-    requires { Asking (ramp_in kind positions channels codes) ts.now w block.old a at × ((1 ≤ r) × (r * 2 ^ k ≤ 16384)) }
-    ensures { Reaches (lent_ramp kind positions channels codes) offs ts.now marks.now a at k r block.new result }
+    requires { Asking (lent_ramp ramp.now) ts.now w block.old a at × ((1 ≤ r) × (r * 2 ^ k ≤ 16384)) }
+    ensures { Reaches (lent_ramp ramp.now) offs ts.now marks.now a at k r block.new result }
 {
     if k == 0 {
         return Reach { r, w };
     }
     let twice = 2 * r;
-    let p = ask(
-        kind, positions, channels, codes, offs, a, ts, marks, w, block, at, twice,
-    );
+    let p = ask(ramp, offs, a, ts, marks, w, block, at, twice);
     let pw = p.w;
     if !p.yes {
         return Reach { r, w: pw };
     }
-    let x = reach_from(
-        kind,
-        positions,
-        channels,
-        codes,
-        offs,
-        a,
-        ts,
-        marks,
-        pw,
-        block,
-        at,
-        k - 1,
-        twice,
-    );
+    let x = reach_from(ramp, offs, a, ts, marks, pw, block, at, k - 1, twice);
     let xw = x.w;
     let sum = x.r + r;
-    let q = ask(
-        kind, positions, channels, codes, offs, a, ts, marks, xw, block, at, sum,
-    );
+    let q = ask(ramp, offs, a, ts, marks, xw, block, at, sum);
     let qw = q.w;
     if !q.yes {
         return Reach { r: x.r, w: qw };
@@ -73,7 +53,7 @@ fn reach_from(
     Reach { r: sum, w: qw }
 }
 
-// How many points on the next one kept lies, and whether it is shown.
+// How many points on the next one kept lies, and whether it is shown: it is kept either way, so this is no Option.
 #[derive(Clone, Copy)]
 pub(crate) struct Step {
     pub(crate) points: usize,
@@ -83,10 +63,7 @@ pub(crate) struct Step {
 
 // To a lent position, where the next one is shown; else to any point, and then one point on is asked of.
 pub(crate) fn step_from(
-    kind: Kind,
-    positions: &[f32],
-    channels: &[f32],
-    codes: &[u8],
+    ramp: &Ramp<'_>,
     offs: Allowed,
     a: Point,
     ts: &[f32; 10753],
@@ -97,8 +74,8 @@ pub(crate) fn step_from(
     count: usize,
     end: Point,
 ) -> Step
-    requires { Asking (ramp_in kind positions channels codes) ts.now w block.old a (ahead_of from count end) }
-    ensures { StepsFrom (lent_ramp kind positions channels codes) offs a ts.now marks.now from count end block.new result }
+    requires { Asking (lent_ramp ramp.now) ts.now w block.old a (ahead_of from count end) }
+    ensures { StepsFrom (lent_ramp ramp.now) offs a ts.now marks.now from count end block.new result }
 {
     let own = Ahead {
         from,
@@ -106,14 +83,10 @@ pub(crate) fn step_from(
         end,
         lent: true,
     };
-    let p = ask(
-        kind, positions, channels, codes, offs, a, ts, marks, w, block, own, 1,
-    );
+    let p = ask(ramp, offs, a, ts, marks, w, block, own, 1);
     let pw = p.w;
     if p.yes {
-        let x = reach_from(
-            kind, positions, channels, codes, offs, a, ts, marks, pw, block, own, 14, 1,
-        );
+        let x = reach_from(ramp, offs, a, ts, marks, pw, block, own, 14, 1);
         let xw = x.w;
         return Step {
             points: to_lent(marks, from, count, x.r),
@@ -127,9 +100,7 @@ pub(crate) fn step_from(
         end,
         lent: false,
     };
-    let y = reach_from(
-        kind, positions, channels, codes, offs, a, ts, marks, pw, block, all, 14, 1,
-    );
+    let y = reach_from(ramp, offs, a, ts, marks, pw, block, all, 14, 1);
     let yw = y.w;
     if 1 < y.r {
         return Step {
@@ -138,9 +109,7 @@ pub(crate) fn step_from(
             w: yw,
         };
     }
-    let q = ask(
-        kind, positions, channels, codes, offs, a, ts, marks, yw, block, all, 1,
-    );
+    let q = ask(ramp, offs, a, ts, marks, yw, block, all, 1);
     let qw = q.w;
     Step {
         points: 1,

@@ -6,7 +6,6 @@ use mathlib.Core.Path.{◌≡◌, sym, ap, ◌∙◌}
 use mathlib.Core.List.{List, [], ◌∷◌, ◌++◌, append_assoc, append-nil}
 use lib.ListN.{length, drop}
 use lib.Seq.{get_or-drop, drop-drop}
-use borrow.Author.Tests.{lt-ltb, le-ltb}
 use lib.Ieee.{Float, binary32, to_bits}
 use Rattle.blend.specs.declared.Stop.{Stop}
 use Rattle.stops.specs.Stops.{stop_at}
@@ -28,14 +27,6 @@ list_put n e ps cs h p q s t u v k =
     whole (puts_then p (puts_then q (puts_then s (puts_then t (puts_then u (λ l. v))))) k) (omega (arith, length_list n e 20 20 ps cs (length_decimal 20 n) (length_decimal 20 e)))
 
 -- ---- digit by digit
-pub hex_low : (d : ℕ) → d < 10 → 48 + d ≡ hex_digit d
-unfolding hex_digit
-hex_low d h = rw (lt-ltb d 10 h)
-
-pub hex_high : (d : ℕ) → 10 ≤ d → 87 + d ≡ hex_digit d
-unfolding hex_digit
-hex_high d h = rw (le-ltb d 10 h)
-
 pub hex_none : (out : List ℕ) (at n left : ℕ) → at ≤ most_place → left ≡ 0 → PutsFrom out out at (hex_of left n) at
 unfolding hex_of
 hex_none out at n left h e = rw e (from_nil out at h)

@@ -25,14 +25,12 @@ const LF: u8 = 10;
 // Of the bits of an f32.
 const HEX_DIGITS: usize = 8;
 
+#[tactic(auto, unfolding(crate::specs::Printed::hex_digit))]
 fn hex_digit(d: u8) -> u8
     requires { d < 16 }
     ensures { result ≡ hex_digit d }
 {
-    if d < 10 {
-        return 48 + d;
-    }
-    87 + d
+    if d < 10 { b'0' + d } else { b'a' + (d - 10) }
 }
 
 // The last `left` hex digits of n.
@@ -79,10 +77,8 @@ fn put_rows(out: &mut [u8], at: usize, n: usize, positions: &[f32], channels: &[
     ensures { PutsFrom out.old out.new at (rows_text n positions.now channels.now) result }
 {
     let mut next = at;
-    let mut i = 0;
-    while i < n {
+    for i in 0..n {
         next = put_stop(out, next, stops::stop(positions, channels, i));
-        i += 1;
     }
     next
 }

@@ -8,4 +8,4 @@ returns-in-Refused c = ramp_refused _ _ _ _ _ (sym c.check_sample.ensures.answer
 
 pub returns-in-Fine : goal.returns-in-Fine
 returns-in-Fine c =
-    ramp_passed _ _ _ _ (sym c.check_sample.ensures.answer ∙ c.in-Fine.is) c.min_of-min.ensures c.max_of-max.ensures c.check_given.ensures
+    ramp_passed _ _ _ _ (sym c.check_sample.ensures.answer ∙ c.in-Fine.is) c.min-min.ensures c.max-max.ensures c.check_given.ensures

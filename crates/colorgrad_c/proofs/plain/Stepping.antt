@@ -1,26 +1,11 @@
--- A place of three numbers, and the numbers of a step. Assumes nothing.
+-- The numbers of a step. Assumes nothing.
 use mathlib.Core.Path.{◌≡◌, ◌∙◌}
 use mathlib.Core.List.{List, [], ◌∷◌}
 use Prim.Native.Nat.{ℕ, min}
-use borrow.Author.Tests.{eq-eqb, ne_eqb}
 use Rattle.next_stop.specs.declared.ListPlace.{ListPlace}
 use Rattle.next_stop.specs.declared.ListPlace.TheVariants as place
 use Rattle.next_stop.specs.declared.Handed.{Handed}
-use Rattle.colorgrad_c.specs.plain.Steps.{most_plain, place_from, place_told, has_stop, handed_told}
-
-module _ (state row index : ℕ) where
-  pub from_start : state ≡ 0 → place.Start ≡ place_from state row index
-  unfolding place_from
-  from_start e = rw (eq-eqb state 0 e)
-
-  module _ (no : state ≡ 0 → ⊥) where
-    pub from_after : state ≡ 1 → place.After row index ≡ place_from state row index
-    unfolding place_from
-    from_after e = rw (ne_eqb state 0 no, eq-eqb state 1 e)
-
-    pub from_end : (state ≡ 1 → ⊥) → place.Ended ≡ place_from state row index
-    unfolding place_from
-    from_end h = rw (ne_eqb state 0 no, ne_eqb state 1 h)
+use Rattle.colorgrad_c.specs.plain.Steps.{most_plain, place_told, has_stop, handed_told}
 
 pub step_after : (has evaluations : ℕ) {p : ListPlace} {row index n m : ℕ} → p ≡ place.After row index → n ≡ min row most_plain → m ≡ min index most_plain
     → has ∷ evaluations ∷ 1 ∷ n ∷ m ∷ [] ≡ has ∷ evaluations ∷ place_told p

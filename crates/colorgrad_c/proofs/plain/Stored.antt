@@ -1,11 +1,11 @@
 -- Numbers told one after the other, and of an answer. Assumes nothing.
 use mathlib.Core.Path.{◌≡◌, refl, sym, ap, ◌∙◌}
 use mathlib.Core.List.{List}
-use Prim.Native.Nat.{ℕ, ◌+◌, ◌≤◌, ◌<◌}
+use Prim.Native.Nat.{ℕ, ◌+◌, ◌<◌}
 use native.Mathlib.Numerals.{add-one}
 use native.Mathlib.Omega.{arith}
 use lib.ListN.{length, take, set, get_or, length-take}
-use lib.Seq.{take_all, take-suc, length-sets}
+use lib.Seq.{take-suc}
 use Rattle.slices.proofs.Stores.{sets-append}
 use Rattle.colorgrad_c.specs.plain.Telling.{telling}
 
@@ -20,14 +20,6 @@ module _ {A : Type 0} (xs was : List A) (i : ℕ) {out : List A} where
   tell_next d h e f =
       let k : 0 + length (take i xs) ≡ i = simp length-take (omega arith) in
       f ∙ rw (e, add-one, take-suc xs i d, sets-append, k)
-
-  -- all of them
-  pub tell_done : length xs ≤ i → out ≡ telling (take i xs) was → out ≡ telling xs was
-  tell_done h e = e ∙ ap (λ (l : List A). telling l was) (take_all i xs h)
-
-pub tell_long : {A : Type 0} {out : List A} (xs was : List A) → out ≡ telling xs was → length out ≡ length was
-unfolding telling
-tell_long xs was e = ap length e ∙ length-sets was 0 xs
 
 module _ {A : Type 0} (was : List A) {out : List A} where
   pub tells_same : {xs ys : List A} → out ≡ telling xs was → xs ≡ ys → out ≡ telling ys was

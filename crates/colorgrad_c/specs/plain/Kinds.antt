@@ -1,26 +1,24 @@
 -- The kinds of ramp by their codes. A code that names none is refused with 1, like a ramp of the wrong shape.
-use Rattle.std.specs.Prelude.{ℕ, ◌≡◌, List, cond, eqb, Float}
+use Rattle.std.specs.Prelude.{ℕ, ◌≡◌, List, Option, Some, None, cond, eqb, Float}
 use Rattle.stops.specs.declared.Kind.TheVariants.{Linear, Smoothstep, Sharp, Basis, CatmullRom, Gimp, GimpSaved}
 use Rattle.stops.specs.Lent.{Lent, Ramp, lent_ramp}
 use Rattle.stops.specs.declared.Kind.{Kind}
 use Rattle.colorgrad_c.specs.plain.Telling.{telling, Reply, after}
-use Rattle.colorgrad_c.specs.declared.plain.kinds.Coded.{Coded}
-use Rattle.colorgrad_c.specs.declared.plain.kinds.Coded.TheVariants.{Of, Unknown}
 
-unfoldable pub kind_of : ℕ → Coded
+unfoldable pub kind_of : ℕ → Option Kind
 kind_of code =
-    cond (eqb code 0) (Of Linear)
-    (cond (eqb code 1) (Of Smoothstep)
-    (cond (eqb code 2) (Of Sharp)
-    (cond (eqb code 3) (Of Basis)
-    (cond (eqb code 4) (Of CatmullRom)
-    (cond (eqb code 5) (Of Gimp)
-    (cond (eqb code 6) (Of GimpSaved) Unknown))))))
+    cond (eqb code 0) (Some Linear)
+    (cond (eqb code 1) (Some Smoothstep)
+    (cond (eqb code 2) (Some Sharp)
+    (cond (eqb code 3) (Some Basis)
+    (cond (eqb code 4) (Some CatmullRom)
+    (cond (eqb code 5) (Some Gimp)
+    (cond (eqb code 6) (Some GimpSaved) None))))))
 
 -- what is promised of an answer: for the kind of a code, and for a code that names none
-abbrev pub on_kind : {A : Type 0} → Coded → (Kind → A → Type 0) → (A → Type 0) → A → Type 0
-on_kind (Of kind) known unknown = known kind
-on_kind Unknown known unknown = unknown
+abbrev pub on_kind : {A : Type 0} → Option Kind → (Kind → A → Type 0) → (A → Type 0) → A → Type 0
+on_kind (Some kind) known unknown = known kind
+on_kind None known unknown = unknown
 
 -- b shows an answer that is promised
 pub record ShowsOf {A B : Type 0} (promise : A → Type 0) (show : A → B) (b : B) : Type 0 where

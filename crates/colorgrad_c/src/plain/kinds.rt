@@ -18,36 +18,19 @@ pub const GIMP: u32 = 5;
 
 pub const GIMP_SAVED: u32 = 6;
 
-// A kind, or a code that names none.
-#[derive(Clone, Copy)]
-pub enum Coded {
-    Of(Kind),
-    Unknown,
-}
-
-pub(crate) fn kind_of(code: u32) -> Coded
+// The kind that a code names.
+#[tactic(auto, unfolding(crate::specs::plain::Kinds::kind_of))]
+pub(crate) fn kind_of(code: u32) -> Option<Kind>
     ensures { result ≡ kind_of code }
 {
-    if code == LINEAR {
-        return Coded::Of(Kind::Linear);
+    match code {
+        LINEAR => Some(Kind::Linear),
+        SMOOTHSTEP => Some(Kind::Smoothstep),
+        SHARP => Some(Kind::Sharp),
+        BASIS => Some(Kind::Basis),
+        CATMULL_ROM => Some(Kind::CatmullRom),
+        GIMP => Some(Kind::Gimp),
+        GIMP_SAVED => Some(Kind::GimpSaved),
+        _ => None,
     }
-    if code == SMOOTHSTEP {
-        return Coded::Of(Kind::Smoothstep);
-    }
-    if code == SHARP {
-        return Coded::Of(Kind::Sharp);
-    }
-    if code == BASIS {
-        return Coded::Of(Kind::Basis);
-    }
-    if code == CATMULL_ROM {
-        return Coded::Of(Kind::CatmullRom);
-    }
-    if code == GIMP {
-        return Coded::Of(Kind::Gimp);
-    }
-    if code == GIMP_SAVED {
-        return Coded::Of(Kind::GimpSaved);
-    }
-    Coded::Unknown
 }

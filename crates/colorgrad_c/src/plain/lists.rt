@@ -6,7 +6,7 @@ ghost use Rattle.linearize.specs.Desk.{number_of_listed};
 ghost use Rattle.colorgrad_c.specs.plain.Telling.{telling};
 ghost use Rattle.colorgrad_c.specs.plain.Lists.{sampled_told, listed_told};
 
-use crate::plain::telling::tell_numbers;
+use crate::plain::telling::tell;
 use linearize::{Listed, Sampled};
 
 // Tells the evaluations.
@@ -16,11 +16,11 @@ pub(crate) fn tell_sampled(sampled: Sampled, told: &mut [usize]) -> u32
 {
     match sampled {
         Sampled::Done(evaluations) => {
-            tell_numbers(told, &[evaluations]);
+            tell(told, &[evaluations]);
             0
         }
         Sampled::Refused(n) => {
-            tell_numbers(told, &[0]);
+            tell(told, &[0]);
             n as u32
         }
     }
@@ -33,11 +33,11 @@ pub(crate) fn tell_listed(listed: Listed, told: &mut [usize]) -> u32
 {
     match listed {
         Listed::Done { stops, evaluations } => {
-            tell_numbers(told, &[stops, evaluations]);
+            tell(told, &[stops, evaluations]);
             0
         }
         Listed::Refused(n) => {
-            tell_numbers(told, &[0, 0]);
+            tell(told, &[0, 0]);
             n as u32
         }
     }

@@ -7,10 +7,8 @@ pub(crate) fn write_name(name: &[u8], out: &mut [u8]) -> usize
     ensures value { result ≡ length name.now }
     ensures out_after { out.new ≡ named name.now out.old }
 {
-    if out.len() < name.len() {
-        return name.len();
+    if name.len() <= out.len() {
+        out[..name.len()].copy_from_slice(name);
     }
-    let n = name.len();
-    out[..n].copy_from_slice(name);
-    n
+    name.len()
 }

@@ -6,7 +6,7 @@ ghost use Rattle.sharp_ramp.specs.Sharp.{number_of_built};
 ghost use Rattle.colorgrad_c.specs.plain.Telling.{telling};
 ghost use Rattle.colorgrad_c.specs.plain.Ramps.{ends_told, colour_told, built_told};
 
-use crate::plain::telling::{tell_floats, tell_numbers};
+use crate::plain::telling::tell;
 use paint::{ColourAnswer, Painted};
 use sharp_ramp::Built;
 use stops::Checked;
@@ -36,11 +36,11 @@ pub(crate) fn tell_domain(checked: Checked, min: f32, max: f32, ends: &mut [f32]
 {
     match checked {
         Checked::Fine => {
-            tell_floats(ends, &[min, max]);
+            tell(ends, &[min, max]);
             0
         }
         Checked::Refused(n) => {
-            tell_floats(ends, &[0.0, 0.0]);
+            tell(ends, &[0.0, 0.0]);
             n as u32
         }
     }
@@ -53,11 +53,11 @@ pub(crate) fn tell_colour(answer: ColourAnswer, colour: &mut [f32]) -> u32
 {
     match answer {
         ColourAnswer::Colour(c) => {
-            tell_floats(colour, &[c.r, c.g, c.b, c.a]);
+            tell(colour, &[c.r, c.g, c.b, c.a]);
             0
         }
         ColourAnswer::Refused(n) => {
-            tell_floats(colour, &[0.0, 0.0, 0.0, 0.0]);
+            tell(colour, &[0.0, 0.0, 0.0, 0.0]);
             n as u32
         }
     }
@@ -70,11 +70,11 @@ pub(crate) fn tell_built(built: Built, told: &mut [usize]) -> u32
 {
     match built {
         Built::Stops(stops) => {
-            tell_numbers(told, &[stops]);
+            tell(told, &[stops]);
             0
         }
         Built::Refused(n) => {
-            tell_numbers(told, &[0]);
+            tell(told, &[0]);
             n as u32
         }
     }

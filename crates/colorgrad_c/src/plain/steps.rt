@@ -4,7 +4,7 @@ ghost use Rattle.next_stop.specs.Step.{number_of_told};
 ghost use Rattle.colorgrad_c.specs.plain.Telling.{telling};
 ghost use Rattle.colorgrad_c.specs.plain.Steps.{most_plain, place_from, place_told, has_stop, stop_told, handed_told};
 
-use crate::plain::telling::{tell_floats, tell_numbers};
+use crate::plain::telling::tell;
 use next_stop::{Handed, ListPlace, Told};
 
 pub const START: usize = 0;
@@ -16,30 +16,25 @@ pub const ENDED: usize = 2;
 const MOST: usize = 4294967295;
 
 // The start, after the stop at a row and an index, or the end, as which any other state is taken.
+#[tactic(auto, unfolding(crate::specs::plain::Steps::place_from))]
 pub(crate) fn place_from(state: u32, row: u32, index: u32) -> ListPlace
     ensures { result ≡ place_from state row index }
 {
-    let code = state as usize;
-    if code == START {
-        return ListPlace::Start;
-    }
-    if code == AFTER {
-        return ListPlace::After {
+    match state as usize {
+        START => ListPlace::Start,
+        AFTER => ListPlace::After {
             row: row as usize,
             index: index as usize,
-        };
+        },
+        _ => ListPlace::Ended,
     }
-    ListPlace::Ended
 }
 
 // A number as one of 32 bits, in which it is handed over again; the largest where it has more.
 fn narrow(n: usize) -> usize
     ensures { result ≡ min n most_plain }
 {
-    if n <= MOST {
-        return n;
-    }
-    MOST
+    n.min(MOST)
 }
 
 // What is told of a step: whether there is a stop, the evaluations, and the state, the row and the index of a place, which
@@ -58,8 +53,7 @@ fn told_number(told: Told) -> u32
     ensures { result ≡ number_of_told told }
 {
     match told {
-        Told::Stop(_) => 0,
-        Told::Ended => 0,
+        Told::Stop(_) | Told::Ended => 0,
         Told::Refused(n) => n as u32,
     }
 }
@@ -70,8 +64,7 @@ fn has_stop(told: Told) -> usize
 {
     match told {
         Told::Stop(_) => 1,
-        Told::Ended => 0,
-        Told::Refused(_) => 0,
+        Told::Ended | Told::Refused(_) => 0,
     }
 }
 
@@ -84,8 +77,7 @@ fn stop_told(told: Told) -> [f32; 5]
             let c = s.colour;
             [s.position, c.r, c.g, c.b, c.a]
         }
-        Told::Ended => [0.0, 0.0, 0.0, 0.0, 0.0],
-        Told::Refused(_) => [0.0, 0.0, 0.0, 0.0, 0.0],
+        Told::Ended | Told::Refused(_) => [0.0; 5],
     }
 }
 
@@ -98,7 +90,7 @@ pub(crate) fn tell_handed(handed: Handed, told: &mut [usize], stop: &mut [f32]) 
     let what = handed.told;
     let at = handed.place;
     let numbers = step_told(has_stop(what), handed.evaluations, at);
-    tell_numbers(told, &numbers);
-    tell_floats(stop, &stop_told(what));
+    tell(told, &numbers);
+    tell(stop, &stop_told(what));
     told_number(what)
 }

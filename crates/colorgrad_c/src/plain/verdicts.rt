@@ -4,7 +4,7 @@ ghost use Rattle.judge.specs.Verdicts.{number_of_verdict};
 ghost use Rattle.colorgrad_c.specs.plain.Telling.{telling};
 ghost use Rattle.colorgrad_c.specs.plain.Verdicts.{verdict_told, point_of};
 
-use crate::plain::telling::{tell_floats, tell_numbers};
+use crate::plain::telling::tell;
 use judge::Verdict;
 
 // What is said of the list; nothing, where the ramp is refused.
@@ -26,17 +26,8 @@ fn verdict_number(verdict: Verdict) -> u32
     ensures { result ≡ number_of_verdict verdict }
 {
     match verdict {
-        Verdict::Yes => 0,
-        Verdict::WrongLength => 0,
-        Verdict::BadStop { stop: _ } => 0,
-        Verdict::WrongFirst => 0,
-        Verdict::WrongLast => 0,
-        Verdict::TooFar {
-            row: _,
-            index: _,
-            t: _,
-        } => 0,
         Verdict::Refused(n) => n as u32,
+        _ => 0,
     }
 }
 
@@ -50,7 +41,7 @@ fn verdict_told(verdict: Verdict) -> [usize; 4]
         Verdict::BadStop { stop } => [BAD_STOP, stop, 0, 0],
         Verdict::WrongFirst => [WRONG_FIRST, 0, 0, 0],
         Verdict::WrongLast => [WRONG_LAST, 0, 0, 0],
-        Verdict::TooFar { row, index, t: _ } => [TOO_FAR, 0, row, index],
+        Verdict::TooFar { row, index, .. } => [TOO_FAR, 0, row, index],
         Verdict::Refused(_) => [NOT_JUDGED, 0, 0, 0],
     }
 }
@@ -60,17 +51,8 @@ fn point_of(verdict: Verdict) -> f32
     ensures { result ≡ point_of verdict }
 {
     match verdict {
-        Verdict::Yes => 0.0,
-        Verdict::WrongLength => 0.0,
-        Verdict::BadStop { stop: _ } => 0.0,
-        Verdict::WrongFirst => 0.0,
-        Verdict::WrongLast => 0.0,
-        Verdict::TooFar {
-            row: _,
-            index: _,
-            t,
-        } => t,
-        Verdict::Refused(_) => 0.0,
+        Verdict::TooFar { t, .. } => t,
+        _ => 0.0,
     }
 }
 
@@ -79,7 +61,7 @@ pub(crate) fn tell_verdict(verdict: Verdict, told: &mut [usize], t: &mut [f32]) 
     ensures told_value { told.new ≡ telling (verdict_told verdict) told.old }
     ensures t_value { t.new ≡ telling (point_of verdict ∷ []) t.old }
 {
-    tell_numbers(told, &verdict_told(verdict));
-    tell_floats(t, &[point_of(verdict)]);
+    tell(told, &verdict_told(verdict));
+    tell(t, &[point_of(verdict)]);
     verdict_number(verdict)
 }

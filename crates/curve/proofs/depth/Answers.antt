@@ -31,8 +31,8 @@ level-requires c = let l = lifted_field c.args.x (held c.before) c.if-b-lt-FIELD
 pub returns-then-b-lt-FIELD : goal.returns-then-b-lt-FIELD
 returns-then-b-lt-FIELD c = c.level.ensures ∙ depth_small c.args.x c.if-b-lt-FIELD.true
 
-pub level-requires-2 : goal.level-requires-2
-level-requires-2 c = let l = (held c.before).high in omega arith
+pub level-requires-else-b-lt-FIELD : goal.level-requires-else-b-lt-FIELD
+level-requires-else-b-lt-FIELD c = let l = (held c.before).high in omega arith
 
-pub returns : goal.returns
-returns c = c.level-2.ensures ∙ depth_other c.args.x c.if-b-lt-FIELD.false
+pub returns-else-b-lt-FIELD : goal.returns-else-b-lt-FIELD
+returns-else-b-lt-FIELD c = c.level-else-b-lt-FIELD.ensures ∙ depth_other c.args.x c.if-b-lt-FIELD.false

@@ -20,7 +20,7 @@ pub lowered-requires : goal.lowered-requires
 lowered-requires c =
     (few_steps c.args.r c.requires c.if-r.false (to_z-of_z {w = w64} (record { sfits = c.whole.type_inv }) ∙ c.whole.ensures)).2
 
-pub returns : goal.returns
-returns c =
+pub returns-else-r : goal.returns-else-r
+returns-else-r c =
     let r = c.args.r in
     c.lowered.ensures ∙ ap (λ z. lowered_of r (nat_abs z)) (to_z-of_z {w = w64} (record { sfits = c.whole.type_inv }) ∙ c.whole.ensures) ∙ fall_some r c.if-r.false

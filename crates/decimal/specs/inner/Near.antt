@@ -1,7 +1,5 @@
 -- The contracts of the division by the first binary digits of a power of five.
-use Rattle.std.specs.Prelude.{◌≡◌, ℕ, ◌+◌, ◌*◌, ◌/◌, ◌^◌, ◌≤◌, ◌<◌}
-use Rattle.decimal.specs.declared.near.Near.{Near}
-use Rattle.decimal.specs.declared.near.Near.TheVariants.{Bits}
+use Rattle.std.specs.Prelude.{◌≡◌, ℕ, ◌+◌, ◌*◌, ◌/◌, ◌^◌, ◌≤◌, ◌<◌, Option, Some}
 use Rattle.decimal.specs.inner.Steps.{BitsOf}
 
 -- 5 ^ n has one binary digit more, for n up to 56
@@ -16,5 +14,5 @@ pub record FirstForty (n p : ℕ) : Type 0 where
   pub hi : p < 2 ^ 40
 
 -- where bits are told, they are those of d / p rounded, but for the sign's
-abbrev pub NearOf : ℕ → ℕ → Near → Type 0
-NearOf d p r = (b : ℕ) → r ≡ Bits b → BitsOf d p b
+abbrev pub NearOf : ℕ → ℕ → Option ℕ → Type 0
+NearOf d p r = (b : ℕ) → r ≡ Some b → BitsOf d p b

@@ -1,6 +1,6 @@
 -- The contracts of the long division: whole numbers in three words of 60 binary digits.
 use Rattle.std.specs.Prelude.{◌≡◌, ◌⊎◌, ℕ, ◌+◌, ◌*◌, ◌^◌, ◌≤◌, ◌<◌}
-use Rattle.decimal.specs.declared.wide.Wide.{Wide}
+use Rattle.decimal.specs.declared.three_words.Wide.{Wide}
 
 abbrev pub word : ℕ
 word = 1152921504606846976
@@ -12,20 +12,15 @@ wide hi mid lo = (hi * word + mid) * word + lo
 abbrev pub value_of : Wide → ℕ
 value_of w = wide w.hi w.mid w.lo
 
-pub record IsWide (n hi mid lo : ℕ) : Type 0 where
-  pub is : wide hi mid lo ≡ n
-  pub mids : mid < word
-  pub los : lo < word
-
 -- with a first word below 2 ^ 60
 unfoldable pub Roomy : ℕ → Type 0
 Roomy n = n < 2 ^ 180
 
--- den doubled up times is more than num
-pub record RaisesTo (num den hi mid lo up : ℕ) : Type 0 where
-  pub is : IsWide (den * 2 ^ up) hi mid lo
+-- w is den doubled up times, and more than num
+pub record Raised (num den : ℕ) (w : Wide) (up : ℕ) : Type 0 where
+  pub is : value_of w ≡ den * 2 ^ up
   pub above : num < den * 2 ^ up
-  pub room : hi < 2 * word
+  pub room : w.hi < 2 * word
   pub few : up ≤ 180
 
 -- num * 2 ^ down is m times den and a rest, and m has 24 binary digits, or down is most

@@ -1,5 +1,5 @@
 -- What the functions within promise each other.
-use Rattle.std.specs.Prelude.{ℕ, ◌≤◌, ◌≡◌, List, length, drop, Float}
+use Rattle.std.specs.Prelude.{ℕ, ◌≤◌, ◌≡◌, List, length, drop, Float, Option, Result, Ok, Err}
 use Rattle.std.proofs.lemmas.List.Edits.{sets}
 use Rattle.blend.specs.Channels.{positions_in, channels_in}
 use Rattle.blend.specs.declared.Stop.{Stop}
@@ -10,8 +10,8 @@ use Rattle.text.specs.Text.{lines, first_of, rest_of}
 use Rattle.entries.specs.Entries.{entry_of}
 use Rattle.entries.specs.Input.{Input, unread, input, from_threshold, from_stops, from_edit, stops_of, after_stops, after_threshold}
 use Rattle.entries.specs.declared.fields.Entry.{Entry}
-use Rattle.entries.specs.declared.reading.Ending.{Ending}
-use Rattle.entries.specs.declared.reading.Ending.TheVariants as ending
+use Rattle.entries.specs.declared.fields.Recolour.{Recolour}
+use Rattle.entries.specs.declared.reading.Unread.{Unread}
 
 -- what the line at `at` says, and where the lines after it start
 pub record StepAt (s : List ℕ) (at : ℕ) (e : Entry) (next : ℕ) : Type 0 where
@@ -36,9 +36,9 @@ pub record BlockAt (s : List ℕ) (from n next : ℕ) (lent : Change Output) : T
   pub channels : lent.exit.channels ≡ sets lent.entry.channels 0 (channels_in (stops_of (lines (drop from s))))
 
 -- what the end of the input makes of the stops before it
-unfoldable pub ending_of : Kind → Float → List Stop → Ending → Input
-ending_of k x stops (ending.Unread n) = unread n
-ending_of k x stops (ending.Whole e) = input k x stops e
+unfoldable pub ending_of : Kind → Float → List Stop → Result (Option Recolour) Unread → Input
+ending_of k x stops (Err u) = unread u.line
+ending_of k x stops (Ok e) = input k x stops e
 
-pub record EndsAs (s : List ℕ) (at line : ℕ) (r : Ending) : Type 0 where
+pub record EndsAs (s : List ℕ) (at line : ℕ) (r : Result (Option Recolour) Unread) : Type 0 where
   pub is : (k : Kind) (x : Float) (stops : List Stop) → from_edit k x stops line (lines (drop at s)) ≡ ending_of k x stops r

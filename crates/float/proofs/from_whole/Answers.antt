@@ -31,22 +31,10 @@ float_from_bits-result c = number_pattern _ (omega arith)
 pub returns-then-n-lt8388608 : goal.returns-then-n-lt8388608
 returns-then-n-lt8388608 c = count_small c.args.n c.if-n-lt8388608.true
 
-pub overflow_cast-zeros : goal.overflow_cast-zeros
-overflow_cast-zeros c = let h = up_to_top c in omega arith
+pub float_from_bits-result-else-n-lt8388608 : goal.float_from_bits-result-else-n-lt8388608
+float_from_bits-result-else-n-lt8388608 c = number_pattern _ (omega (arith, tops c))
 
-pub overflow_shl-n : goal.overflow_shl-n
-overflow_shl-n c = (up_to_top c).few
-
-pub overflow_sub-result : goal.overflow_sub-result
-overflow_sub-result c = let h = up_to_top c.before in omega arith
-
-pub overflow_add-result-2 : goal.overflow_add-result-2
-overflow_add-result-2 c = omega (arith, tops c)
-
-pub float_from_bits-result-2 : goal.float_from_bits-result-2
-float_from_bits-result-2 c = number_pattern _ (omega (arith, tops c))
-
-pub returns : goal.returns
-returns c =
+pub returns-else-n-lt8388608 : goal.returns-else-n-lt8388608
+returns-else-n-lt8388608 c =
     ap (λ (x : ℕ). of_bits binary32 ((189 - count_leading_zeros 64 c.args.n) * 8388608 + x)) c.leading-digits.ensures
     ∙ count_back c.args.n _ _ (up_to_top c.before)

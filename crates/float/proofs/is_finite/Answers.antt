@@ -1,8 +1,15 @@
--- `float::is_finite` meets its contract: zero times a finite number is a zero, and times any other is not. Assumes nothing.
-use lib.Ieee.{of_bits}
-use Rattle.float.proofs.Finite.{zero_times}
+-- `float::is_finite` meets its contract: the kit's test and the definition name the same numbers. Assumes nothing.
+use mathlib.Core.Path.{◌≡◌, refl, ◌∙◌}
+use lib.Ieee.{Float, nan, inf, fin}
+use lib.Ieee.Scale.{finite}
+use Rattle.std.specs.Float.{float_is_finite}
 use Rattle.float.proofs.is_finite.Goals as goal
 
+same : (x : Float) → float_is_finite x ≡ finite x
+unfolding float_is_finite
+same nan = refl
+same (inf s) = refl
+same (fin s m e) = refl
+
 pub returns : goal.returns
-unfolding of_bits
-returns c = zero_times c.args.x
+returns c = c.is_finite.ensures.value ∙ same c.args.x

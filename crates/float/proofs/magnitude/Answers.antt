@@ -35,5 +35,5 @@ float_from_bits-result c =
     let f = held c.before.before in
     subst (λ (b : ℕ). T (not (nan_bits binary32 b))) (sym (set _ f c.if-bits-lt-SIGN.false)) (magnitude_pattern _ f (is_number _ c.if-x.false))
 
-pub returns : goal.returns
-returns c = magnitude_minus _ (held c.before.before) c.if-bits-lt-SIGN.false
+pub returns-else-bits-lt-SIGN : goal.returns-else-bits-lt-SIGN
+returns-else-bits-lt-SIGN c = magnitude_minus _ (held c.before.before) c.if-bits-lt-SIGN.false

@@ -48,13 +48,10 @@ returns-then-n-lt9223372036854775808 c =
     let a = c.before.before in
     to_z_pos w64 c.if-n-lt9223372036854775808.true ∙ ap pos (size_is a) ∙ whole_plus _ a.if-x.false c.if-b-lt-SIGN.true (small a c.if-n-lt9223372036854775808.true)
 
-pub returns-then-b-lt-SIGN : goal.returns-then-b-lt-SIGN
-returns-then-b-lt-SIGN c =
+pub returns-else-n-lt9223372036854775808 : goal.returns-else-n-lt9223372036854775808
+returns-else-n-lt9223372036854775808 c =
     let a = c.before.before in
     whole_last _ a.if-x.false c.if-b-lt-SIGN.true (large a c.if-n-lt9223372036854775808.false)
-
-pub overflow_sub-result : goal.overflow_sub-result
-overflow_sub-result c = minus_fits _ c.if-n-lt9223372036854775808-2.true
 
 pub returns-then-n-lt9223372036854775808-2 : goal.returns-then-n-lt9223372036854775808-2
 returns-then-n-lt9223372036854775808-2 c =
@@ -62,7 +59,7 @@ returns-then-n-lt9223372036854775808-2 c =
     to_z-of_z (minus_fits _ c.if-n-lt9223372036854775808-2.true) ∙ minus_is _ c.if-n-lt9223372036854775808-2.true ∙ ap (λ (n : ℕ). neg_ℤ (pos n)) (size_is a)
     ∙ whole_minus _ a.if-x.false (held a.before.before) c.if-b-lt-SIGN.false (small a c.if-n-lt9223372036854775808-2.true)
 
-pub returns : goal.returns
-returns c =
+pub returns-else-n-lt9223372036854775808-2 : goal.returns-else-n-lt9223372036854775808-2
+returns-else-n-lt9223372036854775808-2 c =
     let a = c.before.before in
     whole_first _ a.if-x.false (held a.before.before) c.if-b-lt-SIGN.false (large a c.if-n-lt9223372036854775808-2.false)

@@ -8,5 +8,5 @@ returns-then-field-lt127 c = part_low c.args.a c.if-field-lt127.true
 pub returns-then-field-gt190 : goal.returns-then-field-gt190
 returns-then-field-gt190 c = part_high c.args.a c.requires c.if-field-gt190.true
 
-pub returns : goal.returns
-returns c = part_mid c.args.a c.if-field-lt127.false c.if-field-gt190.false
+pub returns-else-field-gt190 : goal.returns-else-field-gt190
+returns-else-field-gt190 c = part_mid c.args.a c.if-field-lt127.false c.if-field-gt190.false

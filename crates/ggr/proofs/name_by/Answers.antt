@@ -4,12 +4,12 @@ use Rattle.ggr.specs.File.{segment_room}
 use Rattle.ggr.proofs.Finish.{name_none, name_read}
 use Rattle.ggr.proofs.name_by.Goals as goal
 
-pub returns-in_default : goal.returns-in_default
+pub returns-in-Refused : goal.returns-in-Refused
 unfolding segment_room
-returns-in_default c =
-    name_none c.args.rules c.args.text.now c.read_by-r.result c.read_by-r.ensures.answer _ _ c.in_default.is
+returns-in-Refused c =
+    name_none c.args.rules c.args.text.now c.read_by-r.result c.read_by-r.ensures.answer _ _ c.in-Refused.is
 
-pub returns : goal.returns
+pub returns-in-Read : goal.returns-in-Read
 unfolding segment_room
-returns c =
+returns-in-Read c =
     c.name_part.ensures ∙ name_read c.args.rules c.args.text.now c.read_by-r.result c.read_by-r.ensures.answer _ c.in-Read.is

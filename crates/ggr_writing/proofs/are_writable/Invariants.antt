@@ -6,6 +6,3 @@ use Rattle.ggr_writing.proofs.are_writable.Given as goal
 
 abbrev pub invariant-loop-i : goal.invariant-loop-i
 invariant-loop-i l = (l.i ≤ l.n) × (writable_from (l.n - l.i) l.i l.positions l.channels ≡ writable_from l.n 0 l.positions l.channels)
-
-abbrev pub decreases-loop-i : goal.decreases-loop-i
-decreases-loop-i l = l.n - l.i

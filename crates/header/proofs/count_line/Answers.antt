@@ -17,16 +17,16 @@ returns-in_default c = let a = c.args in
 
 pub returns-then-m-gt-MOST_SEGMENTS : goal.returns-then-m-gt-MOST_SEGMENTS
 returns-then-m-gt-MOST_SEGMENTS c = let a = c.args in
-    third_most a.s.now a.at a.room (search rules) c.line_at-l.result.end c.line_at-l.result.next c.line_at-l.ensures _ c.number_of.ensures _ c.in-Is.is c.if-m-gt-MOST_SEGMENTS.true
+    third_most a.s.now a.at a.room (search rules) c.line_at-l.result.end c.line_at-l.result.next c.line_at-l.ensures _ c.number_of.ensures _ c.in-Some.is c.if-m-gt-MOST_SEGMENTS.true
 
 pub returns-then-room-m : goal.returns-then-room-m
 returns-then-room-m c = let a = c.args in
-    third_room a.s.now a.at a.room (search rules) c.line_at-l.result.end c.line_at-l.result.next c.line_at-l.ensures _ c.number_of.ensures _ c.in-Is.is (search rules) c.if-room-m.true
+    third_room a.s.now a.at a.room (search rules) c.line_at-l.result.end c.line_at-l.result.next c.line_at-l.ensures _ c.number_of.ensures _ c.in-Some.is (search rules) c.if-room-m.true
 
 pub returns-then-m-eq0 : goal.returns-then-m-eq0
 returns-then-m-eq0 c = let a = c.args in
-    third_zero a.s.now a.at a.room (search rules) c.line_at-l.result.end c.line_at-l.result.next c.line_at-l.ensures _ c.number_of.ensures _ c.in-Is.is (search rules) c.if-m-eq0.true
+    third_zero a.s.now a.at a.room (search rules) c.line_at-l.result.end c.line_at-l.result.next c.line_at-l.ensures _ c.number_of.ensures _ c.in-Some.is (search rules) c.if-m-eq0.true
 
 pub returns : goal.returns
 returns c = let a = c.args in
-    third_some a.s.now a.at a.room (search rules) c.line_at-l.result.end c.line_at-l.result.next c.line_at-l.ensures _ c.number_of.ensures _ c.in-Is.is (search rules) (search rules) c.if-m-eq0.false
+    third_some a.s.now a.at a.room (search rules) c.line_at-l.result.end c.line_at-l.result.next c.line_at-l.ensures _ c.number_of.ensures _ c.in-Some.is (search rules) (search rules) c.if-m-eq0.false

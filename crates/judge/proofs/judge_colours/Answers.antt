@@ -12,4 +12,4 @@ pub returns : goal.returns
 returns c =
     colours_judged _ _ _ _ _ _ c.requires.codes_value c.requires.sound
     (sampled_fresh _ _ _ _ _ c.requires.codes_value c.sample.ensures refl refl refl)
-    c.new-sampler.ensures c.max_of.ensures c.judge_points.ensures
+    c.new-sampler.ensures c.max.ensures c.judge_points.ensures

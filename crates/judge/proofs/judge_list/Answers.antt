@@ -11,8 +11,8 @@ judge_colours-requires c = record {
 
 pub returns-in-Yes : goal.returns-in-Yes
 returns-in-Yes c =
-    list_coloured _ _ _ c.min_of-min.ensures c.max_of-max.ensures c.check_list-shape.ensures c.in-Yes.is c.judge_colours.ensures
+    list_coloured _ _ _ c.min-min.ensures c.max-max.ensures c.check_list-shape.ensures c.in-Yes.is c.judge_colours.ensures
 
 pub returns-in_default : goal.returns-in_default
 returns-in_default c =
-    list_misshapen _ _ _ c.min_of-min.ensures c.max_of-max.ensures c.check_list-shape.ensures c.in_default.not-Yes
+    list_misshapen _ _ _ c.min-min.ensures c.max-max.ensures c.check_list-shape.ensures c.in_default.not-Yes

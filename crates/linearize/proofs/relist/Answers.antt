@@ -27,4 +27,4 @@ returns-in-Done c =
     let made = c.thin_record-made.ensures in
     let few = again_bound _ _ _ _ w.spent in
     let most = made_bound _ _ _ _ _ _ (resampled_ready _ _ _ _ _ w.fine good w.left) made in
-    relist_done _ _ _ _ _ _ _ _ _ _ w good (far_by_cutoff _ _ c.cutoff_of-cutoff.ensures) c.max_of-max.ensures made (after_few _ c.thin_record-made.result c.after.ensures few most)
+    relist_done _ _ _ _ _ _ _ _ _ _ w good (far_by_cutoff _ _ c.cutoff_of-cutoff.ensures) c.max-max.ensures made (after_few _ c.thin_record-made.result c.after.ensures few most)

@@ -17,4 +17,4 @@ returns-in-Refused c = thin_refused _ _ _ _ _ (sym c.check_thin.ensures.answer �
 
 pub returns-in-Fine : goal.returns-in-Fine
 returns-in-Fine c =
-    thin_done _ _ _ _ _ _ _ (sym c.check_thin.ensures.answer ∙ c.in-Fine.is) (far_by_cutoff _ _ c.cutoff_of-cutoff.ensures) c.max_of-max.ensures c.thin_record.ensures
+    thin_done _ _ _ _ _ _ _ (sym c.check_thin.ensures.answer ∙ c.in-Fine.is) (far_by_cutoff _ _ c.cutoff_of-cutoff.ensures) c.max-max.ensures c.thin_record.ensures

@@ -19,4 +19,4 @@ returns-in-Refused c =
 pub returns-in-Fine : goal.returns-in-Fine
 returns-in-Fine c =
     step_done _ _ _ _ _ _ _ (step_check_lem _ _ _ _ c.is_within.ensures c.check_thin-checked.ensures.answer c.placed_check.ensures ∙ c.in-Fine.is)
-    (far_by_cutoff _ _ c.cutoff_of-cutoff.ensures) c.max_of-max.ensures c.step_from.ensures
+    (far_by_cutoff _ _ c.cutoff_of-cutoff.ensures) c.max-max.ensures c.step_from.ensures

@@ -6,9 +6,6 @@ use Rattle.numerals.proofs.put_digits.Goals as goal
 pub loop-i-init : goal.loop-i-init
 loop-i-init c = put_start _ _ _ _
 
-pub overflow_add-out-in-loop-i : goal.overflow_add-out-in-loop-i
-overflow_add-out-in-loop-i c = omega (arith, c.loop-i.invariant.left)
-
 pub bounds-out-at : goal.bounds-out-at
 bounds-out-at c =
     let a = c.args in

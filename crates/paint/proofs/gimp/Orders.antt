@@ -1,13 +1,13 @@
 -- Segments in order: the test that painting makes, and what it makes sure of. Assumes nothing.
-use mathlib.Core.Path.{◌≡◌, refl, ◌∙◌}
-use mathlib.Core.Bool.{Bool, true, false, not, ◌&&◌}
+use mathlib.Core.Path.{◌≡◌, refl}
+use mathlib.Core.Bool.{true, false, not, ◌&&◌}
 use mathlib.Core.List.{List}
-use Prim.Native.Nat.{◌-◌, ◌≤◌, ◌<◌}
+use Prim.Native.Nat.{◌-◌}
 use native.Mathlib.Omega.{arith}
 use lib.Dec.{leb}
 use lib.ListN.{length}
 use lib.Ieee.{Float, inf, lt, is_nan, of_bits}
-use borrow.Author.Tests.{leb-true, le-leb, lt-leb, not-true}
+use borrow.Author.Tests.{leb-true, not-true}
 use Rattle.float.specs.F32.{f0, f1}
 use Rattle.float.proofs.Flags.{both_l, both_r}
 use Rattle.float.proofs.Order.{no_nan_l, le_from_not_lt}
@@ -26,23 +26,6 @@ one_is = refl
 module _ (ps : List Float) where
   abbrev last : Float
   last = pos_at ps (length ps - 1)
-
-  pub too_few : length ps < 3 → false ≡ segments_in_order ps
-  unfolding segments_in_order
-  too_few h = simp (lt-leb 3 (length ps) h)
-
-  module _ (three : 3 ≤ length ps) where
-    pub below : lt (pos_at ps 0) f0 ≡ true → false ≡ segments_in_order ps
-    unfolding segments_in_order
-    below a = simp (le-leb 3 (length ps) three, a)
-
-    pub above : lt (pos_at ps 0) f0 ≡ false → lt f1 last ≡ true → false ≡ segments_in_order ps
-    unfolding segments_in_order
-    above a b = simp (le-leb 3 (length ps) three, a, b)
-
-    pub by_steps : {r : Bool} → lt (pos_at ps 0) f0 ≡ false → lt f1 last ≡ false → r ≡ steady last (inf true) ps → r ≡ segments_in_order ps
-    unfolding segments_in_order
-    by_steps a b e = e ∙ simp (le-leb 3 (length ps) three, a, b)
 
   pub in_order : segments_in_order ps ≡ true → Orderly ps
   unfolding segments_in_order

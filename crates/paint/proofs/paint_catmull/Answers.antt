@@ -20,13 +20,8 @@ loop-i-init c = (omega arith, refl, refl, c.segment_for-s.ensures)
 pub renewed-fresh-requires : goal.renewed-fresh-requires
 renewed-fresh-requires c = record { s_value = c.loop-i.invariant.3; segments = c.requires.segments }
 
-pub overflow_add-i : goal.overflow_add-i
-overflow_add-i c =
-    omega (arith, c.loop-i-test.true, c.well_formed.1.1.0.1)
-
 pub loop-i-preserved : goal.loop-i-preserved
 loop-i-preserved c =
-    let test = c.loop-i-test.true in
     let i = c.loop-i.i in (
       omega arith,
       ap length c.put_colour.ensures ∙ simp length-sets c.loop-i.invariant.1,

@@ -4,8 +4,8 @@ use lib.Seq.{length-take-le}
 use Rattle.stops.proofs.Tables.{filled_window, filled_segments}
 use Rattle.paint.proofs.paint_tabled.Goals as goal
 
-pub slice_bounds-table-end-2 : goal.slice_bounds-table-end-2
-slice_bounds-table-end-2 c =
+pub slice_bounds-paint_catmull-end-2 : goal.slice_bounds-paint_catmull-end-2
+slice_bounds-paint_catmull-end-2 c =
     sym (length-take-le _ c.fill-m.new.table (filled_window _ _ _ _ _ _ c.fill-m.ensures).fits)
 
 pub paint_catmull-requires : goal.paint_catmull-requires

@@ -8,5 +8,5 @@ use Rattle.paint.proofs.renewed.Goals as goal
 pub returns-then-j-k : goal.returns-then-j-k
 returns-then-j-k c = c.requires.s_value ∙ ap (λ (i : ℕ). segment_for c.args.channels.now c.args.n i) (sym c.if-j-k.true)
 
-pub returns : goal.returns
-returns c = c.segment.ensures ∙ segment_same _ _ _ _ _ c.requires.segments
+pub returns-else-j-k : goal.returns-else-j-k
+returns-else-j-k c = c.segment.ensures ∙ segment_same _ _ _ _ _ c.requires.segments

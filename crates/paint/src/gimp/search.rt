@@ -9,20 +9,15 @@ use gradient::gimp;
 const MANY: usize = 32;
 
 // Whether the positions rise, from 0 or later to 1 or before.
+#[tactic(auto, unfolding(crate::specs::inner::Segments::segments_in_order))]
 pub(crate) fn is_orderly(positions: &[f32]) -> bool
     ensures { result ≡ segments_in_order positions.now }
 {
     let n = positions.len();
-    if n < 3 {
-        return false;
-    }
-    if positions[0] < 0.0 {
-        return false;
-    }
-    if positions[n - 1] > 1.0 {
-        return false;
-    }
-    stops::is_steady(positions, positions[n - 1])
+    3 <= n
+        && !(positions[0] < 0.0)
+        && !(positions[n - 1] > 1.0)
+        && stops::is_steady(positions, positions[n - 1])
 }
 
 // 1 where t lies past the left end of segment i, else 0.
@@ -49,12 +44,12 @@ fn guess(positions: &[f32], t: f32) -> usize
         left -= 3 * part;
     }
     if 2 < left {
-        return base + past(positions, base + 1, t) + past(positions, base + 2, t);
+        base + past(positions, base + 1, t) + past(positions, base + 2, t)
+    } else if 1 < left {
+        base + past(positions, base + 1, t)
+    } else {
+        base
     }
-    if 1 < left {
-        return base + past(positions, base + 1, t);
-    }
-    base
 }
 
 // Whether t lies inside segment i. Each of two answers is 1 or 0, and n times their sum is above n + i, where i is less than
@@ -74,12 +69,10 @@ pub(crate) fn find_segment(positions: &[f32], t: f32, orderly: bool) -> usize
     requires { (1 ≤ segments positions.now) × (orderly ≡ true → Orderly positions.now) }
     ensures { result ≡ segment_found positions.now t }
 {
-    if orderly {
-        if 3 * MANY <= positions.len() {
-            let g = guess(positions, t);
-            if is_inside(positions, g, t) {
-                return g;
-            }
+    if orderly && 3 * MANY <= positions.len() {
+        let g = guess(positions, t);
+        if is_inside(positions, g, t) {
+            return g;
         }
     }
     gimp::find_segment(positions, t)

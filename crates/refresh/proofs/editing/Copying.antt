@@ -1,10 +1,10 @@
 -- What an edit reaches, and its copy, from what the functions within give. Assumes nothing.
 use mathlib.Core.Path.{◌≡◌, refl, sym, ap, ◌∙◌, subst}
-use mathlib.Core.Bool.{Bool, true, false, cond, ◌&&◌}
+use mathlib.Core.Bool.{true, false, cond, ◌&&◌}
 use mathlib.Core.List.{List}
-use Prim.Native.Nat.{ℕ, ◌+◌, ◌-◌, ◌*◌, ◌≤◌, ◌<◌}
+use Prim.Native.Nat.{ℕ, ◌+◌, ◌*◌, ◌≤◌, ◌<◌}
 use native.Mathlib.Omega.{arith}
-use borrow.Author.Tests.{lt-ltb, le-ltb, le-leb, lt-leb, eq-eqb, ne_eqb, leb-true, ltb-true, eqb-true}
+use borrow.Author.Tests.{lt-ltb, le-leb, eq-eqb, leb-true, ltb-true, eqb-true}
 use lib.Dec.{leb, ltb, eqb}
 use lib.ListN.{length}
 use lib.Seq.{sets}
@@ -16,77 +16,24 @@ use Rattle.stops.specs.declared.Kind.{Kind}
 use Rattle.stops.specs.Answers.{on_fine}
 use Rattle.stops.specs.declared.Checked.{Checked}
 use Rattle.stops.specs.declared.Checked.TheVariants as checked
-use Rattle.stops.proofs.Reading.{past_end}
-use Rattle.gradient.specs.Ramp.{min_in, max_in}
-use Rattle.refresh.specs.reach.Stretch.{stretch_between}
-use Rattle.refresh.specs.reach.KeptCells.{kept_cells}
-use Rattle.refresh.specs.declared.reach.stretch.Stretch.{Stretch}
 use Rattle.refresh.specs.editing.Edited.{stop_of, gone_of, positions_after, channels_after, stops_after}
 use Rattle.refresh.specs.editing.Rules.{edit_allowed}
-use Rattle.refresh.specs.editing.Reached.{stretch_of, cells_kept}
 use Rattle.refresh.specs.editing.Copied.{copy_fits, copy_check, copy_answer, Copies}
 use Rattle.refresh.specs.declared.editing.Edit.{Edit}
 use Rattle.refresh.specs.declared.editing.Edit.TheVariants.{Colour, Move, Add, Remove}
 use Rattle.refresh.specs.declared.editing.copy.Copied.TheVariants as copied
 use Rattle.refresh.proofs.editing.EditRules.{colour_passes, move_passes, add_passes, remove_passes}
 
--- ---- the stretch
-module _ (ps : List Float) (k : ℕ) {i : ℕ} (before : i ≡ k - 1) {r : Stretch} where
-  pub beside_past : length ps ≤ k → r ≡ stretch_between ps i k → r ≡ stretch_between ps (k - 1) (k + 1)
-  unfolding stretch_between
-  beside_past h e = e ∙ rw (before, ← past_end ps k h, ← past_end ps (k + 1) (omega arith))
-
-  pub beside_inner : {j : ℕ} → j ≡ k + 1 → r ≡ stretch_between ps i j → r ≡ stretch_between ps (k - 1) (k + 1)
-  beside_inner q e = e ∙ rw (before, q)
-
-module _ (kind : Kind) (ps : List Float) where
-  pub as_stretch : {e e' : Edit} {r : Stretch} → e ≡ e' → r ≡ stretch_of kind ps e' → r ≡ stretch_of kind ps e
-  as_stretch h k = k ∙ ap (stretch_of kind ps) (sym h)
-
-  pub kept_by : (e : Edit) {lo hi : Float} {s : Stretch} {r : List Bool} → lo ≡ min_in kind ps → hi ≡ max_in kind ps → s ≡ stretch_of kind ps e → r ≡ kept_cells lo hi s → r ≡ cells_kept kind ps e
-  unfolding cells_kept
-  kept_by e p q w k = k ∙ rw (p, q, w)
-
 -- ---- the lists, edit by edit
 module _ {e e' : Edit} (is : e ≡ e') where
-  pub stop_as : (n : ℕ) → stop_of e + gone_of e ≤ n → stop_of e' + gone_of e' ≤ n
-  stop_as n l = subst (λ (x : Edit). stop_of x + gone_of x ≤ n) is l
-
   pub channels_as : (n : ℕ) → 4 * stop_of e + 4 * gone_of e ≤ n → 4 * stop_of e' + 4 * gone_of e' ≤ n
   channels_as n l = subst (λ (x : Edit). 4 * stop_of x + 4 * gone_of x ≤ n) is l
-
-  pub positions_by : (r l ps : List Float) → r ≡ sets l 0 (positions_after ps e') → r ≡ sets l 0 (positions_after ps e)
-  positions_by r l ps k = k ∙ ap (λ (x : Edit). sets l 0 (positions_after ps x)) (sym is)
 
   pub channels_by : (r l cs : List Float) → r ≡ sets l 0 (channels_after cs e') → r ≡ sets l 0 (channels_after cs e)
   channels_by r l cs k = k ∙ ap (λ (x : Edit). sets l 0 (channels_after cs x)) (sym is)
 
 -- ---- numbers
-pub some_stop : {e : Edit} (k n : ℕ) → e ≡ Remove k → stop_of e + gone_of e ≤ n → 1 ≤ n
-some_stop k n h l = let m : k + 1 ≤ n = rw h at l in omega arith
-
-pub stops_by : {e e' : Edit} (n : ℕ) → e ≡ e' → stops_after n e' ≡ stops_after n e
-stops_by n h = ap (stops_after n) (sym h)
-
 module _ (n m places colours : ℕ) where
-  pub too_many : most_stops < n → false ≡ copy_fits n m places colours
-  unfolding copy_fits
-  too_many h = rw (lt-leb n most_stops h)
-
-  module _ (most : n ≤ most_stops) where
-    pub not_four : (m ≡ 4 * n → ⊥) → false ≡ copy_fits n m places colours
-    unfolding copy_fits
-    not_four h = rw (le-leb n most_stops most, ne_eqb m (4 * n) h)
-
-    module _ (four : m ≡ 4 * n) where
-      pub few_places : places ≤ n → false ≡ copy_fits n m places colours
-      unfolding copy_fits
-      few_places h = rw (le-leb n most_stops most, eq-eqb m (4 * n) four, le-ltb n places h)
-
-      pub by_colours : n < places → leb (m + 4) colours ≡ copy_fits n m places colours
-      unfolding copy_fits
-      by_colours h = rw (le-leb n most_stops most, eq-eqb m (4 * n) four, lt-ltb n places h)
-
   pub record Room : Type 0 where
     pub most : n ≤ most_stops
     pub four : m ≡ 4 * n

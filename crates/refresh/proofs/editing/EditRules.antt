@@ -1,15 +1,15 @@
 -- The refusals of an edit, test by test, and what an edit that passes tells. Assumes nothing.
-use mathlib.Core.Path.{◌≡◌, refl, sym, ap, ◌∙◌}
+use mathlib.Core.Path.{◌≡◌, refl}
 use mathlib.Core.Bool.{Bool, true, false, cond, ◌&&◌, ◌||◌}
 use mathlib.Core.List.{List}
 use Prim.Native.Nat.{ℕ, ◌+◌, ◌-◌, ◌≤◌, ◌<◌}
 use native.Mathlib.Omega.{arith}
-use borrow.Author.Tests.{lt-ltb, le-ltb, le-leb, leb-true, ltb-true}
+use borrow.Author.Tests.{lt-ltb, leb-true, ltb-true}
 use lib.Dec.{leb, ltb}
 use lib.ListN.{length}
 use lib.Ieee.{Float, lt}
 use lib.Ieee.Scale.{finite}
-use Rattle.refusals.specs.Refusals.{misshapen, falling, bad_edit}
+use Rattle.refusals.specs.Refusals.{misshapen, falling}
 use Rattle.refusals.specs.Limits.{most_stops}
 use Rattle.float.proofs.Flags.{both_l, both_r}
 use Rattle.blend.specs.declared.Rgba.{Rgba}
@@ -18,32 +18,10 @@ use Rattle.stops.specs.declared.Kind.{Kind}
 use Rattle.stops.specs.declared.Checked.{Checked}
 use Rattle.stops.specs.declared.Checked.TheVariants as checked
 use Rattle.refresh.specs.editing.Rules.{refreshable, movable, is_inner, is_next, order_check, six_unless, edit_allowed}
-use Rattle.refresh.specs.declared.editing.Edit.{Edit}
 use Rattle.refresh.specs.declared.editing.Edit.TheVariants.{Colour, Move, Add, Remove}
 
 -- ---- the place
 module _ (n k : ℕ) where
-  pub inner_start : k ≡ 0 → false ≡ is_inner n k
-  unfolding is_inner
-  inner_start h = rw h
-
-  pub next_start : k ≡ 0 → false ≡ is_next n k
-  unfolding is_next
-  next_start h = rw h
-
-  module _ (some : k ≡ 0 → ⊥) where
-    pub inner_past : n ≤ k → false ≡ is_inner n k
-    unfolding is_inner
-    inner_past h = rw (le-leb 1 k (omega arith), le-ltb (k + 1) n (omega arith))
-
-    pub inner_by : ltb (k + 1) n ≡ is_inner n k
-    unfolding is_inner
-    inner_by = rw (le-leb 1 k (omega arith))
-
-    pub next_by : ltb k n ≡ is_next n k
-    unfolding is_next
-    next_by = rw (le-leb 1 k (omega arith))
-
   pub inner_is : is_inner n k ≡ true → (1 ≤ k) × (k + 1 < n)
   unfolding is_inner
   inner_is h = (leb-true 1 k (both_l (leb 1 k) (ltb (k + 1) n) h), ltb-true (k + 1) n (both_r (leb 1 k) (ltb (k + 1) n) h))
@@ -52,105 +30,10 @@ module _ (n k : ℕ) where
   unfolding is_next
   next_is h = (leb-true 1 k (both_l (leb 1 k) (ltb k n) h), ltb-true k n (both_r (leb 1 k) (ltb k n) h))
 
--- ---- the order
-module _ (ps : List Float) (i j : ℕ) (p : Float) {x : Float} (low : x ≡ pos_at ps i) where
-  pub below_low : lt p x ≡ true → checked.Refused falling ≡ order_check ps i j p
-  unfolding order_check
-  below_low h = rw (← low, h)
-
-  module _ (above : lt p x ≡ false) {y : Float} (high : y ≡ pos_at ps j) where
-    pub above_high : lt y p ≡ true → checked.Refused falling ≡ order_check ps i j p
-    unfolding order_check
-    above_high h = rw (← low, above, ← high, h)
-
-    pub in_order : lt y p ≡ false → checked.Fine ≡ order_check ps i j p
-    unfolding order_check
-    in_order h = rw (← low, above, ← high, h)
-
--- ---- an edit, test by test
-module _ (kind : Kind) (ps : List Float) where
-  pub as_edit : {e e' : Edit} {r : Checked} → e ≡ e' → r ≡ edit_allowed kind ps e' → r ≡ edit_allowed kind ps e
-  as_edit h k = k ∙ ap (edit_allowed kind ps) (sym h)
-
-  module _ (k : ℕ) (colour : Rgba) where
-    pub colour_kind : refreshable kind ≡ false → checked.Refused bad_edit ≡ edit_allowed kind ps (Colour k colour)
-    unfolding edit_allowed
-    colour_kind h = rw h
-
-    module _ (ok : refreshable kind ≡ true) where
-      pub colour_past : length ps ≤ k → checked.Refused bad_edit ≡ edit_allowed kind ps (Colour k colour)
-      unfolding edit_allowed
-      colour_past h = rw (ok, le-ltb k (length ps) h)
-
-      module _ (there : k < length ps) where
-        pub colour_number : finite_rgba colour ≡ false → checked.Refused bad_edit ≡ edit_allowed kind ps (Colour k colour)
-        unfolding edit_allowed
-        colour_number h = rw (ok, lt-ltb k (length ps) there, h)
-
-        pub colour_fine : finite_rgba colour ≡ true → checked.Fine ≡ edit_allowed kind ps (Colour k colour)
-        unfolding edit_allowed
-        colour_fine h = rw (ok, lt-ltb k (length ps) there, h)
-
-  module _ (k : ℕ) (p : Float) where
-    pub move_kind : movable kind ≡ false → checked.Refused bad_edit ≡ edit_allowed kind ps (Move k p)
-    unfolding edit_allowed
-    move_kind h = rw h
-
-    module _ (ok : movable kind ≡ true) where
-      pub move_place : is_inner (length ps) k ≡ false → checked.Refused bad_edit ≡ edit_allowed kind ps (Move k p)
-      unfolding edit_allowed
-      move_place h = rw (ok, h)
-
-      module _ (inner : is_inner (length ps) k ≡ true) where
-        pub move_number : finite p ≡ false → checked.Refused bad_edit ≡ edit_allowed kind ps (Move k p)
-        unfolding edit_allowed
-        move_number h = rw (ok, inner, h)
-
-        pub move_order : finite p ≡ true → {r : Checked} → r ≡ order_check ps (k - 1) (k + 1) p → r ≡ edit_allowed kind ps (Move k p)
-        unfolding edit_allowed
-        move_order h e = rw (ok, inner, h) e
-
-  module _ (k : ℕ) (p : Float) (colour : Rgba) where
-    pub add_kind : movable kind ≡ false → checked.Refused bad_edit ≡ edit_allowed kind ps (Add k p colour)
-    unfolding edit_allowed
-    add_kind h = rw h
-
-    module _ (ok : movable kind ≡ true) where
-      pub add_place : is_next (length ps) k ≡ false → checked.Refused bad_edit ≡ edit_allowed kind ps (Add k p colour)
-      unfolding edit_allowed
-      add_place h = rw (ok, h)
-
-      module _ (next : is_next (length ps) k ≡ true) where
-        pub add_number : finite p ≡ false → checked.Refused bad_edit ≡ edit_allowed kind ps (Add k p colour)
-        unfolding edit_allowed
-        add_number h = rw (ok, next, h)
-
-        module _ (number : finite p ≡ true) where
-          pub add-colour : finite_rgba colour ≡ false → checked.Refused bad_edit ≡ edit_allowed kind ps (Add k p colour)
-          unfolding edit_allowed
-          add-colour h = rw (ok, next, number, h)
-
-          module _ (numbers : finite_rgba colour ≡ true) where
-            pub add_most : most_stops ≤ length ps → checked.Refused misshapen ≡ edit_allowed kind ps (Add k p colour)
-            unfolding edit_allowed
-            add_most h = rw (ok, next, number, numbers, le-ltb (length ps) most_stops h)
-
-            pub add_order : length ps < most_stops → {r : Checked} → r ≡ order_check ps (k - 1) k p → r ≡ edit_allowed kind ps (Add k p colour)
-            unfolding edit_allowed
-            add_order h e = rw (ok, next, number, numbers, lt-ltb (length ps) most_stops h) e
-
-  module _ (k : ℕ) where
-    pub remove_kind : movable kind ≡ false → checked.Refused bad_edit ≡ edit_allowed kind ps (Remove k)
-    unfolding edit_allowed
-    remove_kind h = rw h
-
-    pub remove_place : movable kind ≡ true → is_inner (length ps) k ≡ false → checked.Refused bad_edit ≡ edit_allowed kind ps (Remove k)
-    unfolding edit_allowed
-    remove_place ok h = rw (ok, h)
-
-    pub remove_fine : movable kind ≡ true → is_inner (length ps) k ≡ true → checked.Fine ≡ edit_allowed kind ps (Remove k)
-    unfolding edit_allowed
-    remove_fine ok h = rw (ok, h)
+-- ---- a change of colour that may be made
+pub colour_fine : (kind : Kind) (ps : List Float) (k : ℕ) (colour : Rgba) → refreshable kind ≡ true → k < length ps → finite_rgba colour ≡ true → checked.Fine ≡ edit_allowed kind ps (Colour k colour)
+unfolding edit_allowed
+colour_fine kind ps k colour ok there h = rw (ok, lt-ltb k (length ps) there, h)
 
 -- ---- what an edit that passes tells
 refused : {n : ℕ} → checked.Refused n ≡ checked.Fine → ⊥

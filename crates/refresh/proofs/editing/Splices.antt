@@ -73,12 +73,6 @@ colour_in cs k gone colour h =
     rw (rw e at (at 0 (omega arith)), at 1 (omega arith), at 2 (omega arith), at 3 (omega arith))
 
 -- ---- the copy
--- a turn of the loop that copies a run
-pub run_next : (l s : List Float) (at i : ℕ) (z : Float) → i < length s → set (sets l at (take i s)) (at + i) (get_or s i z) ≡ sets l at (take (i + 1) s)
-run_next l s at i z h =
-    let e : length (take i s) ≡ i = length-take-le i s (omega arith) in
-    sym (rw (add-one, take-suc s i z h) (sets-append l at (take i s) (get_or s i z ∷ []) ∙ rw e))
-
 -- the rest of a list, as a part of a slice
 pub part_is : (l : List Float) (n : ℕ) → take (length l - n) (drop n l) ≡ drop n l
 part_is l n = take_all (length l - n) (drop n l) (omega (arith, length-drop n l))

@@ -26,21 +26,6 @@ use Rattle.sampling.proofs.Checks.{passes_both}
 use Rattle.sampling.proofs.Edges.{edge_within}
 use Rattle.refresh.specs.reach.KeptCells.{is_domain}
 
--- ---- the tests, in their order
-module _ (lo hi : Float) where
-  pub too_low : le (neg farthest) lo ≡ false → false ≡ is_domain lo hi
-  unfolding is_domain
-  too_low h = rw h
-
-  module _ (low : le (neg farthest) lo ≡ true) where
-    pub falls : le lo hi ≡ false → false ≡ is_domain lo hi
-    unfolding is_domain
-    falls h = rw (low, h)
-
-    pub rises : le lo hi ≡ true → le hi farthest ≡ is_domain lo hi
-    unfolding is_domain
-    rises h = rw (low, h)
-
 -- ---- the ends of a domain's cells
 ends : T (finite farthest) × T (finite (neg farthest)) × (is_nan farthest ≡ false) × (is_nan (neg farthest) ≡ false)
 unfolding of_bits neg is_nan

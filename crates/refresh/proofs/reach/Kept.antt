@@ -1,15 +1,15 @@
 -- The cells kept, one after the other: without a domain none is, and else those that are clear. Assumes nothing.
-use mathlib.Core.Path.{◌≡◌, refl, sym, ap, ◌∙◌}
+use mathlib.Core.Path.{◌≡◌, refl, sym, ◌∙◌}
 use mathlib.Core.Bool.{Bool, true, false}
 use mathlib.Core.List.{List, [], ◌∷◌, ◌++◌}
 use mathlib.Core.Logic.{⊎_elim}
 use Prim.Native.Nat.{ℕ, zero, suc, ◌+◌, ◌<◌}
 use native.Mathlib.Nat.{eq-or-lt_of_le}
-use native.Mathlib.Numerals.{add-one}
 use native.Mathlib.Omega.{arith}
-use lib.ListN.{length, get_or, set, take, replicate, get_or-append}
-use lib.Seq.{take-suc-set, take-length, get_or-append-add}
+use lib.ListN.{length, get_or, replicate, get_or-append}
+use lib.Seq.{get_or-append-add}
 use lib.Ieee.{Float}
+use Rattle.std.proofs.lemmas.List.{ext_get_or}
 use Rattle.stops.specs.Lent.{Ramp}
 use Rattle.stops.specs.declared.Checked.TheVariants as checked
 use Rattle.gradient.specs.Ramp.{min_of, max_of}
@@ -49,11 +49,6 @@ module _ (s : Stretch) (lo hi : Float) (domain : is_domain lo hi ≡ true) (i : 
 -- ---- a list of single items
 abbrev pub each : {A : Type 0} → (ℕ → A) → ℕ → List A
 each f n = joined (λ i. f i ∷ []) n
-
--- a turn of the loop that fills it
-pub filled_next : {A : Type 0} (f : ℕ → A) (l : List A) (v : A) (i : ℕ) → i < length l → take i l ≡ each f i → v ≡ f i → take (i + 1) (set l i v) ≡ each f (i + 1)
-unfolding joined
-filled_next f l v i h e k = rw (add-one, take-suc-set l i v h, e, k)
 
 each_same : {A : Type 0} (f g : ℕ → A) (n : ℕ) → ((i : ℕ) → f i ≡ g i) → each f n ≡ each g n
 unfolding joined
@@ -99,10 +94,14 @@ module _ (lo hi : Float) (s : Stretch) where
     unfolding kept_cells
     kept_is i l = each_at (cell_kept lo hi s) cells i false l ∙ kept_clear i
 
-    pub filled : (keep : List Bool) (i : ℕ) → length keep ≡ cells → i ≡ cells → take i keep ≡ each clear i → keep ≡ kept_cells lo hi s
+    kept-length : length (kept_cells lo hi s) ≡ cells
     unfolding kept_cells
-    filled keep i long end same =
-        sym (take-length keep) ∙ ap (λ (n : ℕ). take n keep) (long ∙ sym end) ∙ same ∙ ap (each clear) end ∙ sym (each_same (cell_kept lo hi s) clear cells kept_clear)
+    kept-length = each-length (cell_kept lo hi s) cells
+
+    -- each cell told, one by one
+    pub all_told : (keep : List Bool) → length keep ≡ cells → ((i : ℕ) → i < cells → get_or keep i false ≡ clear i) → keep ≡ kept_cells lo hi s
+    all_told keep long told =
+        ext_get_or false keep (kept_cells lo hi s) (long ∙ sym kept-length) (λ i l. let b : i < cells = omega (arith, long) in told i b ∙ sym (kept_is i b))
 
 -- ---- of a ramp that may be sampled
 pub checked_kept : (ramp : Ramp) (was : Held) (s : Stretch) → held_check ramp was ≡ checked.Fine → (i : ℕ) → i < cells

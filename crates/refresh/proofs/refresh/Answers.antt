@@ -20,16 +20,16 @@ pub slice_bounds-copied_positions-end : goal.slice_bounds-copied_positions-end
 slice_bounds-copied_positions-end c =
     (c.check_and_copy.ensures.prepared _ c.in-Stops.is).placed
 
-pub slice_bounds-resample-end : goal.slice_bounds-resample-end
-slice_bounds-resample-end c =
+pub slice_bounds-changed-end : goal.slice_bounds-changed-end
+slice_bounds-changed-end c =
     sym (length-take-le _ _ (c.check_and_copy.ensures.prepared _ c.in-Stops.is).placed)
 
 pub slice_bounds-copied_channels-end : goal.slice_bounds-copied_channels-end
 slice_bounds-copied_channels-end c =
     (c.check_and_copy.ensures.prepared _ c.in-Stops.is).coloured
 
-pub slice_bounds-resample-end-in-Stops : goal.slice_bounds-resample-end-in-Stops
-slice_bounds-resample-end-in-Stops c =
+pub slice_bounds-changed-end-in-Stops : goal.slice_bounds-changed-end-in-Stops
+slice_bounds-changed-end-in-Stops c =
     sym (length-take-le _ _ (c.check_and_copy.ensures.prepared _ c.in-Stops.is).coloured)
 
 pub returns-in-Refused : goal.returns-in-Refused

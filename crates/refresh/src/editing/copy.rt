@@ -9,8 +9,9 @@ ghost use Rattle.refresh.specs.editing.Copied.{copy_fits, Copies};
 use crate::editing::Edit;
 use crate::editing::rules::check;
 use blend::Rgba;
+use gradient::Ramp;
 use refusals::{MISSHAPEN, MOST_STOPS};
-use stops::{Checked, Kind};
+use stops::Checked;
 
 // What a copy answers: how many stops the ramp has now, or the number of the refusal.
 #[derive(Clone, Copy)]
@@ -24,11 +25,7 @@ fn copy_run(from: &[f32], to: &mut [f32], at: usize)
     requires { at + length from.now ≤ length to.old }
     ensures { to.new ≡ sets to.old at from.now }
 {
-    let mut i = 0;
-    while i < from.len() {
-        to[at + i] = from[i];
-        i += 1;
-    }
+    to[at..at + from.len()].copy_from_slice(from);
 }
 
 // Copies a list with `gone` items at a place left out and others put in there.
@@ -64,13 +61,9 @@ fn copy_positions(positions: &[f32], edit: Edit, to: &mut [f32])
     ensures { to.new ≡ sets to.old 0 (positions_after positions.now edit) }
 {
     match edit {
-        Edit::Colour { stop: _, colour: _ } => copy_run(positions, to, 0),
+        Edit::Colour { .. } => copy_run(positions, to, 0),
         Edit::Move { stop, position } => splice_position(positions, stop, 1, position, to),
-        Edit::Add {
-            stop,
-            position,
-            colour: _,
-        } => splice_position(positions, stop, 0, position, to),
+        Edit::Add { stop, position, .. } => splice_position(positions, stop, 0, position, to),
         Edit::Remove { stop } => splice(positions, stop, 1, &positions[..0], to),
     }
 }
@@ -81,76 +74,47 @@ fn copy_channels(channels: &[f32], edit: Edit, to: &mut [f32])
 {
     match edit {
         Edit::Colour { stop, colour } => splice_colour(channels, 4 * stop, 4, colour, to),
-        Edit::Move {
-            stop: _,
-            position: _,
-        } => copy_run(channels, to, 0),
-        Edit::Add {
-            stop,
-            position: _,
-            colour,
-        } => splice_colour(channels, 4 * stop, 0, colour, to),
+        Edit::Move { .. } => copy_run(channels, to, 0),
+        Edit::Add { stop, colour, .. } => splice_colour(channels, 4 * stop, 0, colour, to),
         Edit::Remove { stop } => splice(channels, 4 * stop, 4, &channels[..0], to),
     }
 }
 
 // How many stops n become.
+#[tactic(auto, unfolding(refusals::specs::Limits::most_stops))]
 fn stops_after(n: usize, edit: Edit) -> usize
     requires { (stop_of edit + gone_of edit ≤ n) × (n ≤ most_stops) }
     ensures { result ≡ stops_after n edit }
 {
     match edit {
-        Edit::Colour { stop: _, colour: _ } => n,
-        Edit::Move {
-            stop: _,
-            position: _,
-        } => n,
-        Edit::Add {
-            stop: _,
-            position: _,
-            colour: _,
-        } => n + 1,
-        Edit::Remove { stop: _ } => n - 1,
+        Edit::Colour { .. } | Edit::Move { .. } => n,
+        Edit::Add { .. } => n + 1,
+        Edit::Remove { .. } => n - 1,
     }
 }
 
 // Whether there are four channels a stop, and room for one stop more.
+#[tactic(auto, unfolding(crate::specs::editing::Copied::copy_fits, refusals::specs::Limits::most_stops))]
 fn copy_fits(n: usize, channels: usize, places: usize, colours: usize) -> bool
     ensures { result ≡ copy_fits n channels places colours }
 {
-    if MOST_STOPS < n {
-        return false;
-    }
-    if channels != 4 * n {
-        return false;
-    }
-    if places <= n {
-        return false;
-    }
-    channels + 4 <= colours
+    n <= MOST_STOPS && channels == 4 * n && n < places && channels + 4 <= colours
 }
 
 // Writes the positions and the channels of the ramp with the edit made, and tells how many stops it has. A refusal writes
 // nothing.
-pub fn copy(
-    kind: Kind,
-    positions: &[f32],
-    channels: &[f32],
-    edit: Edit,
-    places: &mut [f32],
-    colours: &mut [f32],
-) -> Copied
-    ensures { Copies kind positions.now channels.now edit places.old colours.old places.new colours.new result }
+pub fn copy(ramp: &Ramp<'_>, edit: Edit, places: &mut [f32], colours: &mut [f32]) -> Copied
+    ensures { Copies ramp.now.kind ramp.now.positions.now ramp.now.channels.now edit places.old colours.old places.new colours.new result }
 {
-    match check(kind, positions, edit) {
+    match check(ramp.kind, ramp.positions, edit) {
         Checked::Refused(number) => Copied::Refused(number),
         Checked::Fine => {
-            let n = positions.len();
-            if !copy_fits(n, channels.len(), places.len(), colours.len()) {
+            let n = ramp.positions.len();
+            if !copy_fits(n, ramp.channels.len(), places.len(), colours.len()) {
                 return Copied::Refused(MISSHAPEN);
             }
-            copy_positions(positions, edit, places);
-            copy_channels(channels, edit, colours);
+            copy_positions(ramp.positions, edit, places);
+            copy_channels(ramp.channels, edit, colours);
             Copied::Stops(stops_after(n, edit))
         }
     }

@@ -20,54 +20,43 @@ fn reach_of(kind: Kind) -> usize
     ensures { result ≡ reach_of kind }
 {
     match kind {
-        Kind::Linear => 1,
-        Kind::Smoothstep => 1,
-        Kind::Sharp => 1,
-        Kind::Basis => 2,
-        Kind::CatmullRom => 2,
-        Kind::Gimp => 1,
-        Kind::GimpSaved => 1,
+        Kind::Basis | Kind::CatmullRom => 2,
+        _ => 1,
     }
 }
 
 // The position so many places to the left of stop k.
+#[tactic(auto, unfolding(crate::specs::reach::Stretch::left_end))]
 fn left_end(positions: &[f32], reach: usize, k: usize) -> f32
     ensures { result ≡ left_end reach positions.now k }
 {
     if k < reach {
-        return 0.0 / 0.0; // no stop stands there; the pair at the end reads a mirrored one
+        return f32::NAN; // no stop stands there; the pair at the end reads a mirrored one
     }
-    let left = k - reach;
-    item(positions, left)
+    item(positions, k - reach)
 }
 
 // The position of stop k where it is the last one, and else more than every position.
+#[tactic(auto, unfolding(crate::specs::reach::Stretch::own_end))]
 fn own_end(positions: &[f32], k: usize) -> f32
     ensures { result ≡ own_end positions.now k }
 {
-    if positions.len() <= k {
-        return 0.0 / 0.0;
+    if k < positions.len().saturating_sub(1) {
+        f32::INFINITY
+    } else {
+        item(positions, k)
     }
-    if k + 1 < positions.len() {
-        return 1.0 / 0.0;
-    }
-    positions[k]
 }
 
-// The position so many places to the right of stop k. What is left of the stops is compared, so that no sum can wrap.
+// The position so many places to the right of stop k.
 fn right_end(positions: &[f32], reach: usize, k: usize) -> f32
     ensures { result ≡ right_end reach positions.now k }
 {
-    if positions.len() <= k {
-        return 0.0 / 0.0;
-    }
-    if reach < positions.len() - k {
-        return positions[k + reach];
-    }
-    0.0 / 0.0
+    item(positions, k.saturating_add(reach))
 }
 
 // The stretch of a change of the colour of stop k.
+#[tactic(auto, unfolding(crate::specs::reach::Stretch::colour_stretch))]
 pub(crate) fn colour_stretch(kind: Kind, positions: &[f32], k: usize) -> Stretch
     ensures { result ≡ colour_stretch (reach_of kind) positions.now k }
 {
@@ -86,36 +75,34 @@ pub(crate) fn stretch_between(positions: &[f32], i: usize, j: usize) -> Stretch
     let high = item(positions, j);
     Stretch {
         low,
-        below: 1.0 / 0.0,
+        below: f32::INFINITY,
         high,
     }
 }
 
+#[tactic(auto, unfolding(crate::specs::reach::Stretch::before_of))]
 fn lies_before(s: Stretch, t: f32) -> bool
     ensures { result ≡ before_of s t }
 {
-    if t <= s.low {
-        return t < s.below;
-    }
-    false
+    t <= s.low && t < s.below
 }
 
+#[tactic(auto, unfolding(crate::specs::reach::Stretch::after_of))]
 fn lies_after(s: Stretch, t: f32) -> bool
     ensures { result ≡ after_of s t }
 {
     s.high < t
 }
 
+#[tactic(auto, unfolding(crate::specs::reach::Stretch::outside_of))]
 fn outside(s: Stretch, t: f32) -> bool
     ensures { result ≡ outside_of s t }
 {
-    if lies_before(s, t) {
-        return true;
-    }
-    lies_after(s, t)
+    lies_before(s, t) || lies_after(s, t)
 }
 
 // Whether every midpoint of `left` full halvings is outside.
+#[tactic(auto, unfolding(crate::specs::reach::Stretch::mids_outside))]
 fn mids_outside(s: Stretch, t0: f32, t1: f32, left: usize) -> bool
     ensures { result ≡ mids_outside (outside_of s) left t0 t1 }
 {
@@ -124,36 +111,21 @@ fn mids_outside(s: Stretch, t0: f32, t1: f32, left: usize) -> bool
     }
     let mid = (t0 + t1) / 2.0;
     let n = left - 1;
-    if !outside(s, mid) {
-        return false;
-    }
-    if !mids_outside(s, t0, mid, n) {
-        return false;
-    }
-    mids_outside(s, mid, t1, n)
+    outside(s, mid) && mids_outside(s, t0, mid, n) && mids_outside(s, mid, t1, n)
 }
 
 // Whether the cell from t0 to t1 is clear. With both ends on one and the same outer side it is, and no midpoint
 // is tried.
+#[tactic(auto, unfolding(crate::specs::reach::Stretch::clear_of))]
 pub(crate) fn is_clear(s: Stretch, t0: f32, t1: f32) -> bool
     requires { Within t0 × Within t1 }
     ensures { result ≡ clear_of (outside_of s) t0 t1 }
 {
-    if lies_before(s, t0) {
-        if lies_before(s, t1) {
-            return true;
-        }
+    if lies_before(s, t0) && lies_before(s, t1) {
+        return true;
     }
-    if lies_after(s, t0) {
-        if lies_after(s, t1) {
-            return true;
-        }
+    if lies_after(s, t0) && lies_after(s, t1) {
+        return true;
     }
-    if !outside(s, t0) {
-        return false;
-    }
-    if !outside(s, t1) {
-        return false;
-    }
-    mids_outside(s, t0, t1, Sampler::DEPTH)
+    outside(s, t0) && outside(s, t1) && mids_outside(s, t0, t1, Sampler::DEPTH)
 }

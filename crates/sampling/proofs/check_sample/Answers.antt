@@ -8,4 +8,4 @@ pub returns-in-Refused : goal.returns-in-Refused
 returns-in-Refused c = checks (first_refuses _ _ _ _ _ (sym c.check.ensures.answer ∙ c.in-Refused.is))
 
 pub returns-in-Fine : goal.returns-in-Fine
-returns-in-Fine c = checks (first_passes _ _ _ _ _ _ _ (sym c.check.ensures.answer ∙ c.in-Fine.is) c.min_of.ensures c.max_of.ensures c.check_shape.ensures)
+returns-in-Fine c = checks (first_passes _ _ _ _ _ _ _ (sym c.check.ensures.answer ∙ c.in-Fine.is) c.min.ensures c.max.ensures c.check_shape.ensures)

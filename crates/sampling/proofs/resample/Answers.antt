@@ -26,4 +26,4 @@ returns-in-Refused c = resample_refused _ _ _ _ _ (sym c.check_sample.ensures.an
 
 pub returns-in-Fine : goal.returns-in-Fine
 returns-in-Fine c =
-    resample_done _ _ _ _ _ _ _ _ _ (sym c.check_sample.ensures.answer ∙ c.in-Fine.is) (far_by_cutoff _ _ c.cutoff_of-cutoff.ensures) c.min_of-min.ensures c.max_of-max.ensures c.resample_cells-n.ensures c.put.ensures
+    resample_done _ _ _ _ _ _ _ _ _ (sym c.check_sample.ensures.answer ∙ c.in-Fine.is) (far_by_cutoff _ _ c.cutoff_of-cutoff.ensures) c.min-min.ensures c.max-max.ensures c.resample_cells-n.ensures c.put.ensures

@@ -1,7 +1,7 @@
 -- What the functions within promise each other.
 use Rattle.std.specs.Prelude.{◌≡◌, Bool, true, cond, List, ℕ, ◌+◌, ◌*◌, ◌≤◌, length, set, Float}
 use Rattle.std.proofs.lemmas.List.Edits.{sets}
-use Rattle.stops.specs.Lent.{Ramp, Change, Slice, Lent, ramp_in, lent_ramp}
+use Rattle.stops.specs.Lent.{Ramp, Change}
 use Rattle.stops.specs.Segments.{is_catmull_rom}
 use Rattle.stops.specs.declared.Checked.TheVariants.{Fine}
 use Rattle.gradient.specs.Ramp.{check_of, colour_of}
@@ -18,13 +18,7 @@ use Rattle.sampling.specs.declared.Halved.{Halved}
 use Rattle.sampling.specs.declared.Carried.{Carried}
 use Rattle.sampling.specs.declared.Task.{Task}
 
--- ---- a task: its ramp, in a `requires`; its colours, in an `ensures`; its test; the left end of its cell i
-abbrev pub task_ramp : Task → Slice Float → Slice Float → Slice ℕ → Ramp
-task_ramp task = ramp_in task.kind
-
-abbrev pub task_colours : Task → Lent Float → Lent Float → Lent ℕ → Gradient
-task_colours task positions channels codes = colour_of (lent_ramp task.kind positions channels codes)
-
+-- ---- a task: its test; the left end of its cell i
 abbrev pub task_far : Task → Far
 task_far task = exceeds task.cutoff
 

@@ -2,10 +2,10 @@
 use Rattle.segment.proofs.Rows.{segment_none, segment_some}
 use Rattle.segment.proofs.segment_at.Goals as goal
 
-pub returns-then-not-makes_segment : goal.returns-then-not-makes_segment
-returns-then-not-makes_segment c = let a = c.args in
-    segment_none a.rules a.fg a.bg (rw c.notation_by.ensures at c.row_at-row.ensures) c.makes_segment.ensures (c.if-not-makes_segment.true)
+pub returns-else-makes_segment : goal.returns-else-makes_segment
+returns-else-makes_segment c = let a = c.args in
+    segment_none a.rules a.fg a.bg (rw c.notation.ensures at c.row_at-row.ensures) c.makes_segment.ensures (c.if-makes_segment.false)
 
-pub returns : goal.returns
-returns c = let a = c.args in
-    segment_some a.rules a.fg a.bg (rw c.notation_by.ensures at c.row_at-row.ensures) c.makes_segment.ensures (c.if-not-makes_segment.false) _ c.built-read.ensures
+pub returns-then-makes_segment : goal.returns-then-makes_segment
+returns-then-makes_segment c = let a = c.args in
+    segment_some a.rules a.fg a.bg (rw c.notation.ensures at c.row_at-row.ensures) c.makes_segment.ensures (c.if-makes_segment.true) _ c.built-read.ensures

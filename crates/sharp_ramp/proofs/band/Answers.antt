@@ -5,11 +5,11 @@ use Rattle.sharp_ramp.proofs.band.Goals as goal
 pub returns-then-j-gt0 : goal.returns-then-j-gt0
 returns-then-j-gt0 c = let a = c.args in band_left a.min a.max a.inset a.n a.j c.if-j-eq0.true c.linspace-left.ensures c.if-j-gt0.true
 
-pub returns-then-j-eq0 : goal.returns-then-j-eq0
-returns-then-j-eq0 c = let a = c.args in band_first a.min a.max a.inset a.n a.j c.if-j-eq0.true c.linspace-left.ensures c.if-j-gt0.false
+pub returns-else-j-gt0 : goal.returns-else-j-gt0
+returns-else-j-gt0 c = let a = c.args in band_first a.min a.max a.inset a.n a.j c.if-j-eq0.true c.linspace-left.ensures c.if-j-gt0.false
 
 pub returns-then-j-n : goal.returns-then-j-n
 returns-then-j-n c = let a = c.args in band_right a.min a.max a.inset a.n a.j c.if-j-eq0.false c.linspace-right.ensures c.if-j-n.true
 
-pub returns : goal.returns
-returns c = let a = c.args in band_last a.min a.max a.inset a.n a.j c.if-j-eq0.false c.linspace-right.ensures c.if-j-n.false
+pub returns-else-j-n : goal.returns-else-j-n
+returns-else-j-n c = let a = c.args in band_last a.min a.max a.inset a.n a.j c.if-j-eq0.false c.linspace-right.ensures c.if-j-n.false

@@ -1,166 +1,100 @@
 -- `sharp::build` meets its contract: each answer follows from what the calls before it ensure; only past the last test are the outputs written. Assumes nothing.
 use mathlib.Core.Path.{◌≡◌, refl, sym, ◌∙◌, ap}
-use mathlib.Core.Bool.{true}
-use mathlib.Core.List.{List}
+use mathlib.Core.Bool.{Bool, true}
+use mathlib.Core.List.{List, ◌++◌}
 use Prim.Native.Nat.{ℕ, ◌*◌, ◌≤◌}
 use native.Mathlib.Omega.{arith}
-use lib.ListN.{length, take}
+use lib.ListN.{length, take, drop, length-take}
 use lib.Ieee.{Float, inf}
-use Rattle.refusals.specs.Limits.{most_colours}
 use Rattle.float.proofs.Flags.{failed, passed}
 use Rattle.stops.specs.Stops.{steady}
-use Rattle.sharp_ramp.specs.Sharp.{sharp_positions, sharp_channels, domain_fits, bands}
-use Rattle.sharp_ramp.proofs.Laws.{builds, few, Room, room, build_domain, build_fit, build_room, build_finite, build_stops, length_positions, length_channels, longer, after_refused, after_stops, after_copy}
+use Rattle.sharp_ramp.specs.Sharp.{sharp_positions, sharp_channels, bands}
+use Rattle.sharp_ramp.proofs.Laws.{builds, few, room, build_domain, build_fit, build_room, build_finite, build_stops, length_positions, length_channels, longer, after_refused, after_stops}
 use Rattle.sharp_ramp.proofs.build.Goals as goal
-use Rattle.sharp_ramp.proofs.build.Lts
-use Rattle.sharp_ramp.proofs.build.Tie
-use Rattle.sharp_ramp.proofs.build.Reads
 
-abbrev At-Start : Type 0
-At-Start = Lts.Start Tie.the-claims Reads.Pre Reads.Post
+-- the positions that are built aside: how many they are, and how they are judged
+module _ (min max s : Float) (n : ℕ) (aside : List Float) (e : take (2 * n) aside ≡ sharp_positions min max s n) where
+  many : 2 * n ≡ length (take (2 * n) aside)
+  many = sym (ap length e ∙ length_positions min max s n)
 
-abbrev At-Else-not-domain_fits : Type 0
-At-Else-not-domain_fits = Lts.Else1 Tie.the-claims Reads.Pre Reads.Post
+  long_enough : 2 * n ≤ length aside
+  long_enough = longer (2 * n) aside (take (2 * n) aside) refl (sym many)
 
-abbrev At-After-write_positions : Type 0
-At-After-write_positions = Lts.After-write_positions Tie.the-claims Reads.Pre Reads.Post
+  judged : {t : Bool} → t ≡ steady max (inf true) (take (2 * n) aside) → t ≡ steady max (inf true) (sharp_positions min max s n)
+  judged h = h ∙ ap (steady max (inf true)) e
 
-abbrev At-After-is_steady : Type 0
-At-After-is_steady = Lts.After-is_steady Tie.the-claims Reads.Pre Reads.Post
-
-abbrev At-Else-not-is_roomy : Type 0
-At-Else-not-is_roomy = Lts.Else3 Tie.the-claims Reads.Pre Reads.Post
-
--- the colours, and what is to be written of them
-abbrev colours : At-Start → List Float
-colours c = c.args.colours.now
-
-abbrev wanted : At-Start → List Float
-wanted c = sharp_positions c.args.min c.args.max c.args.softness (bands (colours c))
-
-abbrev wide : At-Start → List Float
-wide c = sharp_channels (colours c) (bands (colours c))
-
--- where the domain is known to fit; s1, e1, w2 and w3 go back to an earlier place
-abbrev s1 : At-Else-not-domain_fits → At-Start
-s1 c = c.before.before.before.before.before
-
-on : (c : At-Else-not-domain_fits) → domain_fits (bands (colours (s1 c))) (s1 c).args.min (s1 c).args.max ≡ true
-on c = passed c.if-not-domain_fits.false c.domain_fits.ensures
-
-most : (c : At-Else-not-domain_fits) → bands (colours (s1 c)) ≤ most_colours
-most c = (few (bands (colours (s1 c))) (s1 c).args.min (s1 c).args.max (on c)).most
-
--- where the positions are built aside
-abbrev e1 : At-After-write_positions → At-Else-not-domain_fits
-e1 c = c.before.before
-
-abbrev aside : At-After-write_positions → List Float
-aside c = c.write_positions.new.positions
-
-abbrev m : At-After-write_positions → ℕ
-m c = 2 * bands (colours (s1 (e1 c)))
-
-part : (c : At-After-write_positions) → take (m c) (aside c) ≡ wanted (s1 (e1 c))
-part c = c.write_positions.ensures
-
-part_length : (c : At-After-write_positions) → m c ≡ length (take (m c) (aside c))
-part_length c = let a = (s1 (e1 c)).args in sym (ap length (part c) ∙ length_positions a.min a.max a.softness (bands (colours (s1 (e1 c)))))
-
-long_enough : (c : At-After-write_positions) → m c ≤ length (aside c)
-long_enough c = longer (m c) (aside c) (take (m c) (aside c)) refl (sym (part_length c))
-
--- where they are judged
-abbrev w2 : At-After-is_steady → At-After-write_positions
-w2 c = c.before.before.before
-
-judged : (c : At-After-is_steady) → c.is_steady.result ≡ steady (s1 (e1 (w2 c))).args.max (inf true) (wanted (s1 (e1 (w2 c))))
-judged c = c.is_steady.ensures ∙ ap (λ (l : List Float). steady (s1 (e1 (w2 c))).args.max (inf true) l) (part (w2 c))
-
--- where there is room
-abbrev w3 : At-Else-not-is_roomy → At-After-write_positions
-w3 c = w2 c.before.before.before
-
-there : (c : At-Else-not-is_roomy) → let s = s1 (e1 (w3 c)) in Room (length (colours s)) (bands (colours s)) (length s.args.positions.now) (length s.args.channels.now)
-there c = let s = s1 (e1 (w3 c)) in room (length (colours s)) (bands (colours s)) (length s.args.positions.now) (length s.args.channels.now) (passed c.if-not-is_roomy.false c.is_roomy.ensures)
+taken : (k : ℕ) (l : List Float) → k ≤ length l → k ≡ length (take k l)
+taken k l h = omega (arith, length-take k l)
 
 pub returns-then-not-domain_fits : goal.returns-then-not-domain_fits
 returns-then-not-domain_fits c =
-    let s = c.before.before.before.before.before.before in
-    let a = s.args in
-    let answer =
-    build_domain (colours s) a.min a.max a.softness (length a.positions.now) (length a.channels.now)
-    (failed c.if-not-domain_fits.true c.domain_fits.ensures) in
-    builds answer (after_refused 17 (wanted s) a.positions.now) (after_refused 17 (wide s) a.channels.now)
+    let a = c.args in
+    builds (build_domain a.colours.now a.min a.max a.softness _ _ (failed c.if-not-domain_fits.true c.domain_fits.ensures)) (after_refused 17 _ _) (after_refused 17 _ _)
 
 pub write_positions-requires : goal.write_positions-requires
-write_positions-requires c = let h = most c.before.before in (h, omega arith)
+write_positions-requires c =
+    let h = (few _ _ _ (passed c.if-not-domain_fits.false c.domain_fits.ensures)).most in (h, omega arith)
 
 pub slice_bounds-built-end : goal.slice_bounds-built-end
-slice_bounds-built-end c = long_enough c.before.before
+slice_bounds-built-end c = long_enough _ _ _ _ _ c.write_positions.ensures
 
 pub slice_bounds-is_steady-end : goal.slice_bounds-is_steady-end
-slice_bounds-is_steady-end c = part_length c.before.before.before
+slice_bounds-is_steady-end c = many _ _ _ _ _ c.write_positions.ensures
 
 pub returns-then-not-is_steady : goal.returns-then-not-is_steady
 returns-then-not-is_steady c =
-    let s = s1 (e1 (w2 c.before.before)) in
-    let a = s.args in
-    let answer =
-    build_fit (colours s) a.min a.max a.softness (length a.positions.now) (length a.channels.now)
-    (failed c.if-not-is_steady.true (judged c.before.before))
-    (on (e1 (w2 c.before.before))) in
-    builds answer (after_refused 17 (wanted s) a.positions.now) (after_refused 17 (wide s) a.channels.now)
+    let a = c.args in
+    let on = passed c.if-not-domain_fits.false c.domain_fits.ensures in
+    builds (build_fit a.colours.now a.min a.max a.softness _ _ (failed c.if-not-is_steady.true (judged _ _ _ _ _ c.write_positions.ensures c.is_steady.ensures)) on) (after_refused 17 _ _) (after_refused 17 _ _)
 
 pub is_roomy-requires : goal.is_roomy-requires
-is_roomy-requires c = most (e1 (w2 c.before.before))
+is_roomy-requires c = (few _ _ _ (passed c.if-not-domain_fits.false c.domain_fits.ensures)).most
 
 pub returns-then-not-is_roomy : goal.returns-then-not-is_roomy
 returns-then-not-is_roomy c =
-    let s = s1 (e1 (w2 c.before.before.before.before)) in
-    let a = s.args in
-    let answer =
-    build_room (colours s) a.min a.max a.softness (length a.positions.now) (length a.channels.now)
-    (failed c.if-not-is_roomy.true c.is_roomy.ensures)
-    (passed c.if-not-is_steady.false (judged c.before.before.before.before))
-    (on (e1 (w2 c.before.before.before.before))) in
-    builds answer (after_refused 1 (wanted s) a.positions.now) (after_refused 1 (wide s) a.channels.now)
+    let a = c.args in
+    let on = passed c.if-not-domain_fits.false c.domain_fits.ensures in
+    let fit = passed c.if-not-is_steady.false (judged _ _ _ _ _ c.write_positions.ensures c.is_steady.ensures) in
+    builds (build_room a.colours.now a.min a.max a.softness _ _ (failed c.if-not-is_roomy.true c.is_roomy.ensures) fit on) (after_refused 1 _ _) (after_refused 1 _ _)
 
 pub returns-then-not-all_finite : goal.returns-then-not-all_finite
 returns-then-not-all_finite c =
-    let s = s1 (e1 (w2 c.before.before.before.before.before.before)) in
-    let a = s.args in
-    let answer =
-    build_finite (colours s) a.min a.max a.softness (length a.positions.now) (length a.channels.now)
-    (failed c.if-not-all_finite.true c.all_finite.ensures)
-    (passed c.if-not-is_roomy.false c.is_roomy.ensures)
-    (passed c.if-not-is_steady.false (judged c.before.before.before.before.before.before))
-    (on (e1 (w2 c.before.before.before.before.before.before))) in
-    builds answer (after_refused 2 (wanted s) a.positions.now) (after_refused 2 (wide s) a.channels.now)
+    let a = c.args in
+    let on = passed c.if-not-domain_fits.false c.domain_fits.ensures in
+    let fit = passed c.if-not-is_steady.false (judged _ _ _ _ _ c.write_positions.ensures c.is_steady.ensures) in
+    let there = passed c.if-not-is_roomy.false c.is_roomy.ensures in
+    builds (build_finite a.colours.now a.min a.max a.softness _ _ (failed c.if-not-all_finite.true c.all_finite.ensures) there fit on) (after_refused 2 _ _) (after_refused 2 _ _)
+
+pub slice_bounds-copy_from_slice-end : goal.slice_bounds-copy_from_slice-end
+slice_bounds-copy_from_slice-end c = (room _ _ _ _ (passed c.if-not-is_roomy.false c.is_roomy.ensures)).positions
+
+pub slice_bounds-copy_from_slice-end-2 : goal.slice_bounds-copy_from_slice-end-2
+slice_bounds-copy_from_slice-end-2 c = taken _ _ (room _ _ _ _ (passed c.if-not-is_roomy.false c.is_roomy.ensures)).positions
 
 pub slice_bounds-built-end-2 : goal.slice_bounds-built-end-2
-slice_bounds-built-end-2 c = long_enough (w3 c.before.before.before)
+slice_bounds-built-end-2 c = long_enough _ _ _ _ _ c.write_positions.ensures
 
-pub slice_bounds-copy-end : goal.slice_bounds-copy-end
-slice_bounds-copy-end c = part_length (w3 c.before.before.before.before)
+pub slice_bounds-copy_from_slice-end-3 : goal.slice_bounds-copy_from_slice-end-3
+slice_bounds-copy_from_slice-end-3 c = many _ _ _ _ _ c.write_positions.ensures
 
-pub copy-requires : goal.copy-requires
-copy-requires c = let r = c.before.before.before.before.before in let e = part_length (w3 r) in let h = (there r).positions in omega arith
+pub copy_from_slice-requires : goal.copy_from_slice-requires
+copy_from_slice-requires c =
+    sym (taken _ _ (room _ _ _ _ (passed c.if-not-is_roomy.false c.is_roomy.ensures)).positions) ∙ many _ _ _ _ _ c.write_positions.ensures
 
 pub write_channels-requires : goal.write_channels-requires
-write_channels-requires c = let r = c.before.before.before.before.before.before.before.before.before in (most (e1 (w3 r)), (there r).whole, (there r).channels)
+write_channels-requires c =
+    let there = room _ _ _ _ (passed c.if-not-is_roomy.false c.is_roomy.ensures) in
+    ((few _ _ _ (passed c.if-not-domain_fits.false c.domain_fits.ensures)).most, there.whole, there.channels)
 
 pub returns : goal.returns
 returns c =
-    let r = c.before.before.before.before.before.before.before.before.before.before.before.before in
-    let s = s1 (e1 (w3 r)) in
-    let a = s.args in
-    let answer =
-    build_stops (colours s) a.min a.max a.softness (length a.positions.now) (length a.channels.now)
-    (passed c.if-not-all_finite.false c.all_finite.ensures)
-    (passed r.if-not-is_roomy.false r.is_roomy.ensures)
-    (passed r.if-not-is_steady.false (judged r.before.before.before))
-    (on (e1 (w2 r.before.before.before))) in
-    let positions = after_copy (m (w3 r)) (wanted s) a.positions.now (take (m (w3 r)) (aside (w3 r))) (part (w3 r)) c.copy.ensures in
-    let channels = after_stops (m (w3 r)) (8 * bands (colours s)) (wide s) a.channels.now (length_channels (colours s) (bands (colours s))) c.write_channels.ensures in
-    builds answer positions channels
+    let a = c.args in
+    let n = bands a.colours.now in
+    let on = passed c.if-not-domain_fits.false c.domain_fits.ensures in
+    let fit = passed c.if-not-is_steady.false (judged _ _ _ _ _ c.write_positions.ensures c.is_steady.ensures) in
+    let there = passed c.if-not-is_roomy.false c.is_roomy.ensures in
+    let copied = ap (λ (l : List Float). l ++ drop (2 * n) a.positions.now) (c.copy_from_slice.ensures.after ∙ c.write_positions.ensures) in
+    builds
+    (build_stops a.colours.now a.min a.max a.softness _ _ (passed c.if-not-all_finite.false c.all_finite.ensures) there fit on)
+    (after_stops (2 * n) (2 * n) (sharp_positions a.min a.max a.softness n) a.positions.now (length_positions a.min a.max a.softness n) copied)
+    (after_stops (2 * n) (8 * n) (sharp_channels a.colours.now n) a.channels.now (length_channels a.colours.now n) c.write_channels.ensures)

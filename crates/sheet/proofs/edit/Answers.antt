@@ -49,17 +49,17 @@ channels_of-m-requires c = (fit_is _ _ _ _ (sym c.fits.ensures ∙ c.if-not-fits
 pub with_room-made-requires : goal.with_room-made-requires
 with_room-made-requires c = (fit_is _ _ _ _ (sym c.fits.ensures ∙ c.if-not-fits.false)).most
 
-pub slice_bounds-refresh-end : goal.slice_bounds-refresh-end
-slice_bounds-refresh-end c = positions_held _ _ _ _ (sym c.fits.ensures ∙ c.if-not-fits.false) c.positions_of-n.ensures
+pub slice_bounds-ramp-end : goal.slice_bounds-ramp-end
+slice_bounds-ramp-end c = positions_held _ _ _ _ (sym c.fits.ensures ∙ c.if-not-fits.false) c.positions_of-n.ensures
 
-pub slice_bounds-refresh-end-2 : goal.slice_bounds-refresh-end-2
-slice_bounds-refresh-end-2 c = sym (length-take-le _ _ (positions_held _ _ _ _ (sym c.fits.ensures ∙ c.if-not-fits.false) c.positions_of-n.ensures))
+pub slice_bounds-ramp-end-2 : goal.slice_bounds-ramp-end-2
+slice_bounds-ramp-end-2 c = sym (length-take-le _ _ (positions_held _ _ _ _ (sym c.fits.ensures ∙ c.if-not-fits.false) c.positions_of-n.ensures))
 
-pub slice_bounds-refresh-end-3 : goal.slice_bounds-refresh-end-3
-slice_bounds-refresh-end-3 c = channels_held _ _ _ _ (sym c.fits.ensures ∙ c.if-not-fits.false) c.channels_of-m.ensures
+pub slice_bounds-ramp-end-3 : goal.slice_bounds-ramp-end-3
+slice_bounds-ramp-end-3 c = channels_held _ _ _ _ (sym c.fits.ensures ∙ c.if-not-fits.false) c.channels_of-m.ensures
 
-pub slice_bounds-refresh-end-4 : goal.slice_bounds-refresh-end-4
-slice_bounds-refresh-end-4 c = sym (length-take-le _ _ (channels_held _ _ _ _ (sym c.fits.ensures ∙ c.if-not-fits.false) c.channels_of-m.ensures))
+pub slice_bounds-ramp-end-4 : goal.slice_bounds-ramp-end-4
+slice_bounds-ramp-end-4 c = sym (length-take-le _ _ (channels_held _ _ _ _ (sym c.fits.ensures ∙ c.if-not-fits.false) c.channels_of-m.ensures))
 
 pub returns-in-Refused : goal.returns-in-Refused
 returns-in-Refused c =
@@ -77,21 +77,21 @@ make-left-requires c =
 pub overflow_mul-m : goal.overflow_mul-m
 overflow_mul-m c = omega (arith, few c.before.before.before.before.before)
 
-pub slice_bounds-list-end : goal.slice_bounds-list-end
-slice_bounds-list-end c = positions_there c.before.before.before.before.before
+pub slice_bounds-ramp-end-in-Done : goal.slice_bounds-ramp-end-in-Done
+slice_bounds-ramp-end-in-Done c = positions_there c.before.before.before.before.before
 
-pub slice_bounds-list-end-in-Done : goal.slice_bounds-list-end-in-Done
-slice_bounds-list-end-in-Done c = sym (length-take-le _ _ (positions_there c.before.before.before.before.before))
+pub slice_bounds-ramp-end-in-Done-2 : goal.slice_bounds-ramp-end-in-Done-2
+slice_bounds-ramp-end-in-Done-2 c = sym (length-take-le _ _ (positions_there c.before.before.before.before.before))
 
-pub slice_bounds-list-end-in-Done-2 : goal.slice_bounds-list-end-in-Done-2
-slice_bounds-list-end-in-Done-2 c = channels_there c.before.before.before.before.before
+pub slice_bounds-ramp-end-in-Done-3 : goal.slice_bounds-ramp-end-in-Done-3
+slice_bounds-ramp-end-in-Done-3 c = channels_there c.before.before.before.before.before
 
-pub slice_bounds-list-end-in-Done-3 : goal.slice_bounds-list-end-in-Done-3
-slice_bounds-list-end-in-Done-3 c = sym (length-take-le _ _ (channels_there c.before.before.before.before.before))
+pub slice_bounds-ramp-end-in-Done-4 : goal.slice_bounds-ramp-end-in-Done-4
+slice_bounds-ramp-end-in-Done-4 c = sym (length-take-le _ _ (channels_there c.before.before.before.before.before))
 
 pub returns-in-Done : goal.returns-in-Done
 returns-in-Done c =
-    let k = c.before.before.before.before.before.before.before.before.before.before.before.before in
+    let k = c.before.before.before.before.before.before.before.before.before.before.before.before.before in
     let t = known k in
     edit_done (room k) c.args.stops c.args.edit _ _ (fits k) t.fine _ c.with_room-made.ensures _ _ _ c.make-left.ensures
     _ _ _ _ _ _ refl t.left t.spent_is c.list.ensures

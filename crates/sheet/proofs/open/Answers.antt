@@ -14,17 +14,11 @@ positions_of-n-requires c = (fit_is _ _ _ _ (sym c.fits.ensures ∙ c.if-not-fit
 pub channels_of-m-requires : goal.channels_of-m-requires
 channels_of-m-requires c = (fit_is _ _ _ _ (sym c.fits.ensures ∙ c.if-not-fits.false)).most
 
-pub slice_bounds-sample-end : goal.slice_bounds-sample-end
-slice_bounds-sample-end c = sym (length-take-le _ _ (positions_held _ _ _ _ (sym c.fits.ensures ∙ c.if-not-fits.false) c.positions_of-n.ensures))
+pub slice_bounds-own-end : goal.slice_bounds-own-end
+slice_bounds-own-end c = sym (length-take-le _ _ (positions_held _ _ _ _ (sym c.fits.ensures ∙ c.if-not-fits.false) c.positions_of-n.ensures))
 
-pub slice_bounds-sample-end-2 : goal.slice_bounds-sample-end-2
-slice_bounds-sample-end-2 c = sym (length-take-le _ _ (channels_held _ _ _ _ (sym c.fits.ensures ∙ c.if-not-fits.false) c.channels_of-m.ensures))
-
-pub slice_bounds-list-end : goal.slice_bounds-list-end
-slice_bounds-list-end c = sym (length-take-le _ _ (positions_held _ _ _ _ (sym c.fits.ensures ∙ c.if-not-fits.false) c.positions_of-n.ensures))
-
-pub slice_bounds-list-end-in-Done : goal.slice_bounds-list-end-in-Done
-slice_bounds-list-end-in-Done c = sym (length-take-le _ _ (channels_held _ _ _ _ (sym c.fits.ensures ∙ c.if-not-fits.false) c.channels_of-m.ensures))
+pub slice_bounds-own-end-2 : goal.slice_bounds-own-end-2
+slice_bounds-own-end-2 c = sym (length-take-le _ _ (channels_held _ _ _ _ (sym c.fits.ensures ∙ c.if-not-fits.false) c.channels_of-m.ensures))
 
 pub returns-in-Refused : goal.returns-in-Refused
 returns-in-Refused c =

@@ -9,6 +9,6 @@ pub returns-then-i-le512 : goal.returns-then-i-le512
 returns-then-i-le512 c =
     told_low c.args.i c.requires c.from_end.ensures c.height-h.ensures.0 c.if-n-h.false c.if-i-le512.true
 
-pub returns : goal.returns
-returns c =
+pub returns-else-i-le512 : goal.returns-else-i-le512
+returns-else-i-le512 c =
     told_high c.args.i c.requires c.from_end.ensures c.height-h.ensures.0 c.if-n-h.false c.if-i-le512.false

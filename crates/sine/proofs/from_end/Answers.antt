@@ -5,5 +5,5 @@ use Rattle.sine.proofs.from_end.Goals as goal
 pub returns-then-i-le512 : goal.returns-then-i-le512
 returns-then-i-le512 c = rw (le-leb _ _ c.if-i-le512.true)
 
-pub returns : goal.returns
-returns c = rw (lt-leb _ _ c.if-i-le512.false)
+pub returns-else-i-le512 : goal.returns-else-i-le512
+returns-else-i-le512 c = rw (lt-leb _ _ c.if-i-le512.false)

@@ -18,6 +18,6 @@ pub returns-then-z-lt1024 : goal.returns-then-z-lt1024
 returns-then-z-lt1024 c =
     index_same c.args.x (to_z-of_z {w = w64} (record { sfits = c.whole-z.type_inv }) ∙ c.whole-z.ensures) c.if-z-lt0.false c.if-z-lt1024.true
 
-pub returns : goal.returns
-returns c =
+pub returns-else-z-lt1024 : goal.returns-else-z-lt1024
+returns-else-z-lt1024 c =
     index_most c.args.x (to_z-of_z {w = w64} (record { sfits = c.whole-z.type_inv }) ∙ c.whole-z.ensures) c.if-z-lt1024.false

@@ -10,6 +10,6 @@ pub line-requires : goal.line-requires
 line-requires c =
     below_top c.args.f c.clamp-c.ensures c.index-i.ensures c.if-i-eq1024.false
 
-pub returns : goal.returns
-returns c =
+pub returns-else-i-eq1024 : goal.returns-else-i-eq1024
+returns-else-i-eq1024 c =
     beside c.args.f c.clamp-c.ensures c.index-i.ensures c.if-i-eq1024.false c.from_whole.ensures c.line.ensures

@@ -1,35 +1,17 @@
--- `zero_from` meets its contract: so far the places from `from` to i are +0. Assumes nothing.
-use mathlib.Core.List.{List}
-use mathlib.Core.Path.{◌≡◌, refl, ap, ◌∙◌}
-use Prim.Native.Nat.{◌-◌}
-use native.Mathlib.Omega.{arith}
-use native.Mathlib.Nat.{sub_self}
-use borrow.Author.Rules.{scaled_Fits}
-use lib.ListN.{length, set, length-set}
-use lib.Ieee.{Float}
+-- `zero_from` meets its contract: the front of the part is zero, and the rest as it was. Assumes nothing.
+use Rattle.std.proofs.Common.{◌≡◌, ◌-◌, ◌∙◌, length, replicate, take, drop, arith, length-take, length-drop}
+use lib.ListN.{length-replicate}
 use Rattle.float.specs.F32.{f0}
-use Rattle.slices.proofs.Stores.{fill_next}
+use Rattle.slices.proofs.Stores.{part_sets, fill_more, fill_all}
 use Rattle.slices.proofs.zero_from.Goals as goal
 
-pub loop-i-init : goal.loop-i-init
-loop-i-init c = (omega arith, omega arith, refl, rw sub_self)
+pub loop-place-preserved : goal.loop-place-preserved
+loop-place-preserved c = fill_more f0 _ _ _ (omega arith) c.loop-place.invariant
 
-pub offset_bounds-out-i : goal.offset_bounds-out-i
-offset_bounds-out-i c = scaled_Fits c.loop-i.i (length c.args.out.now) 4 (omega arith) c.well_formed.0.1
-
-pub loop-i-preserved : goal.loop-i-preserved
-loop-i-preserved c = (
-  omega arith,
-  omega arith,
-  simp length-set (omega arith),
-  ap (λ (l : List Float). set l c.loop-i.i f0) c.loop-i.invariant.3
-      ∙ fill_next c.args.out.now c.args.from c.loop-i.i _ f0 c.loop-i.invariant.0 refl,
-)
-
-pub shape_of-out : goal.shape_of-out
-shape_of-out c = c.loop-i.invariant.2
-
-pub returns : goal.returns
-returns c =
-    let e : c.loop-i.i - c.args.from ≡ length c.args.out.now - c.args.from = omega arith in
-    c.loop-i.invariant.3 ∙ rw e
+pub returns-after-loop-place : goal.returns-after-loop-place
+returns-after-loop-place c =
+    let l = c.args.out.now in
+    let rest = length c.args.out.now - c.args.from in
+    let long : length (take rest (drop c.args.from l)) ≡ rest = simp (length-take, length-drop) (omega arith) in
+    let zeros : c.loop-place.place-items ≡ replicate rest f0 = fill_all f0 _ (take rest (drop c.args.from l)) _ (omega arith) c.loop-place.invariant ∙ rw long in
+    rw zeros (part_sets l (replicate rest f0) c.args.from (length l) (omega arith) (omega arith) (length-replicate rest f0))

@@ -17,9 +17,6 @@ done c = found c.args.n c.args.k c.nearest_root-q.result c.requires c.nearest_ro
 pub overflow_cast-q : goal.overflow_cast-q
 overflow_cast-q c = let h = (done c).high in omega arith
 
-pub overflow_mul-result : goal.overflow_mul-result
-overflow_mul-result c = let h = c.requires.few in omega arith
-
 pub overflow_add-result : goal.overflow_add-result
 overflow_add-result c = let h = (done c).high in let l = c.requires.few in omega arith
 

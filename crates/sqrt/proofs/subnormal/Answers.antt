@@ -22,15 +22,6 @@ shift c = moved c.args.b c.requires.0 (few c)
 pub overflow_sub-z : goal.overflow_sub-z
 overflow_sub-z c = let h = (shift c).enough in omega arith
 
-pub overflow_sub-c : goal.overflow_sub-c
-overflow_sub-c c = let h = (shift c).few in omega arith
-
-pub overflow_shl-s : goal.overflow_shl-s
-overflow_shl-s c = let h = (shift c).few in omega arith
-
-pub overflow_sub-result : goal.overflow_sub-result
-overflow_sub-result c = let h = (shift c).few in omega arith
-
 pub overflow_add-result-2 : goal.overflow_add-result-2
 overflow_add-result-2 c = let h = (shift c).high in let e = moved_exact c.args.b c.requires.0 (few c) in omega arith
 

@@ -1,10 +1,7 @@
--- `is_same` meets its contract: of one length, the one starts the other only where they are the same. Assumes nothing.
+-- `is_same` meets its contract: slices are the same where their bytes are. Assumes nothing.
 use mathlib.Core.Path.{◌∙◌}
-use Rattle.text.proofs.Bytes.{same_length, same_not}
+use Rattle.text.proofs.Bytes.{same_is}
 use Rattle.text.proofs.is_same.Goals as goal
 
-pub returns-then-s-p : goal.returns-then-s-p
-returns-then-s-p c = same_not _ _ c.if-s-p.true
-
 pub returns : goal.returns
-returns c = c.starts_with.ensures ∙ same_length _ _ c.if-s-p.false
+returns c = c.eq.ensures ∙ same_is c.args.p.now c.args.s.now

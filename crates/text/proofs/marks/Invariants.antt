@@ -5,8 +5,8 @@ use lib.ListN.{length, drop}
 use Rattle.text.specs.Text.{unmark}
 use Rattle.text.proofs.marks.Given as goal
 
-abbrev pub invariant-loop-i : goal.invariant-loop-i
-invariant-loop-i l = (l.i ≤ length l.s) × (unmark (drop l.i l.s) ≡ unmark l.s)
+abbrev pub invariant-loop-at : goal.invariant-loop-at
+invariant-loop-at l = (l.at ≤ length l.s) × (unmark (drop l.at l.s) ≡ unmark l.s)
 
-abbrev pub decreases-loop-i : goal.decreases-loop-i
-decreases-loop-i l = length l.s - l.i
+abbrev pub decreases-loop-at : goal.decreases-loop-at
+decreases-loop-at l = length l.s - l.at

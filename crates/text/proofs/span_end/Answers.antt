@@ -20,5 +20,4 @@ loop-i-preserved c = let a = c.args in
     omega (arith, span_yes (in_class a.k) a.s.now c.loop-i.i (search rules) t)
 
 pub returns : goal.returns
-returns c = let a = c.args in
-    omega (arith, span_none (in_class a.k) a.s.now c.loop-i.i (search rules))
+returns c = grind (arith, span_none (in_class c.args.k) c.args.s.now)

@@ -1,28 +1,19 @@
 -- `trim_end` meets its contract: white space at the end makes no difference. Assumes nothing.
-use borrow.Author.Rules.{rules}
-use Prim.Native.Nat.{◌-◌}
+use Prim.Native.Nat.{ℕ, ◌+◌, ◌≤◌, ◌<◌}
 use native.Mathlib.Omega.{arith}
-use mathlib.Core.Path.{◌≡◌, sym, ◌∙◌}
+use mathlib.Core.Path.{◌≡◌}
 use mathlib.Core.Bool.{true, false}
-use lib.ListN.{get_or}
-use lib.Seq.{take-length}
-use Rattle.float.proofs.Flags.{failed, passed}
+use lib.ListN.{length, get_or}
+use Rattle.std.proofs.lemmas.Grind.{common_steps}
 use Rattle.text.specs.Text.{white}
-use Rattle.text.proofs.Bytes.{trim_less, trim_stop, trim_zero}
+use Rattle.text.proofs.Bytes.{trim_at}
 use Rattle.text.proofs.trim_end.Goals as goal
 
-pub loop-e-init : goal.loop-e-init
-loop-e-init c = (omega arith, rw (take-length c.args.s.now))
-
-pub returns-then-not-is_white : goal.returns-then-not-is_white
-returns-then-not-is_white c = let a = c.args in
-    let t : white (get_or a.s.now (c.loop-e.e - 1) 0) ≡ false = failed c.if-not-is_white.true c.is_white.ensures in
-    (search rules, sym (trim_stop a.s.now c.loop-e.e (search rules) (search rules) t) ∙ c.loop-e.invariant.1)
-
-pub loop-e-preserved : goal.loop-e-preserved
-loop-e-preserved c = let a = c.args in
-    let t : white (get_or a.s.now (c.loop-e.e - 1) 0) ≡ true = passed c.if-not-is_white.false c.is_white.ensures in
-    (search rules, sym (trim_less a.s.now c.loop-e.e (search rules) (search rules) t) ∙ c.loop-e.invariant.1)
-
 pub returns : goal.returns
-returns c = (search rules, sym (trim_zero c.args.s.now c.loop-e.e (omega arith)) ∙ c.loop-e.invariant.1)
+returns c =
+    let s = c.args.s.now in
+    let r = c.map_or.result in
+    let within : r ≤ length s = grind (arith, common_steps) in
+    let last : (n : ℕ) → r ≡ n + 1 → white (get_or s n 0) ≡ false = λ n e. grind (arith, common_steps) in
+    let after : (k : ℕ) → r ≤ k → k < length s → white (get_or s k 0) ≡ true = λ k i j. grind (arith, common_steps) in
+    (within, trim_at s r within last after)

@@ -1,7 +1,6 @@
 -- `trimmed` meets its contract: the run of white space at the front is left out, then that at the end. Assumes nothing.
 use native.Mathlib.Omega.{arith}
-use mathlib.Core.Path.{sym, ap, ◌∙◌}
-use lib.Seq.{length-take-le}
+use mathlib.Core.Path.{ap, ◌∙◌}
 use Rattle.text.specs.declared.Class.TheVariants.{White}
 use Rattle.text.specs.Text.{trim_end, trim}
 use Rattle.text.specs.Places.{in_class}
@@ -13,9 +12,6 @@ slice_bounds-t-count c = omega (arith, span-le (in_class White) c.args.s.now)
 
 pub slice_bounds-t-start : goal.slice_bounds-t-start
 slice_bounds-t-start c = omega (arith, span-le (in_class White) c.args.s.now)
-
-pub slice_bounds-result-end : goal.slice_bounds-result-end
-slice_bounds-result-end c = sym (length-take-le _ _ c.trim_end-e.ensures.0)
 
 pub returns : goal.returns
 unfolding trim

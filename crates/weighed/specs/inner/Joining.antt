@@ -1,6 +1,7 @@
 -- What the functions within promise each other.
-use Rattle.std.specs.Prelude.{◌≡◌, true, cond, List, [], ◌∷◌, ◌++◌, ℕ, suc, ◌+◌, ◌≤◌, ◌<◌, length, get_or, drop, Float}
+use Rattle.std.specs.Prelude.{◌≡◌, Option, None, Some, List, [], ◌∷◌, ◌++◌, ℕ, suc, ◌+◌, ◌≤◌, ◌<◌, length, get_or, drop, Float}
 use Rattle.std.proofs.lemmas.List.Edits.{sets}
+use Rattle.std.specs.Option.{IfSome}
 use Rattle.std.specs.Float.{nan}
 use Rattle.float.specs.Number.{above_of, below_of}
 use Rattle.places.specs.Places.{points_before, InRecord, Ready}
@@ -28,9 +29,9 @@ beside_left ps at = joined_with (drop at.below (belows ps)) (drop at.above (abov
 unfoldable pub own_left : List Float → Taken → List Site
 own_left ps at = joined_with (beside_left ps at) (drop at.lent (lents ps))
 
--- the next of each, where there is one
+-- the next of each
 abbrev pub next_of : Float → ℕ → Taken → Next
-next_of t m with' = record { some = true; t = t; mark = m; with = with' }
+next_of t m with' = record { t = t; mark = m; with = with' }
 
 abbrev pub next_below : List Float → Taken → Next
 next_below ps at = next_of (below_of (get_or ps at.below nan)) beside_mark (record { below = at.below + 1; lent = at.lent; above = at.above })
@@ -38,14 +39,15 @@ next_below ps at = next_of (below_of (get_or ps at.below nan)) beside_mark (reco
 abbrev pub next_above : List Float → Taken → Next
 next_above ps at = next_of (above_of (get_or ps at.above nan)) beside_mark (record { below = at.below; lent = at.lent; above = at.above + 1 })
 
--- the next in hand, and those left after it
-abbrev pub handed : (Taken → List Site) → Next → List Site
-handed left n = cond n.some (site n.t n.mark ∷ left n.with) []
+-- the next in hand, if there is one, and those left after it
+abbrev pub handed : (Taken → List Site) → Option Next → List Site
+handed left None = []
+handed left (Some n) = site n.t n.mark ∷ left n.with
 
 -- the next of the neighbours: no lent position is taken with it
-pub record NextBeside (ps : List Float) (at : Taken) (r : Next) : Type 0 where
+pub record NextBeside (ps : List Float) (at : Taken) (r : Option Next) : Type 0 where
   pub left : beside_left ps at ≡ handed (beside_left ps) r
-  pub lent : r.with.lent ≡ at.lent
+  pub lent : IfSome r (λ n. n.with.lent ≡ at.lent)
 
 -- ---- the merge: a record and positions, and what is left of them
 module _ (ps rows : List Float) (counts : List ℕ) (max : Float) where

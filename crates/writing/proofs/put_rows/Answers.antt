@@ -12,8 +12,5 @@ loop-i-init c = (refl, rowed_start c.args.out.now c.args.at c.args.n c.args.posi
 pub loop-i-preserved : goal.loop-i-preserved
 loop-i-preserved c = (from_size c.put_stop-next.ensures ∙ c.loop-i.invariant.0, rowed_next (search rules) c.stop.ensures c.loop-i.invariant.1 c.put_stop-next.ensures (omega arith))
 
-pub shape_of-out : goal.shape_of-out
-shape_of-out c = c.loop-i.invariant.0
-
 pub returns : goal.returns
 returns c = rowed_done (search rules) c.loop-i.invariant.1

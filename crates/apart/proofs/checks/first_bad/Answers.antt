@@ -13,12 +13,9 @@ pub returns-then-not-is_good : goal.returns-then-not-is_good
 returns-then-not-is_good c =
     sym (fails_here _ _ _ c.loop-i-test.true (failed c.if-not-is_good.true c.is_good.ensures)) ∙ c.loop-i.invariant
 
-pub loop-i-smaller : goal.loop-i-smaller
-loop-i-smaller c = omega (arith, c.loop-i-test.true)
-
 pub loop-i-preserved : goal.loop-i-preserved
 loop-i-preserved c =
     goes_on _ _ _ c.loop-i-test.true (passed c.if-not-is_good.false c.is_good.ensures) ∙ c.loop-i.invariant
 
 pub returns : goal.returns
-returns c = sym (none_left _ _ _ c.loop-i-test.false) ∙ c.loop-i.invariant
+returns c = omega arith ∙ sym (none_left _ _ _ c.loop-i-test.false) ∙ c.loop-i.invariant

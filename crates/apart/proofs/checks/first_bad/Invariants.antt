@@ -8,6 +8,3 @@ use Rattle.apart.proofs.checks.first_bad.Given as goal
 
 abbrev pub invariant-loop-i : goal.invariant-loop-i
 invariant-loop-i l = first_failing (good_depth l.min l.max l.depths) (length l.depths - l.i) l.i ≡ first_bad_depth l.min l.max l.depths
-
-abbrev pub decreases-loop-i : goal.decreases-loop-i
-decreases-loop-i l = length l.depths - l.i

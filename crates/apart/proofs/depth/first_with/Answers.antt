@@ -1,12 +1,16 @@
 -- `first_with` meets its contract: test by test. Assumes nothing.
-use Rattle.apart.proofs.Counting.{was_first, is_first, not_first}
+use Rattle.std.proofs.Common.{rules}
+use Rattle.apart.specs.inner.Steps.{first_next}
 use Rattle.apart.proofs.depth.first_with.Goals as goal
 
 pub returns-then-first-i : goal.returns-then-first-i
-returns-then-first-i c = was_first _ _ _ c.if-first-i.true
+unfolding first_next
+returns-then-first-i c = search rules
 
 pub returns-then-merged : goal.returns-then-merged
-returns-then-merged c = is_first _ _ _ c.if-first-i.false c.if-merged.true
+unfolding first_next
+returns-then-merged c = search rules
 
-pub returns : goal.returns
-returns c = not_first _ _ _ c.if-first-i.false c.if-merged.false
+pub returns-else-merged : goal.returns-else-merged
+unfolding first_next
+returns-else-merged c = search rules

@@ -7,6 +7,6 @@ pub returns-then-m : goal.returns-then-m
 unfolding tangent
 returns-then-m c = was_nan _ _ c.if-m.true
 
-pub returns : goal.returns
+pub returns-else-m : goal.returns-else-m
 unfolding tangent
-returns c = no_nan _ _ c.if-m.false
+returns-else-m c = no_nan _ _ c.if-m.false

@@ -8,6 +8,6 @@ pub returns-then-lower-eq0 : goal.returns-then-lower-eq0
 unfolding sharp_pair
 returns-then-lower-eq0 c = simp (eq-eqb _ 0 c.if-lower-eq0.true)
 
-pub returns : goal.returns
+pub returns-else-lower-eq0 : goal.returns-else-lower-eq0
 unfolding sharp_pair
-returns c = c.pair_colour.ensures ∙ simp (ne_eqb _ 0 c.if-lower-eq0.false)
+returns-else-lower-eq0 c = c.pair_colour.ensures ∙ simp (ne_eqb _ 0 c.if-lower-eq0.false)

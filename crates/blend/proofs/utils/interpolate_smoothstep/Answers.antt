@@ -1,8 +1,8 @@
 -- `utils::interpolate_smoothstep` meets its contract: by definition. Assumes nothing.
-use mathlib.Core.Path.{refl}
+use Rattle.std.proofs.Common.{rules}
 use Rattle.blend.specs.Blend.{smooth}
 use Rattle.blend.proofs.utils.interpolate_smoothstep.Goals as goal
 
 pub returns : goal.returns
 unfolding smooth
-returns c = refl
+returns c = search rules

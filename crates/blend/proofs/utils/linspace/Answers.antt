@@ -7,6 +7,6 @@ pub returns-then-n-eq1 : goal.returns-then-n-eq1
 unfolding linspace_at
 returns-then-n-eq1 c = simp (eq-eqb c.args.n 1 c.if-n-eq1.true)
 
-pub returns : goal.returns
+pub returns-else-n-eq1 : goal.returns-else-n-eq1
 unfolding linspace_at
-returns c = simp (ne_eqb c.args.n 1 c.if-n-eq1.false)
+returns-else-n-eq1 c = simp (ne_eqb c.args.n 1 c.if-n-eq1.false)

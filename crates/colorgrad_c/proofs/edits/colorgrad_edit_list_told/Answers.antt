@@ -12,4 +12,4 @@ returns-in_default c =
 
 pub returns : goal.returns
 returns c =
-    of_a_kind _ c.kind_of.ensures c.in-Of.is (lists_by c.edit_of-edit.ensures c.refresh_list-listed.ensures) (paired c.tell_listed-2.ensures.value c.tell_listed-2.ensures.told_value)
+    of_a_kind _ c.kind_of.ensures c.in-Some.is (lists_by c.edit_of-edit.ensures c.refresh_list-listed.ensures) (paired c.tell_listed-2.ensures.value c.tell_listed-2.ensures.told_value)

@@ -11,4 +11,4 @@ returns-in_default c =
 
 pub returns : goal.returns
 returns c =
-    of_a_kind _ c.kind_of.ensures c.in-Of.is c.judge-verdict.ensures (paired_both c.tell_verdict-2.ensures.value c.tell_verdict-2.ensures.told_value c.tell_verdict-2.ensures.t_value)
+    of_a_kind _ c.kind_of.ensures c.in-Some.is c.judge-verdict.ensures (paired_both c.tell_verdict-2.ensures.value c.tell_verdict-2.ensures.told_value c.tell_verdict-2.ensures.t_value)

@@ -6,10 +6,10 @@ use Rattle.colorgrad_c.proofs.judging.tell_apart.Goals as goal
 
 pub returns-in-Told : goal.returns-in-Told
 returns-in-Told c =
-    let k = told_case _ number_of_apart apart_told c.in-Told.is c.tell_numbers.ensures in
+    let k = told_case _ number_of_apart apart_told c.in-Told.is c.tell.ensures in
     record { value = k.0; told_value = k.1 }
 
 pub returns-in-Refused : goal.returns-in-Refused
 returns-in-Refused c =
-    let k = told_case _ number_of_apart apart_told c.in-Refused.is c.tell_numbers-in-Refused.ensures in
+    let k = told_case _ number_of_apart apart_told c.in-Refused.is c.tell-in-Refused.ensures in
     record { value = k.0; told_value = k.1 }

@@ -11,4 +11,4 @@ returns-in_default c =
 
 pub returns : goal.returns
 returns c =
-    of_a_kind _ c.kind_of.ensures c.in-Of.is c.sample-sampled.ensures (paired c.tell_sampled-2.ensures.value c.tell_sampled-2.ensures.told_value)
+    of_a_kind _ c.kind_of.ensures c.in-Some.is c.sample-sampled.ensures (paired c.tell_sampled-2.ensures.value c.tell_sampled-2.ensures.told_value)

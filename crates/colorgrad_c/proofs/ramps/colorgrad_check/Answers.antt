@@ -9,4 +9,4 @@ pub returns-in_default : goal.returns-in_default
 returns-in_default c = of_no_kind (checked.Refused misshapen) c.kind_of.ensures c.in_default.is refl refl
 
 pub returns : goal.returns
-returns c = of_a_kind _ c.kind_of.ensures c.in-Of.is c.check.ensures c.checked_number.ensures
+returns c = of_a_kind _ c.kind_of.ensures c.in-Some.is c.check.ensures c.checked_number.ensures

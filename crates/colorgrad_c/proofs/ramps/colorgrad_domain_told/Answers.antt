@@ -14,4 +14,4 @@ returns-in_default c =
 
 pub returns : goal.returns
 returns c =
-    of_a_kind _ c.kind_of.ensures c.in-Of.is (domain_is c.check-checked.ensures.answer c.min_of-min.ensures c.max_of-max.ensures) (paired c.tell_domain-2.ensures.value c.tell_domain-2.ensures.ends_value)
+    of_a_kind _ c.kind_of.ensures c.in-Some.is (domain_is c.check-checked.ensures.answer c.min-min.ensures c.max-max.ensures) (paired c.tell_domain-2.ensures.value c.tell_domain-2.ensures.ends_value)

@@ -12,4 +12,4 @@ returns-in_default c =
 
 pub returns : goal.returns
 returns c =
-    of_a_kind _ c.kind_of.ensures c.in-Of.is (opens_by c.list_sort_of.ensures c.open-answer.ensures) (paired c.tell_sheet-2.ensures.value c.tell_sheet-2.ensures.told_value)
+    of_a_kind _ c.kind_of.ensures c.in-Some.is (opens_by c.list_sort_of.ensures c.open-answer.ensures) (paired c.tell_sheet-2.ensures.value c.tell_sheet-2.ensures.told_value)

@@ -13,4 +13,4 @@ returns-in_default c =
 
 pub returns : goal.returns
 returns c =
-    of_a_kind _ c.kind_of.ensures c.in-Of.is (from_place c.place_from-place.ensures c.next_stop-handed.ensures) (paired_both c.tell_handed-2.ensures.value c.tell_handed-2.ensures.told_value c.tell_handed-2.ensures.stop_value)
+    of_a_kind _ c.kind_of.ensures c.in-Some.is (from_place c.place_from-place.ensures c.next_stop-handed.ensures) (paired_both c.tell_handed-2.ensures.value c.tell_handed-2.ensures.told_value c.tell_handed-2.ensures.stop_value)

@@ -1,13 +1,12 @@
 -- `decimal::near::near_magnitude` meets its contract: where it tells bits, the rest is far from nothing and from a half. Assumes nothing.
-use mathlib.Core.Path.{◌≡◌, sym, ap, subst}
+use mathlib.Core.Path.{◌≡◌, sym, subst}
 use mathlib.Core.Logic.{inl, inr}
 use Prim.Native.Nat.{ℕ, ◌+◌, ◌-◌, ◌*◌, ◌/◌, ◌%◌, ◌^◌, ◌≤◌, ◌<◌, compare}
 use native.Mathlib.Nat.{div-add-mod', mod-lt, le_trans, le_of_eq, le-div_iff_mul-le, div-lt_iff_lt-mul}
 use native.Mathlib.Omega.{arith}
 use lib.Count.{count_leading_zeros}
 use lib.Ieee.Fits.{nearest-le}
-use Rattle.decimal.specs.declared.near.Near.{Near}
-use Rattle.decimal.specs.declared.near.Near.TheVariants.{Bits, Unsure}
+use Rattle.std.specs.Prelude.{Some, None}
 use Rattle.decimal.specs.inner.Near.{NearOf}
 use Rattle.decimal.specs.inner.Steps.{BitsOf}
 use Rattle.float.proofs.Counted.{Shifted, shifted}
@@ -27,21 +26,11 @@ At-After-fitted-by = Lts.After-fitted Tie.the-claims Reads.Pre Reads.Post
 abbrev At-After-rounded-q : Type 0
 At-After-rounded-q = Lts.After-rounded Tie.the-claims Reads.Pre Reads.Post
 
-unsure : (d p : ℕ) → NearOf d p Unsure
-unsure d p b e = absurd (zero_or_one (ap sort e))
-  where
-    sort : Near → ℕ
-    sort (Bits b) = 1
-    sort Unsure = 0
+unsure : (d p : ℕ) → NearOf d p None
+unsure d p b e = cc
 
-    zero_or_one : ◌≡◌ {A = ℕ} 0 1 → ⊥
-    zero_or_one e = omega arith
-
-told : (d p r : ℕ) → BitsOf d p r → NearOf d p (Bits r)
-told d p r h b e = subst (BitsOf d p) (same r b e) h
-  where
-    same : (r b : ℕ) → Bits r ≡ Bits b → r ≡ b
-    same r b e = cc
+told : (d p r : ℕ) → BitsOf d p r → NearOf d p (Some r)
+told d p r h b e = let same : r ≡ b = cc in subst (BitsOf d p) same h
 
 -- d moved up by its leading zeros
 up_to_top : (c : At-Start) → Shifted c.args.d (c.args.d * 2 ^ count_leading_zeros 64 c.args.d % 2 ^ 64) (count_leading_zeros 64 c.args.d)

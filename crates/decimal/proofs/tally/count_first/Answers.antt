@@ -1,5 +1,5 @@
 -- `decimal::tally::count_first` meets its contract: each digit passed counts, and the number of 19 fits a word. Assumes nothing.
-use mathlib.Core.Path.{◌≡◌, subst}
+use mathlib.Core.Path.{◌≡◌, sym, subst}
 use mathlib.Core.List.{List}
 use Prim.Native.Nat.{ℕ, ◌+◌, ◌-◌, ◌*◌, ◌^◌, ◌≤◌, ◌<◌}
 use native.Mathlib.Nat.{lt_of_lt_of_le, lt_of_not-le}
@@ -12,18 +12,12 @@ use Rattle.decimal.specs.inner.Counted.{Counts, Small, Counting, NoZero, StopIs}
 use Rattle.decimal.proofs.Counting.{counts_digit}
 use Rattle.decimal.proofs.LongPlace.{stops_at, stops_over}
 use Rattle.decimal.proofs.LongRuns.{counting_none, counting_one, counting_join}
-use Rattle.decimal.proofs.Parts.{too_low, too_high}
 use Rattle.decimal.proofs.Scale.{ten_le}
 use Rattle.decimal.proofs.tally.count_first.Goals as goal
-use Rattle.decimal.proofs.tally.count_first.Lts
-use Rattle.decimal.proofs.tally.count_first.Tie
-use Rattle.decimal.proofs.tally.count_first.Reads
-
-abbrev At-In-loop-i : Type 0
-At-In-loop-i = Lts.In-loop Tie.the-claims Reads.Pre Reads.Post goal.the-invariant-loop-i goal.the-decreases-loop-i Tie.handed_clauses
+use Rattle.decimal.proofs.tally.count_first.Goals.{Else-not-is_ascii_digit}
 
 -- fewer than 19 have counted
-few : (c : At-In-loop-i) → c.loop-i.c < 19
+few : (c : Else-not-is_ascii_digit) → c.loop-i.c < 19
 few c = let l = c.loop-i.invariant.1 in let f = c.stop_of-stop.ensures.few (omega arith) in omega arith
 
 -- ten times their number fits a word
@@ -51,55 +45,43 @@ no_zero s from i count c f e l h g = subst (λ (x : ℕ). get_or s x 0 ≡ 48 �
     none : (from i count c : ℕ) → c + from ≡ count + i → from ≤ i → c ≡ 0 → count ≡ 0
     none from i count c e l g = omega arith
 
-inside : (c : At-In-loop-i) → c.loop-i.i < length c.args.s.now
-inside c = let w = c.stop_of-stop.ensures.within in omega arith
-
 pub loop-i-init : goal.loop-i-init
-loop-i-init c = let p = c.requires.from_in_bounds in (counting_none _ _ _ _ _ p.0 p.1.0 p.1.1, (omega arith, (c.stop_of-stop.ensures.above, omega arith)))
+loop-i-init c = let p = c.requires.from_in_bounds in (counting_none _ _ _ _ _ p.0 p.1.0 p.1.1, omega arith)
 
-pub returns-then-b-lt48 : goal.returns-then-b-lt48
-returns-then-b-lt48 c =
-    let x = c.before.before.before in
-    let l = x.loop-i in
-    record { part = l.invariant.0; stops = λ h. stops_at _ _ _ _ l.invariant.0.run (inside x) (too_low _ c.if-b-lt48.true) }
+pub returns-then-not-is_ascii_digit : goal.returns-then-not-is_ascii_digit
+returns-then-not-is_ascii_digit c =
+    let i = c.loop-i.invariant.0 in
+    record { part = i; stops = λ h. stops_at _ _ _ _ i.run (omega arith) (sym c.if-not-is_ascii_digit.ensures.value) }
 
-pub returns-then-b-gt57 : goal.returns-then-b-gt57
-returns-then-b-gt57 c =
-    let x = c.before.before.before.before in
-    let l = x.loop-i in
-    record { part = l.invariant.0; stops = λ h. stops_at _ _ _ _ l.invariant.0.run (inside x) (too_high _ c.if-b-gt57.true) }
-
--- fewer than 19 are all that are there
+-- where fewer than 19 have counted, stop is the end
 pub returns : goal.returns
 returns c =
+    let a = c.args in
     let l = c.loop-i in
-    record { part = l.invariant.0; stops = λ h. stops_over _ _ _ _ l.invariant.0.run (at-end _ _ _ _ _ _ c.stop_of-stop.ensures c.loop-i-test.false l.invariant.1.1.0 l.invariant.1.1.1 h) }
+    let e : l.i ≡ c.stop_of-stop.result = omega arith in
+    let i = subst (λ (x : ℕ). Counting a.s.now a.from a.value a.count a.zeros l.v l.c a.zeros x) e l.invariant.0 in
+    record { part = i; stops = λ h. stops_over _ _ _ _ i.run (at-end _ _ _ _ _ c.stop_of-stop.ensures (omega arith) h) }
   where
-    at-end : (from end count stop c i : ℕ) → StopIs from end count stop → stop ≤ i → i ≤ stop → c + from ≡ count + i → c < most_significant → end ≤ i
-    at-end from end count stop c i w g l e h = go (dec_le end stop)
+    at-end : (from end count stop c : ℕ) → StopIs from end count stop → c + from ≡ count + stop → c < most_significant → end ≤ stop
+    at-end from end count stop c w e h = go (dec_le end stop)
       where
-        over : most_significant + from ≤ count + stop → ⊥
-        over f = omega arith
-
-        go : Dec (end ≤ stop) → end ≤ i
-        go (yes f) = omega arith
-        go (no f) = absurd (over (w.all (lt_of_not-le f)))
+        go : Dec (end ≤ stop) → end ≤ stop
+        go (yes f) = f
+        go (no f) = let g = w.all (lt_of_not-le f) in omega arith
 
 pub overflow_mul-v : goal.overflow_mul-v
-overflow_mul-v c = let x = c.before.before.before.before in let h = room _ _ x.loop-i.invariant.0.small (few x) in record { fits = omega arith }
+overflow_mul-v c = let h = room _ _ c.loop-i.invariant.0.small (few c) in record { fits = omega arith }
 
 pub overflow_add-v : goal.overflow_add-v
-overflow_add-v c = let x = c.before.before.before.before in let h = room _ _ x.loop-i.invariant.0.small (few x) in record { fits = omega arith }
+overflow_add-v c = let h = room _ _ c.loop-i.invariant.0.small (few c) in record { fits = omega arith }
 
 pub overflow_add-c : goal.overflow_add-c
-overflow_add-c c = let h = few c.before.before.before.before in record { fits = omega arith }
+overflow_add-c c = let h = few c in record { fits = omega arith }
 
 pub loop-i-preserved : goal.loop-i-preserved
 loop-i-preserved c =
-    let x = c.before.before.before.before in
-    let l = x.loop-i.invariant in
-    let p = x.requires.no_zero in (
-      counting_join _ _ _ _ _ _ _ _ _ _ _ _ _ l.0
-          (next x.args.s.now _ _ _ _ l.0.small l.0.zeros (few x) (no_zero x.args.s.now _ _ _ _ p l.1.1.1 l.1.0 (inside x)) (inside x) c.if-b-lt48.false c.if-b-gt57.false),
-      (omega arith, (omega arith, omega arith)),
-    )
+    let l = c.loop-i.invariant in
+    let b = c.if-not-is_ascii_digit.ensures.cases in
+    let inside : c.loop-i.i < length c.args.s.now = omega arith in
+    let f = no_zero c.args.s.now _ _ _ _ c.requires.no_zero l.1 c.loop-i.auto.i inside in
+    (counting_join _ _ _ _ _ _ _ _ _ _ _ _ _ l.0 (next c.args.s.now _ _ _ _ l.0.small l.0.zeros (few c) f inside b.0 b.1), omega arith)

@@ -5,11 +5,10 @@ use Prim.Native.Nat.{ℕ, ◌+◌, ◌≤◌, ◌<◌}
 use native.Mathlib.Nat.{lt_of_lt_of_le}
 use native.Mathlib.Omega.{arith}
 use lib.ListN.{length, get_or}
-use Rattle.decimal.specs.inner.Counted.{Counts, Small, Counting}
+use Rattle.decimal.specs.inner.Counted.{Counts, Small, Counting, MoreTo}
 use Rattle.decimal.proofs.Counting.{counts_zero, counts_over}
 use Rattle.decimal.proofs.LongPlace.{stops_at, stops_over}
 use Rattle.decimal.proofs.LongRuns.{counting_none, counting_one, counting_join}
-use Rattle.decimal.proofs.Parts.{too_low, too_high}
 use Rattle.decimal.proofs.Scale.{ten_le}
 use Rattle.decimal.proofs.tally.count_more.Goals as goal
 use Rattle.decimal.proofs.tally.count_more.Goals.{then-b-eq48, else-b-eq48}
@@ -29,25 +28,25 @@ module _ (s : List ℕ) (i v c z : ℕ) (m : Small v c) (g : z ≤ i) (h : 19 �
 pub loop-i-init : goal.loop-i-init
 loop-i-init c = (counting_none _ _ _ _ _ c.requires.from_in_bounds.0 c.requires.from_in_bounds.1.0 c.requires.from_in_bounds.1.1, c.requires.most_significant_le_count)
 
-pub returns-then-b-lt48 : goal.returns-then-b-lt48
-returns-then-b-lt48 c =
-    let l = c.loop-i in
-    record { part = l.invariant.0; stops = stops_at _ _ _ _ l.invariant.0.run c.loop-i-test.true (too_low _ c.if-b-lt48.true) }
-
-pub returns-then-b-gt57 : goal.returns-then-b-gt57
-returns-then-b-gt57 c =
-    let l = c.loop-i in
-    record { part = l.invariant.0; stops = stops_at _ _ _ _ l.invariant.0.run c.loop-i-test.true (too_high _ c.if-b-gt57.true) }
+pub returns-then-not-is_ascii_digit : goal.returns-then-not-is_ascii_digit
+returns-then-not-is_ascii_digit c =
+    let i = c.loop-i.invariant.0 in
+    record { part = i; stops = stops_at _ _ _ _ i.run c.loop-i-test.true (sym c.if-not-is_ascii_digit.ensures.value) }
 
 pub returns : goal.returns
-returns c = let l = c.loop-i in record { part = l.invariant.0; stops = stops_over _ _ _ _ l.invariant.0.run c.loop-i-test.false }
+returns c =
+    let a = c.args in
+    let l = c.loop-i in
+    let i = l.invariant.0 in
+    subst (MoreTo a.s.now a.from a.value a.count a.zeros a.value l.c l.z) (omega arith) (record { part = i; stops = stops_over _ _ _ _ i.run c.loop-i-test.false })
 
 pub loop-i-preserved : goal.loop-i-preserved
 loop-i-preserved c =
     let l = c.loop-i.invariant in
+    let b = c.if-not-is_ascii_digit.ensures.cases in
     elim c.if-b-eq48.branch [
-      | then-b-eq48 w ↦ so (sym w.c-is) (sym w.z-is) l.0 (a_zero _ _ _ _ _ l.0.small l.0.zeros l.1 c.loop-i-test.true c.if-b-lt48.false c.if-b-gt57.false w.if-b-eq48.true) l.1
-      | else-b-eq48 w ↦ so (sym w.c-is) (sym w.z-is) l.0 (another _ _ _ _ _ l.0.small l.0.zeros l.1 c.loop-i-test.true c.if-b-lt48.false c.if-b-gt57.false w.if-b-eq48.false) (omega arith)
+      | then-b-eq48 w ↦ so (sym w.c-is) (sym w.z-is) l.0 (a_zero _ _ _ _ _ l.0.small l.0.zeros l.1 c.loop-i-test.true b.0 b.1 w.if-b-eq48.true) l.1
+      | else-b-eq48 w ↦ so (sym w.c-is) (sym w.z-is) l.0 (another _ _ _ _ _ l.0.small l.0.zeros l.1 c.loop-i-test.true b.0 b.1 w.if-b-eq48.false) (omega arith)
     ]
   where
     so : {s : List ℕ} {from v c₀ z₀ c z i c' z' c'' z'' : ℕ} → c' ≡ c'' → z' ≡ z'' → Counting s from v c₀ z₀ v c z i → Counting s i v c z v c' z' (i + 1) → 19 ≤ c' → Counting s from v c₀ z₀ v c'' z'' (i + 1) × (19 ≤ c'')

@@ -1,7 +1,6 @@
 -- `decimal::tally::past_zeros` meets its contract: a zero before the first digit that counts changes no count. Assumes nothing.
 use mathlib.Core.List.{List}
-use Prim.Native.Nat.{ℕ, ◌-◌, ◌≤◌}
-use lib.ListN.{length}
+use Prim.Native.Nat.{ℕ, ◌≤◌}
 use Rattle.decimal.specs.inner.Counted.{Small, Counting}
 use Rattle.decimal.proofs.tally.past_zeros.Given as goal
 
@@ -10,7 +9,4 @@ abbrev pub Uncounted : List ℕ → ℕ → ℕ → ℕ → Type 0
 Uncounted s from c i = (v z : ℕ) → z ≤ from → Small v c → Counting s from v c z v c z i
 
 abbrev pub invariant-loop-i : goal.invariant-loop-i
-invariant-loop-i l = (l.from ≤ l.i) × ((l.i ≤ length l.s) × Uncounted l.s l.from l.count l.i)
-
-abbrev pub decreases-loop-i : goal.decreases-loop-i
-decreases-loop-i l = length l.s - l.i
+invariant-loop-i l = Uncounted l.s l.from l.count l.i

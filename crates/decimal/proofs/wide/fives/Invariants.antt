@@ -1,10 +1,8 @@
--- `decimal::wide::fives` meets its contract. The loop's invariant: w is d times 5 ^ i. Assumes nothing.
-use Prim.Native.Nat.{◌-◌, ◌*◌, ◌^◌, ◌≤◌}
-use Rattle.decimal.specs.inner.Wide.{IsWide}
+-- `decimal::wide::fives` meets its contract. The loop's invariant: w is d times 5 for each turn. Assumes nothing.
+use mathlib.Core.Path.{◌≡◌}
+use Prim.Native.Nat.{◌*◌, ◌^◌}
+use Rattle.decimal.specs.inner.Wide.{value_of}
 use Rattle.decimal.proofs.wide.fives.Given as goal
 
-abbrev pub invariant-loop-i : goal.invariant-loop-i
-invariant-loop-i l = (l.i ≤ l.n) × IsWide (l.d * 5 ^ l.i) l.w.hi l.w.mid l.w.lo
-
-abbrev pub decreases-loop-i : goal.decreases-loop-i
-decreases-loop-i l = l.n - l.i
+abbrev pub invariant-loop : goal.invariant-loop
+invariant-loop l = value_of l.w ≡ l.d * 5 ^ l.counter

@@ -44,12 +44,9 @@ pub raised-by-requires : goal.raised-by-requires
 raised-by-requires c =
     let a = c.args in
     let n = c.fives-num.ensures in
-    let d = c.fives.ensures in
-    let some = lt_of_lt_of_le (five_le 0 a.down zero-le) (le_of_eq (sym (one-mul (5 ^ a.down)) ∙ sym d.is)) in
-    record {
-      mid_lt_word = (n.mids, (n.los, (d.mids, d.los)));
-      den_nonzero = (some, (roomy_hi _ _ _ _ d (room_down _ (omega arith)), subst Roomy (sym n.is) (room_up _ _ (omega arith) (omega arith))));
-    }
+    let e = c.fives.ensures in
+    let some = lt_of_lt_of_le (five_le 0 a.down zero-le) (le_of_eq (sym (one-mul (5 ^ a.down)) ∙ sym e)) in
+    (some, (roomy_hi c.fives.result _ e (room_down _ (omega arith)), subst Roomy (sym n) (room_up _ _ (omega arith) (omega arith))))
 
 pub returns-then-unit-gt253 : goal.returns-then-unit-gt253
 returns-then-unit-gt253 c =
@@ -58,7 +55,7 @@ returns-then-unit-gt253 c =
     let f = c.long_divided-f in
     let e = f.ensures.long_divides in
     long_beyond a.d a.up a.down r.result.up f.result.down _ (level a.up a.down r.result.up f.result.down c.requires.1.1 e.few)
-    _ _ _ _ c.fives-num.ensures.is (r.ensures.is.is ∙ ap (λ (x : ℕ). x * 2 ^ r.result.up) c.fives.ensures.is)
+    _ _ _ _ c.fives-num.ensures (r.ensures.is ∙ ap (λ (x : ℕ). x * 2 ^ r.result.up) c.fives.ensures)
     e.long e.less e.hi (whole _ _ _ e.full) c.if-unit-gt253.true
 
 pub overflow_add-result : goal.overflow_add-result
@@ -74,5 +71,5 @@ returns c =
     let f = c.long_divided-f in
     let e = f.ensures.long_divides in
     long_bits a.d a.up a.down r.result.up f.result.down _ (level a.up a.down r.result.up f.result.down c.requires.1.1 e.few)
-    _ _ _ _ c.fives-num.ensures.is (r.ensures.is.is ∙ ap (λ (x : ℕ). x * 2 ^ r.result.up) c.fives.ensures.is)
+    _ _ _ _ c.fives-num.ensures (r.ensures.is ∙ ap (λ (x : ℕ). x * 2 ^ r.result.up) c.fives.ensures)
     e.long e.less e.hi (whole _ _ _ e.full) _ c.long_rounded-q.ensures (omega arith)

@@ -41,4 +41,4 @@ overflow_add-hi c =
     record { fits = first (a.w.hi * a.k) _ (omega arith) (over (a.w.mid * a.k) _ (omega arith) (omega arith)) }
 
 pub returns : goal.returns
-returns c = times_is _ _ _ _
+returns c = times_is c.args.w.hi c.args.w.mid c.args.w.lo c.args.k

@@ -19,7 +19,7 @@ pub returns-in_default : goal.returns-in_default
 returns-in_default c = edit_bad c.args.l.now c.args.from c.span_end-end.result c.requires c.span_end-end.ensures (search rules) (search rules) (sym c.number_of.ensures ∙ c.in_default.is)
 
 pub returns-then-row-ne4 : goal.returns-then-row-ne4
-returns-then-row-ne4 c = edit_row c.args.l.now c.args.from c.span_end-end.result c.requires c.span_end-end.ensures (search rules) (search rules) (sym c.number_of.ensures ∙ c.in-Is.is) (change_not c.args.l.now (c.span_end-end.result + 1) (search rules) c.row_at-row.ensures _ c.if-row-ne4.true)
+returns-then-row-ne4 c = edit_row c.args.l.now c.args.from c.span_end-end.result c.requires c.span_end-end.ensures (search rules) (search rules) (sym c.number_of.ensures ∙ c.in-Some.is) (change_not c.args.l.now (c.span_end-end.result + 1) (search rules) c.row_at-row.ensures _ c.if-row-ne4.true)
 
 pub returns : goal.returns
-returns c = edit_row c.args.l.now c.args.from c.span_end-end.result c.requires c.span_end-end.ensures (search rules) (search rules) (sym c.number_of.ensures ∙ c.in-Is.is) (change_is c.args.l.now (c.span_end-end.result + 1) (search rules) c.row_at-row.ensures _ c.if-row-ne4.false)
+returns c = edit_row c.args.l.now c.args.from c.span_end-end.result c.requires c.span_end-end.ensures (search rules) (search rules) (sym c.number_of.ensures ∙ c.in-Some.is) (change_is c.args.l.now (c.span_end-end.result + 1) (search rules) c.row_at-row.ensures _ c.if-row-ne4.false)

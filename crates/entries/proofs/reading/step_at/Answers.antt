@@ -8,4 +8,4 @@ pub slice_bounds-entry_of-end : goal.slice_bounds-entry_of-end
 slice_bounds-entry_of-end c = omega (arith, c.line_at-l.ensures.within (search rules))
 
 pub returns : goal.returns
-returns c = step_found c.args.s.now c.args.at c.requires c.line_at-l.ensures c.entry_of-entry.ensures
+returns c = step_found c.args.s.now c.args.at c.requires c.line_at-l.ensures c.entry_of.ensures

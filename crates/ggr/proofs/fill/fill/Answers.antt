@@ -17,16 +17,16 @@ returns-then-s-at c =
 pub returns-in-Fault : goal.returns-in-Fault
 returns-in-Fault c =
     let a = c.args in
-    bad _ a.s.now a.rules a.fg a.bg a.n _ _ c.loop-i.at c.loop-i.end c.loop-i.i c.loop-i.invariant (search rules) (search rules) c.segment_at-l.result.read _ c.segment_at-l.result.next c.segment_at-l.ensures c.weigh-o.ensures _ c.in-Fault.is
+    bad _ a.s.now a.rules a.fg a.bg a.n _ _ c.loop-i.at c.loop-i.end c.loop-i.i c.loop-i.invariant (search rules) (search rules) c.segment_at-l.result.read _ c.segment_at-l.result.next c.segment_at-l.ensures c.weigh.ensures _ c.in-Fault.is
 
-pub overflow_add-i : goal.overflow_add-i
-overflow_add-i c =
-    omega (arith, c.loop-i-test.true, c.requires.0)
+pub overflow_add-result : goal.overflow_add-result
+overflow_add-result c =
+    omega (arith, c.requires.0)
 
 pub loop-i-preserved : goal.loop-i-preserved
 loop-i-preserved c =
     let a = c.args in
-    going_on _ a.s.now a.rules a.fg a.bg a.n _ _ c.loop-i.at c.loop-i.end c.loop-i.i c.loop-i.invariant (search rules) (search rules) c.segment_at-l.result.read _ c.segment_at-l.result.next c.segment_at-l.ensures c.weigh-o.ensures c.requires.1 c.requires.2 c.requires.3 _ c.in-Valid.is _ c.put_segment.ensures
+    going_on _ a.s.now a.rules a.fg a.bg a.n _ _ c.loop-i.at c.loop-i.end c.loop-i.i c.loop-i.invariant (search rules) (search rules) c.segment_at-l.result.read _ c.segment_at-l.result.next c.segment_at-l.ensures c.weigh.ensures c.requires.1 c.requires.2 c.requires.3 _ c.in-Valid.is _ c.put_segment.ensures
 
 pub closing-requires : goal.closing-requires
 closing-requires c = c.requires.0

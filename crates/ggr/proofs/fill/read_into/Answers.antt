@@ -19,15 +19,15 @@ pub returns-then-not-is_fit_text : goal.returns-then-not-is_fit_text
 returns-then-not-is_fit_text c =
     filled_no _ _ _ _ (file_text _ _ _ _ _ (passed c.if-not-is_finite_colour.false c.is_finite_colour.ensures) (passed c.if-not-is_finite_colour-2.false c.is_finite_colour-2.ensures) (failed c.if-not-is_fit_text.true c.is_fit_text.ensures))
 
-pub returns-then-not-are_fit_lines : goal.returns-then-not-are_fit_lines
-returns-then-not-are_fit_lines c =
+pub returns-else-are_fit_lines : goal.returns-else-are_fit_lines
+returns-else-are_fit_lines c =
     let a = c.args in
-    filled_no _ _ _ _ (file_unfit a.rules a.fg a.bg a.s.now c.room_of-room.ensures (passed c.if-not-is_finite_colour.false c.is_finite_colour.ensures) (passed c.if-not-is_finite_colour-2.false c.is_finite_colour-2.ensures) (passed c.if-not-is_fit_text.false c.is_fit_text.ensures) c.read_header-lead.ensures _ _ c.in-Counted.is c.are_fit_lines.ensures (c.if-not-are_fit_lines.true))
+    filled_no _ _ _ _ (file_unfit a.rules a.fg a.bg a.s.now c.room_of-room.ensures (passed c.if-not-is_finite_colour.false c.is_finite_colour.ensures) (passed c.if-not-is_finite_colour-2.false c.is_finite_colour-2.ensures) (passed c.if-not-is_fit_text.false c.is_fit_text.ensures) c.read_header.ensures _ _ c.in-Counted.is c.are_fit_lines.ensures (c.if-are_fit_lines.false))
 
 pub fill-requires : goal.fill-requires
 fill-requires c =
     let a = c.args in
-    let f = lead_fits_lem c.read_header-lead.ensures _ _ c.in-Counted.is in
+    let f = lead_fits_lem c.read_header.ensures _ _ c.in-Counted.is in
     let q : c.in-Counted.n ≤ segment_room (length a.p.now) (length a.c.now) (length a.k.now) = omega (arith, f, c.room_of-room.ensures) in
     let r = room_fits _ _ _ _ q in
     (f.0, r.0, r.1, r.2)
@@ -35,9 +35,9 @@ fill-requires c =
 pub returns-in-Refuse : goal.returns-in-Refuse
 returns-in-Refuse c =
     let a = c.args in
-    filled_no _ _ _ _ (file_refuse a.rules a.fg a.bg a.s.now c.room_of-room.ensures (passed c.if-not-is_finite_colour.false c.is_finite_colour.ensures) (passed c.if-not-is_finite_colour-2.false c.is_finite_colour-2.ensures) (passed c.if-not-is_fit_text.false c.is_fit_text.ensures) c.read_header-lead.ensures _ _ c.in-Refuse.is)
+    filled_no _ _ _ _ (file_refuse a.rules a.fg a.bg a.s.now c.room_of-room.ensures (passed c.if-not-is_finite_colour.false c.is_finite_colour.ensures) (passed c.if-not-is_finite_colour-2.false c.is_finite_colour-2.ensures) (passed c.if-not-is_fit_text.false c.is_fit_text.ensures) c.read_header.ensures _ _ c.in-Refuse.is)
 
-pub returns-else-not-are_fit_lines : goal.returns-else-not-are_fit_lines
-returns-else-not-are_fit_lines c =
+pub returns-then-are_fit_lines : goal.returns-then-are_fit_lines
+returns-then-are_fit_lines c =
     let a = c.args in
-    filled_as _ _ _ _ (file_counted a.rules a.fg a.bg a.s.now c.room_of-room.ensures (passed c.if-not-is_finite_colour.false c.is_finite_colour.ensures) (passed c.if-not-is_finite_colour-2.false c.is_finite_colour-2.ensures) (passed c.if-not-is_fit_text.false c.is_fit_text.ensures) c.read_header-lead.ensures _ _ c.in-Counted.is c.are_fit_lines.ensures (c.if-not-are_fit_lines.false)) c.fill.ensures
+    filled_as _ _ _ _ (file_counted a.rules a.fg a.bg a.s.now c.room_of-room.ensures (passed c.if-not-is_finite_colour.false c.is_finite_colour.ensures) (passed c.if-not-is_finite_colour-2.false c.is_finite_colour-2.ensures) (passed c.if-not-is_fit_text.false c.is_fit_text.ensures) c.read_header.ensures _ _ c.in-Counted.is c.are_fit_lines.ensures (c.if-are_fit_lines.true)) c.fill.ensures

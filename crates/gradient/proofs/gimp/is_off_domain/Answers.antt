@@ -1,16 +1,12 @@
--- `gimp::is_off_domain` meets its contract: the tests in the definition's order; `t != t` tests for not-a-number. Assumes nothing.
+-- `gimp::is_off_domain` meets its contract: the tests in the definition's order. Assumes nothing.
+use Rattle.std.proofs.Common.{rules}
 use Rattle.gradient.specs.Gimp.{off_domain}
-use Rattle.float.proofs.Order.{ne_self}
 use Rattle.gradient.proofs.gimp.is_off_domain.Goals as goal
-
-pub returns-then-t : goal.returns-then-t
-unfolding off_domain
-returns-then-t c = simp c.if-t.true
 
 pub returns-then-t-2 : goal.returns-then-t-2
 unfolding off_domain
-returns-then-t-2 c = simp (c.if-t.false, c.if-t-2.true)
+returns-then-t-2 c = search rules
 
-pub returns : goal.returns
+pub returns-else-t-2 : goal.returns-else-t-2
 unfolding off_domain
-returns c = simp (c.if-t.false, c.if-t-2.false, ne_self)
+returns-else-t-2 c = search rules

@@ -6,6 +6,6 @@ pub returns-then-x-y : goal.returns-then-x-y
 unfolding larger
 returns-then-x-y c = simp c.if-x-y.true
 
-pub returns : goal.returns
+pub returns-else-x-y : goal.returns-else-x-y
 unfolding larger
-returns c = simp c.if-x-y.false
+returns-else-x-y c = simp c.if-x-y.false

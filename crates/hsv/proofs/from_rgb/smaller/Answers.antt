@@ -6,6 +6,6 @@ pub returns-then-y-x : goal.returns-then-y-x
 unfolding smaller
 returns-then-y-x c = simp c.if-y-x.true
 
-pub returns : goal.returns
+pub returns-else-y-x : goal.returns-else-y-x
 unfolding smaller
-returns c = simp c.if-y-x.false
+returns-else-y-x c = simp c.if-y-x.false

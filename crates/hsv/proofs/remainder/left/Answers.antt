@@ -18,5 +18,5 @@ returns-then-field-lt150 c =
     let p = parts_of c.args.a c.args.y h.3 h.0 in
     left_parts c.args.a c.args.y h.2 h.3 h.0 h.1 _ _ c.if-field-lt150.true p.is p.few refl
 
-pub returns : goal.returns
-returns c = let h = c.requires in left_whole c.args.a c.args.y h.2 h.3 h.0 h.1 c.doubled-rest.result c.if-field-lt150.false c.doubled-rest.ensures
+pub returns-else-field-lt150 : goal.returns-else-field-lt150
+returns-else-field-lt150 c = let h = c.requires in left_whole c.args.a c.args.y h.2 h.3 h.0 h.1 c.doubled-rest.result c.if-field-lt150.false c.doubled-rest.ensures

@@ -32,16 +32,16 @@ returns-then-bits-lt-SIGN c =
     let t : T (fits binary32 c.args.x) = subst T (sym c.well_formed.0.1) tt in
     c.left.ensures ∙ ap (λ (w : Float). rem binary32 w (count_of c.args.y)) (ap (of_bits binary32) c.to_bits-bits.ensures ∙ of_bits-to_bits binary32 c.args.x t)
 
-pub left-requires-2 : goal.left-requires-2
-left-requires-2 c =
+pub left-requires-else-bits-lt-SIGN : goal.left-requires-else-bits-lt-SIGN
+left-requires-else-bits-lt-SIGN c =
     let t : T (fits binary32 c.args.x) = subst T (sym c.well_formed.0.1) tt in
     let l = from_one c.args.x c.args.y t c.requires.0 (ap (λ (w : Float). lt w (count_of c.args.y)) (sym c.magnitude.ensures) ∙ c.if-magnitude-y.false) in
     let e : c.to_bits-bits.result ≡ to_bits binary32 c.args.x = c.to_bits-bits.ensures in
     (omega arith, omega arith, c.requires.0, c.requires.1)
 
-pub returns : goal.returns
-returns c =
+pub returns-else-bits-lt-SIGN : goal.returns-else-bits-lt-SIGN
+returns-else-bits-lt-SIGN c =
     let t : T (fits binary32 c.args.x) = subst T (sym c.well_formed.0.1) tt in
     let h : 2147483648 ≤ to_bits binary32 c.args.x = subst (λ (b : ℕ). 2147483648 ≤ b) c.to_bits-bits.ensures c.if-bits-lt-SIGN.false in
-    ap neg (c.left-2.ensures ∙ ap (λ (w : Float). rem binary32 w (count_of c.args.y)) (ap (λ (b : ℕ). of_bits binary32 (b - 2147483648)) c.to_bits-bits.ensures ∙ magnitude_minus c.args.x t h))
+    ap neg (c.left-else-bits-lt-SIGN.ensures ∙ ap (λ (w : Float). rem binary32 w (count_of c.args.y)) (ap (λ (b : ℕ). of_bits binary32 (b - 2147483648)) c.to_bits-bits.ensures ∙ magnitude_minus c.args.x t h))
     ∙ minus_left c.args.x (count_of c.args.y) c.args.y t c.requires.0 (whole_value c.args.y (omega arith)) h

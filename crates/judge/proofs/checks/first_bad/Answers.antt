@@ -9,22 +9,13 @@ use Rattle.judge.proofs.checks.first_bad.Goals as goal
 pub loop-i-init : goal.loop-i-init
 loop-i-init c = begun _ _
 
-pub is_good-requires : goal.is_good-requires
-is_good-requires c = tt
-
 pub returns-then-not-is_good : goal.returns-then-not-is_good
 returns-then-not-is_good c =
     sym (fails_here _ _ _ c.loop-i-test.true (failed c.if-not-is_good.true c.is_good.ensures)) ∙ c.loop-i.invariant
-
-pub overflow_add-i : goal.overflow_add-i
-overflow_add-i c = omega arith
-
-pub loop-i-smaller : goal.loop-i-smaller
-loop-i-smaller c = omega (arith, c.loop-i-test.true)
 
 pub loop-i-preserved : goal.loop-i-preserved
 loop-i-preserved c =
     goes_on _ _ _ c.loop-i-test.true (passed c.if-not-is_good.false c.is_good.ensures) ∙ c.loop-i.invariant
 
 pub returns : goal.returns
-returns c = sym (none_left _ _ _ c.loop-i-test.false) ∙ c.loop-i.invariant
+returns c = omega arith ∙ sym (none_left _ _ _ c.loop-i-test.false) ∙ c.loop-i.invariant

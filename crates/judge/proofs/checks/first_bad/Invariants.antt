@@ -7,6 +7,3 @@ use Rattle.judge.proofs.checks.first_bad.Given as goal
 
 abbrev pub invariant-loop-i : goal.invariant-loop-i
 invariant-loop-i l = first_failing (good_stop l.positions l.channels) (length l.positions - l.i) l.i ≡ first_bad (offer_of l.positions l.channels)
-
-abbrev pub decreases-loop-i : goal.decreases-loop-i
-decreases-loop-i l = length l.positions - l.i

@@ -1,12 +1,12 @@
 -- `is_sized` meets its contract: test by test. Assumes nothing.
-use Rattle.judge.proofs.Listing.{few, many, length_last}
+use Rattle.std.proofs.Common.{rules}
+use Rattle.judge.specs.Lists.{sized}
 use Rattle.judge.proofs.checks.is_sized.Goals as goal
 
-pub returns-then-n-lt2 : goal.returns-then-n-lt2
-returns-then-n-lt2 c = few _ _ c.if-n-lt2.true
+pub returns-then-n-le-MOST_LISTED : goal.returns-then-n-le-MOST_LISTED
+unfolding sized
+returns-then-n-le-MOST_LISTED c = search rules
 
-pub returns-then-n-gt-MOST_LISTED : goal.returns-then-n-gt-MOST_LISTED
-returns-then-n-gt-MOST_LISTED c = many _ _ c.if-n-lt2.false c.if-n-gt-MOST_LISTED.true
-
-pub returns : goal.returns
-returns c = length_last _ _ c.if-n-lt2.false c.if-n-gt-MOST_LISTED.false
+pub returns-else-n-le-MOST_LISTED : goal.returns-else-n-le-MOST_LISTED
+unfolding sized
+returns-else-n-le-MOST_LISTED c = search rules

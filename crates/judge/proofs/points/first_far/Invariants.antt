@@ -3,15 +3,12 @@ use mathlib.Core.Path.{◌≡◌}
 use Prim.Native.Nat.{◌+◌, ◌-◌}
 use lib.ListN.{get_or}
 use lib.Ieee.{nan}
-use Rattle.stops.specs.Lent.{ramp_of}
+use Rattle.gradient.specs.Lent.{lent_ramp}
 use Rattle.judge.specs.Lists.{offer_of, first_failing}
 use Rattle.judge.specs.inner.Steps.{any_close, far_from}
 use Rattle.judge.proofs.points.first_far.Given as goal
 
 abbrev pub invariant-loop-j : goal.invariant-loop-j
 invariant-loop-j l =
-    first_failing (λ k. any_close (ramp_of l.kind l.positions l.channels l.codes) (offer_of l.places l.colours) l.threshold (get_or l.rows (l.at + k) nan)) (l.count - l.j) l.j
-    ≡ far_from (any_close (ramp_of l.kind l.positions l.channels l.codes) (offer_of l.places l.colours) l.threshold) l.rows l.at l.count
-
-abbrev pub decreases-loop-j : goal.decreases-loop-j
-decreases-loop-j l = l.count - l.j
+    first_failing (λ k. any_close (lent_ramp l.ramp) (offer_of l.places l.colours) l.threshold (get_or l.rows (l.at + k) nan)) (l.count - l.j) l.j
+    ≡ far_from (any_close (lent_ramp l.ramp) (offer_of l.places l.colours) l.threshold) l.rows l.at l.count

@@ -1,20 +1,13 @@
--- `kept_good` meets its contract: what is left of the test stays the whole of it. Assumes nothing.
-use mathlib.Core.Path.{refl, sym, ap, ◌∙◌}
-use native.Mathlib.Omega.{arith}
+-- `kept_good` meets its contract: the count of each cell kept fits, or not. Assumes nothing.
+use Rattle.std.proofs.Common.{rules, arith, ◌↔◌, get_or, false}
+use Rattle.std.specs.Prelude.{IsTrue, EachIndex}
 use Rattle.linearize.specs.Relist.{count_fits}
-use Rattle.linearize.proofs.Relisting.{stops_here, goes_on, all_fit}
+use Rattle.linearize.proofs.Relisting.{fits_is}
 use Rattle.linearize.proofs.kept.kept_good.Goals as goal
 
-pub loop-i-init : goal.loop-i-init
-loop-i-init c = refl
-
-pub returns-then-not-count_fits : goal.returns-then-not-count_fits
-returns-then-not-count_fits c =
-    sym (stops_here _ _ _ (omega (arith, c.loop-i-test.true)) (sym (c.if-not-count_fits.true) ∙ c.count_fits.ensures ∙ ap (count_fits _) c.count_at.ensures)) ∙ c.loop-i.invariant
-
-pub loop-i-preserved : goal.loop-i-preserved
-loop-i-preserved c =
-    goes_on _ _ _ (omega (arith, c.loop-i-test.true)) (sym (c.if-not-count_fits.false) ∙ c.count_fits.ensures ∙ ap (count_fits _) c.count_at.ensures) ∙ c.loop-i.invariant
-
 pub returns : goal.returns
-returns c = sym (all_fit _ _ _ (omega (arith, c.loop-i-test.false))) ∙ c.loop-i.invariant
+returns c =
+    let ks = c.args.keep in
+    let counts = c.args.counts.now in
+    let each : IsTrue c.all.result ↔ EachIndex ks (λ i. IsTrue (count_fits (get_or ks i false) (get_or counts i 0))) = search rules in
+    fits_is ks counts _ (omega arith) each

@@ -4,7 +4,7 @@ use mathlib.Core.List.{List, ◌∷◌}
 use native.Mathlib.Omega.{arith}
 use lib.ListN.{get_or, drop}
 use lib.Ieee.{Float, nan}
-use Rattle.stops.specs.Lent.{ramp_in}
+use Rattle.gradient.specs.Lent.{lent_ramp}
 use Rattle.sampling.proofs.Nearness.{near_point}
 use Rattle.gradient.specs.Ramp.{colour_of}
 use Rattle.difference.specs.Difference.{exceeds}
@@ -37,10 +37,10 @@ module _ (c : At-After-emit-s) where
   at-point = c.before.before.before
 
   abbrev at-start : At-Start
-  at-start = at-point.before.before.before.before.before.before.before.before.before
+  at-start = at-point.before.before.before.before.before.before
 
   abbrev g : Gradient
-  g = colour_of (ramp_in at-start.args.kind at-start.args.positions at-start.args.channels at-start.args.codes)
+  g = colour_of (lent_ramp at-start.args.ramp.now)
 
   abbrev p : Point
   p = at-point.evaluate-first.result

@@ -2,7 +2,7 @@
 use mathlib.Core.Path.{◌∙◌}
 use native.Mathlib.Omega.{arith}
 use Rattle.sampling.proofs.Along.{along_point, along_carries}
-use Rattle.stops.specs.Lent.{ramp_in}
+use Rattle.gradient.specs.Lent.{lent_ramp}
 use Rattle.gradient.specs.Ramp.{colour_of}
 use Rattle.difference.specs.Difference.{exceeds}
 use Rattle.places.proofs.Following.{before_next, more_follow}
@@ -12,7 +12,7 @@ use Rattle.linearize.proofs.listing.thin_points.Goals as goal
 pub loop-place-init : goal.loop-place-init
 loop-place-init c =
     let a = c.args in
-    let g = colour_of (ramp_in a.kind a.positions a.channels a.codes) in
+    let g = colour_of (lent_ramp a.ramp.now) in
     let p = along_point _ c.requires.codes_value _ _ (λ d l. absurd (omega (arith, l))) c.evaluate_along-x.ensures in (
       started g (exceeds a.cutoff) a.room a.rows.now a.counts.now a.max c.requires.ready.0 a.start a.places.now a.colours.now c.next_place-place.result c.evaluate_along-x.result c.requires.ready.1 c.next_place-place.ensures (p.0 ∙ c.point_at.ensures) p.1,
       along_carries _ c.requires.codes_value _ _ (λ d l. absurd (omega (arith, l))) c.evaluate_along-x.ensures,
@@ -30,7 +30,7 @@ pub returns-then-refusal-ne0 : goal.returns-then-refusal-ne0
 returns-then-refusal-ne0 c =
     let a = c.args in
     let l = c.loop-place in
-    let g = colour_of (ramp_in a.kind a.positions a.channels a.codes) in
+    let g = colour_of (lent_ramp a.ramp.now) in
     let p = along_point _ c.requires.codes_value _ _ l.invariant.1 c.evaluate_along-next.ensures in
     stopped g (exceeds a.cutoff) a.room a.rows.now a.counts.now a.max c.requires.ready.0 _ l.places l.colours l.s l.place l.x l.invariant.0 c.loop-place-test.true c.next_place-after.result c.evaluate_along-next.result c.next_place-after.ensures (p.0 ∙ c.point_at-in-loop-place.ensures) p.1 c.step-s.new.places c.step-s.new.colours c.step-s.result c.step-s.ensures c.if-refusal-ne0.true
 
@@ -45,7 +45,7 @@ pub loop-place-preserved : goal.loop-place-preserved
 loop-place-preserved c =
     let a = c.args in
     let l = c.loop-place in
-    let g = colour_of (ramp_in a.kind a.positions a.channels a.codes) in
+    let g = colour_of (lent_ramp a.ramp.now) in
     let p = along_point _ c.requires.codes_value _ _ l.invariant.1 c.evaluate_along-next.ensures in (
       next g (exceeds a.cutoff) a.room a.rows.now a.counts.now a.max c.requires.ready.0 _ l.places l.colours l.s l.place l.x l.invariant.0 c.loop-place-test.true c.next_place-after.result c.evaluate_along-next.result c.next_place-after.ensures (p.0 ∙ c.point_at-in-loop-place.ensures) p.1 c.step-s.new.places c.step-s.new.colours c.step-s.result c.step-s.ensures c.if-refusal-ne0.false c.step-s.auto.places c.step-s.auto.colours,
       along_carries _ c.requires.codes_value _ _ l.invariant.1 c.evaluate_along-next.ensures,
@@ -63,5 +63,5 @@ pub returns : goal.returns
 returns c =
     let a = c.args in
     let l = c.loop-place in
-    let g = colour_of (ramp_in a.kind a.positions a.channels a.codes) in
+    let g = colour_of (lent_ramp a.ramp.now) in
     ended g (exceeds a.cutoff) a.room a.rows.now a.counts.now a.max c.requires.ready.0 _ l.places l.colours l.s l.place l.x l.invariant.0 (λ h. absurd (omega (arith, h, c.loop-place-test.false))) c.emit.new.places c.emit.new.colours c.emit.result c.emit.ensures

@@ -2,7 +2,7 @@
 use Prim.Native.Nat.{◌-◌}
 use Rattle.sampling.specs.inner.Steps.{Carrying}
 use lib.ListN.{length}
-use Rattle.stops.specs.Lent.{ramp_of}
+use Rattle.gradient.specs.Lent.{lent_ramp}
 use Rattle.gradient.specs.Ramp.{colour_of}
 use Rattle.difference.specs.Difference.{exceeds}
 use Rattle.places.specs.Places.{list_of, points_before}
@@ -12,7 +12,7 @@ use Rattle.linearize.proofs.listing.thin_points.Given as goal
 
 abbrev pub invariant-loop-place : goal.invariant-loop-place
 invariant-loop-place l =
-    Going (colour_of (ramp_of l.kind l.positions l.channels l.codes)) (exceeds l.cutoff) l.room l.rows l.counts l.max (run l.initial.s l.initial.places l.initial.colours) l.places l.colours l.s l.place l.x × Carrying (ramp_of l.kind l.positions l.channels l.codes) l.x.pair l.drawn
+    Going (colour_of (lent_ramp l.ramp)) (exceeds l.cutoff) l.room l.rows l.counts l.max (run l.initial.s l.initial.places l.initial.colours) l.places l.colours l.s l.place l.x × Carrying (lent_ramp l.ramp) l.x.pair l.drawn
 
 abbrev pub decreases-loop-place : goal.decreases-loop-place
 decreases-loop-place l =

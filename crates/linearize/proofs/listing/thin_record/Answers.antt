@@ -1,5 +1,5 @@
 -- `thin_record` meets its contract: the points thinned, and the answer. Assumes nothing.
-use Rattle.stops.specs.Lent.{ramp_in}
+use Rattle.gradient.specs.Lent.{lent_ramp}
 use Rattle.gradient.specs.Ramp.{colour_of}
 use Rattle.difference.specs.Difference.{exceeds}
 use Rattle.places.specs.Places.{list_of}
@@ -10,7 +10,7 @@ use Rattle.linearize.proofs.listing.thin_record.Goals as goal
 pub returns : goal.returns
 returns c =
     let a = c.args in
-    let g = colour_of (ramp_in a.kind a.positions a.channels a.codes) in
+    let g = colour_of (lent_ramp a.ramp.now) in
     let k = c.thin_all-s in
     let f = c.finish in
     let r = run k.result k.new.places k.new.colours in

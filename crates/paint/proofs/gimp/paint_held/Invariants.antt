@@ -11,7 +11,7 @@ use Rattle.paint.proofs.gimp.Hits.{Lies}
 use Rattle.paint.proofs.gimp.paint_held.Given as goal
 
 abbrev pub invariant-loop-on : goal.invariant-loop-on
-invariant-loop-on l =
+invariant-loop-on g l =
     (l.i ≤ length l.ts)
     × (length l.out ≡ length l.initial.out)
     × (l.on ≡ true → Lies l.positions l.ts l.s l.i)
@@ -21,4 +21,4 @@ invariant-loop-on l =
     × ((o : List Float) → 4 * length l.ts ≤ length o → l.initial.out ≡ colours_of (gimp_colour l.positions l.channels l.codes) (take l.start l.ts) ++ drop (4 * l.start) o → l.out ≡ colours_of (gimp_colour l.positions l.channels l.codes) (take l.i l.ts) ++ drop (4 * l.i) o)
 
 abbrev pub decreases-loop-on : goal.decreases-loop-on
-decreases-loop-on l = length l.ts - l.i
+decreases-loop-on g l = length l.ts - l.i

@@ -86,12 +86,12 @@ overflow_add-s c =
 pub bounds-codes-s-2 : goal.bounds-codes-s-2
 bounds-codes-s-2 c = omega (arith, codes_there c.before.before.before)
 
-pub paint_costly-requires : goal.paint_costly-requires
-paint_costly-requires c =
+pub paint_held-requires : goal.paint_held-requires
+paint_held-requires c =
     let j = c.before.before.before.before.before.before in
     record { fits = j.requires.fits; starts = (starts j, sym c.is_costly.ensures ∙ c.if-is_costly.true) }
 
-pub paint_held-requires : goal.paint_held-requires
-paint_held-requires c =
+pub paint_held-requires-else-is_costly : goal.paint_held-requires-else-is_costly
+paint_held-requires-else-is_costly c =
     let j = c.before.before.before.before.before.before in
     record { fits = j.requires.fits; starts = (starts j, sym c.is_costly.ensures ∙ c.if-is_costly.false) }

@@ -6,5 +6,5 @@ use Rattle.paint.proofs.gimp.point_or.Goals as goal
 pub returns-then-j-end : goal.returns-then-j-end
 returns-then-j-end c = record { here = λ h. refl; past = λ h. absurd (omega arith) }
 
-pub returns : goal.returns
-returns c = record { here = λ h. absurd (omega arith); past = λ h. refl }
+pub returns-else-j-end : goal.returns-else-j-end
+returns-else-j-end c = record { here = λ h. absurd (omega arith); past = λ h. refl }

@@ -14,5 +14,5 @@ returns-then-g-eq-STEP c = by_step c.args.g c.args.pivot c.args.place c.requires
 pub returns-then-g-eq-SINUSOIDAL : goal.returns-then-g-eq-SINUSOIDAL
 returns-then-g-eq-SINUSOIDAL c = by_wave _ _ _ refl c.requires.0 c.if-g-eq-SINUSOIDAL.true c.blend_wave.ensures
 
-pub returns : goal.returns
-returns c = by_rest _ _ _ refl c.requires.0 c.if-g-eq-SINUSOIDAL.false c.blend.ensures
+pub returns-else-g-eq-SINUSOIDAL : goal.returns-else-g-eq-SINUSOIDAL
+returns-else-g-eq-SINUSOIDAL c = by_rest _ _ _ refl c.requires.0 c.if-g-eq-SINUSOIDAL.false c.blend.ensures

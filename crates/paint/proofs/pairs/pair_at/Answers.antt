@@ -20,15 +20,3 @@ returns-in-Sharp c = let a = c.args in by_pair a.kind a.positions.now a.channels
 pub returns-in-Basis : goal.returns-in-Basis
 unfolding colour_in
 returns-in-Basis c = c.colour_in.ensures
-
-pub returns-in-CatmullRom : goal.returns-in-CatmullRom
-unfolding colour_in
-returns-in-CatmullRom c = c.colour_in-in-CatmullRom.ensures
-
-pub returns-in-Gimp : goal.returns-in-Gimp
-unfolding colour_in
-returns-in-Gimp c = c.colour_in-in-Gimp.ensures
-
-pub returns-in-GimpSaved : goal.returns-in-GimpSaved
-unfolding colour_in
-returns-in-GimpSaved c = c.colour_in-in-GimpSaved.ensures

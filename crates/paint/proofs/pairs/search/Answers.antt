@@ -98,9 +98,9 @@ pub returns-then-size-gt1 : goal.returns-then-size-gt1
 returns-then-size-gt1 c =
     ended_two c.args.positions.now c.args.t c.args.span c.requires c.loop-size.base c.loop-size.size c.loop-size.invariant.1 c.loop-size-test.false c.if-size-gt1.true c.below-then-size-gt1.ensures.0
 
-pub overflow_add-result-2 : goal.overflow_add-result-2
-overflow_add-result-2 c = omega arith
+pub overflow_add-result-else-size-gt1 : goal.overflow_add-result-else-size-gt1
+overflow_add-result-else-size-gt1 c = omega arith
 
-pub returns : goal.returns
-returns c =
+pub returns-else-size-gt1 : goal.returns-else-size-gt1
+returns-else-size-gt1 c =
     ended_one c.args.positions.now c.args.t c.args.span c.requires c.loop-size.base c.loop-size.size c.loop-size.invariant.1 c.if-size-gt1.false

@@ -1,28 +1,20 @@
--- `kept_cells` meets its contract: without a domain no cell is kept; after i turns the first i cells are told. Assumes nothing.
-use mathlib.Core.Path.{refl}
+-- `kept_cells` meets its contract: without a domain no cell is kept; else each is told. Assumes nothing.
+use mathlib.Core.Bool.{false}
 use native.Mathlib.Omega.{arith}
-use lib.ListN.{length-set}
+use Rattle.std.proofs.Common.{rules}
 use Rattle.float.proofs.Flags.{failed, passed}
-use Rattle.slices.specs.Joined.{joined}
-use Rattle.refresh.proofs.reach.Kept.{no_domain, filled_next, filled}
+use Rattle.sampling.specs.Constants.{cells}
+use Rattle.refresh.specs.reach.Stretch.{outside_of, cell_clear}
+use Rattle.refresh.proofs.reach.Given.{given}
+use Rattle.refresh.proofs.reach.Kept.{no_domain, all_told}
 use Rattle.refresh.proofs.reach.kept_cells.Goals as goal
 
 pub returns-then-not-is_domain : goal.returns-then-not-is_domain
 returns-then-not-is_domain c = no_domain _ _ _ (failed c.if-not-is_domain.true c.is_domain.ensures)
 
-pub loop-i-init : goal.loop-i-init
-unfolding joined
-loop-i-init c = (omega arith, refl, refl)
-
-pub is_cell_clear-requires : goal.is_cell_clear-requires
-is_cell_clear-requires c = (passed c.if-not-is_domain.false c.is_domain.ensures, omega arith)
-
-pub loop-i-preserved : goal.loop-i-preserved
-loop-i-preserved c =
-    let l = c.loop-i in
-    (omega arith, simp length-set l.invariant.1, filled_next _ l.keep _ l.i (omega (arith, l.invariant.1)) l.invariant.2 c.is_cell_clear.ensures)
-
 pub returns : goal.returns
 returns c =
-    let l = c.loop-i in
-    filled _ _ _ (passed c.if-not-is_domain.false c.is_domain.ensures) l.keep l.i l.invariant.1 (omega arith) l.invariant.2
+    let a = c.args in
+    let told = c.from_fn.ensures.items in
+    all_told _ _ _ (passed c.if-not-is_domain.false c.is_domain.ensures) c.from_fn.result told.long
+    (λ i l. given _ _ (cell_clear (outside_of a.s) a.min a.max) (λ i y q called. search rules) cells 0 c.from_fn.result told.each i false (omega arith) (omega arith))

@@ -1,38 +1,53 @@
 -- `digits_of` meets its contract: all so far are digits, and what is left makes the same number after theirs. Assumes nothing.
 use borrow.Author.Rules.{rules}
-use Prim.Native.Nat.{◌+◌, ◌-◌, ◌*◌}
+use Prim.Native.Nat.{ℕ, ◌+◌, ◌-◌, ◌*◌}
 use native.Mathlib.Omega.{arith}
 use mathlib.Core.Path.{◌≡◌, sym, ap, ◌∙◌}
-use mathlib.Core.Bool.{Bool, true, ◌&&◌}
+use mathlib.Core.Bool.{Bool, ◌&&◌}
 use lib.ListN.{drop, get_or}
-use Rattle.decimal.specs.Decimal.{is_digit}
+use Rattle.decimal.specs.Decimal.{is_digit, value_after}
 use Rattle.text.specs.Text.{every}
 use Rattle.text.proofs.Bytes.{every_step}
-use Rattle.rows.proofs.Numerals.{value_step, value_end, value_grows, digit_yes, digit_low, digit_high, digits_empty, digits_other, digits_big, digits_is}
+use Rattle.rows.proofs.Numerals.{value_step, value_end, value_grows, digits_empty, digits_other, digits_big, digits_is}
 use Rattle.rows.proofs.digits.digits_of.Goals as goal
 
-pub returns-then-l-eq0 : goal.returns-then-l-eq0
-returns-then-l-eq0 c = digits_empty c.args.l.now c.if-l-eq0.true
+pub returns-then-is_empty : goal.returns-then-is_empty
+returns-then-is_empty c = digits_empty c.args.l.now (search rules)
 
-pub returns-then-b-lt48 : goal.returns-then-b-lt48
-returns-then-b-lt48 c = digits_other c.args.l.now c.loop-i.i (search rules) c.loop-i.invariant.2 (digit_low _ c.if-b-lt48.true)
+pub returns-then-not-is_ascii_digit : goal.returns-then-not-is_ascii_digit
+returns-then-not-is_ascii_digit c =
+    let l = c.loop-b in
+    digits_other c.args.l.now l.b-index c.loop-b-test.true l.invariant.digits (sym c.if-not-is_ascii_digit.ensures.value)
 
-pub returns-then-b-gt57 : goal.returns-then-b-gt57
-returns-then-b-gt57 c = digits_other c.args.l.now c.loop-i.i (search rules) c.loop-i.invariant.2 (digit_high _ c.if-b-gt57.true)
+-- with the next digit the number is too big, and more digits make no smaller one
+pub returns-in_err-checked_mul : goal.returns-in_err-checked_mul
+returns-in_err-checked_mul c =
+    let s = c.args.l.now in
+    let l = c.loop-b in
+    let v = l.v * 10 + (get_or s l.b-index 0 - 48) in
+    c.from_residual.ensures ∙ digits_big s (omega (arith, c.in_err-checked_mul.ensures, l.invariant.value, value_step s l.v l.b-index c.loop-b-test.true, value_grows v (drop (l.b-index + 1) s)))
 
-pub returns-then-v : goal.returns-then-v
-returns-then-v c = let s = c.args.l.now in
-    digits_big s (omega (arith, c.loop-i.invariant.3, value_step s c.loop-i.v c.loop-i.i (search rules), value_grows (c.loop-i.v * 10 + (get_or s c.loop-i.i 0 - 48)) (drop (c.loop-i.i + 1) s)))
+pub returns-in_err-v : goal.returns-in_err-v
+returns-in_err-v c =
+    let s = c.args.l.now in
+    let l = c.loop-b in
+    let v = l.v * 10 + (get_or s l.b-index 0 - 48) in
+    c.from_residual-in_err-v.ensures
+    ∙ digits_big s (omega (arith, c.in_ok-checked_mul.ensures, c.in_err-v.ensures, l.invariant.value, value_step s l.v l.b-index c.loop-b-test.true, value_grows v (drop (l.b-index + 1) s)))
 
-pub returns-then-w-d : goal.returns-then-w-d
-returns-then-w-d c = let s = c.args.l.now in
-    digits_big s (omega (arith, c.loop-i.invariant.3, value_step s c.loop-i.v c.loop-i.i (search rules), value_grows (c.loop-i.v * 10 + (get_or s c.loop-i.i 0 - 48)) (drop (c.loop-i.i + 1) s)))
-
-pub loop-i-preserved : goal.loop-i-preserved
-loop-i-preserved c = let s = c.args.l.now in
-    let d : is_digit (get_or s c.loop-i.i 0) ≡ true = digit_yes (get_or s c.loop-i.i 0) (search rules) (search rules) in
-    (omega arith, omega arith, c.loop-i.invariant.2 ∙ every_step is_digit s c.loop-i.i (search rules) ∙ ap (λ (t : Bool). t && every is_digit (drop (c.loop-i.i + 1) s)) d, sym (value_step s c.loop-i.v c.loop-i.i (search rules)) ∙ c.loop-i.invariant.3)
+pub loop-b-preserved : goal.loop-b-preserved
+loop-b-preserved c =
+    let s = c.args.l.now in
+    let l = c.loop-b in
+    let d : l.v * 10 + (get_or s l.b-index 0 - 48) ≡ c.in_ok-v.v = omega (arith, c.in_ok-checked_mul.ensures, c.in_ok-v.ensures) in
+    record {
+      fits = omega (arith, c.in_ok-v.ensures);
+      digits = l.invariant.digits ∙ every_step is_digit s l.b-index c.loop-b-test.true ∙ ap (λ (t : Bool). t && every is_digit (drop (l.b-index + 1) s)) (sym c.if-not-is_ascii_digit.ensures.value);
+      value = sym (value_step s l.v l.b-index c.loop-b-test.true ∙ ap (λ (v : ℕ). value_after v (drop (l.b-index + 1) s)) d) ∙ l.invariant.value;
+    }
 
 pub returns : goal.returns
-returns c = let s = c.args.l.now in
-    digits_is s c.loop-i.v c.loop-i.i (omega arith) (search rules) c.loop-i.invariant.2 c.loop-i.invariant.1 (sym (value_end s c.loop-i.v c.loop-i.i (search rules)) ∙ c.loop-i.invariant.3)
+returns c =
+    let s = c.args.l.now in
+    let l = c.loop-b in
+    digits_is s l.v l.b-index (search rules) c.loop-b-test.false l.invariant.digits l.invariant.fits (sym (value_end s l.v l.b-index c.loop-b-test.false) ∙ l.invariant.value)

@@ -1,19 +1,18 @@
 -- `number_of` meets its contract: a plus is left out, once, and only where it is allowed. Assumes nothing.
-use Rattle.rows.proofs.Signs.{plain_number, number_none, number_plus, number_digits}
+use mathlib.Core.Logic.{inl, inr}
+use mathlib.Core.Path.{ap, ◌∙◌}
+use Rattle.rows.specs.Digits.{digits_of}
+use Rattle.rows.proofs.Signs.{number_plain, number_plus}
 use Rattle.rows.proofs.digits.number_of.Goals as goal
+use Rattle.rows.proofs.digits.number_of.Goals.{in_default-via-in-Some+else-plus, in_default-via-in_default}
 
-pub returns-then-not-plus : goal.returns-then-not-plus
-returns-then-not-plus c = let a = c.args in
-    plain_number a.plus a.l.now _ (c.if-not-plus.true) c.digits_of.ensures
+pub returns-in-Some : goal.returns-in-Some
+returns-in-Some c =
+    let w = c.in-Some.ensures.cases in
+    c.digits_of.ensures ∙ ap digits_of w.1 ∙ number_plus c.args.plus c.args.l.now c.if-plus.true w.0
 
-pub returns-then-l-eq0 : goal.returns-then-l-eq0
-returns-then-l-eq0 c = let a = c.args in
-    number_none a.plus (c.if-not-plus.false) a.l.now c.if-l-eq0.true
-
-pub returns-then-l-eq43 : goal.returns-then-l-eq43
-returns-then-l-eq43 c = let a = c.args in
-    number_plus a.plus (c.if-not-plus.false) _ a.l.now c.if-l-eq0.false c.if-l-eq43.true c.digits_of-then-l-eq43.ensures
-
-pub returns : goal.returns
-returns c = let a = c.args in
-    number_digits a.plus (c.if-not-plus.false) _ a.l.now c.if-l-eq0.false c.if-l-eq43.false c.digits_of-2.ensures
+pub returns-in_default : goal.returns-in_default
+returns-in_default c =
+    c.digits_of-in_default.ensures
+    ∙ number_plain c.args.plus c.args.l.now
+    (elim c.in_default.branch [ in_default-via-in-Some+else-plus w ↦ inl w.if-plus.false | in_default-via-in_default w ↦ inr w.in_default.ensures.cases ])

@@ -7,15 +7,15 @@ use Rattle.sampling.proofs.cells.evaluate.Goals as goal
 pub returns-then-is_gimp : goal.returns-then-is_gimp
 returns-then-is_gimp c =
     let a = c.args in
-    by_gimp a.kind a.positions.now a.channels.now a.codes.now a.t a.guess c.is_gimp.ensures c.if-is_gimp.true c.colour_at-colour.ensures
+    by_gimp a.ramp.now.kind a.ramp.now.positions.now a.ramp.now.channels.now a.ramp.now.codes.now a.t a.guess c.is_gimp.ensures c.if-is_gimp.true c.colour_at-colour.ensures
 
 pub told_at-requires : goal.told_at-requires
 told_at-requires c =
     let a = c.args in
-    ap (λ (p : Point). p.t) c.placed.ensures ∙ (placed_is a.kind a.positions.now a.channels.now a.t c.find_place-place.result).0
+    ap (λ (p : Point). p.t) c.placed.ensures ∙ (placed_is a.ramp.now.kind a.ramp.now.positions.now a.ramp.now.channels.now a.t c.find_place-place.result).0
 
 pub returns : goal.returns
 returns c =
     let a = c.args in
     c.told_at.ensures
-    ∙ by_stops a.kind a.positions.now a.channels.now a.codes.now a.t a.guess c.is_gimp.ensures c.if-is_gimp.false c.find_place-place.ensures c.placed.ensures
+    ∙ by_stops a.ramp.now.kind a.ramp.now.positions.now a.ramp.now.channels.now a.ramp.now.codes.now a.t a.guess c.is_gimp.ensures c.if-is_gimp.false c.find_place-place.ensures c.placed.ensures

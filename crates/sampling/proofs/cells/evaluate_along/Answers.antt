@@ -11,7 +11,7 @@ told_at-requires c = ap (λ (p : Point). p.t) c.evaluate.ensures ∙ near_t _ _ 
 pub returns-then-not-is_catmull_rom : goal.returns-then-not-is_catmull_rom
 returns-then-not-is_catmull_rom c =
     let a = c.args in
-    along_plain a.kind a.positions.now a.channels.now a.codes.now a.t a.guess a.drawn.now c.is_catmull_rom.ensures (c.if-not-is_catmull_rom.true) (c.told_at.ensures ∙ c.evaluate.ensures)
+    along_plain a.ramp.now.kind a.ramp.now.positions.now a.ramp.now.channels.now a.ramp.now.codes.now a.t a.guess a.drawn.now c.is_catmull_rom.ensures (c.if-not-is_catmull_rom.true) (c.told_at.ensures ∙ c.evaluate.ensures)
 
 pub told_at-requires-2 : goal.told_at-requires-2
 told_at-requires-2 c = ap (λ (p : Point). p.t) c.drawn_at.ensures.point
@@ -20,5 +20,5 @@ pub returns : goal.returns
 returns c =
     let drawn = c.drawn_at.ensures in
     let a = c.args in
-    along_drawn a.kind a.positions.now a.channels.now a.codes.now a.t a.guess a.drawn.now c.is_catmull_rom.ensures (c.if-not-is_catmull_rom.false) c.find_place-place.ensures
+    along_drawn a.ramp.now.kind a.ramp.now.positions.now a.ramp.now.channels.now a.ramp.now.codes.now a.t a.guess a.drawn.now c.is_catmull_rom.ensures (c.if-not-is_catmull_rom.false) c.find_place-place.ensures
     (record { drawn = drawn.drawn; point = c.told_at-2.ensures ∙ drawn.point })

@@ -26,7 +26,7 @@ halve-a-requires t c =
 
 pub offset_bounds-row-k : goal.offset_bounds-row-k
 offset_bounds-row-k t c =
-    scaled_Fits _ (length c.args.row.now) 4 (middle_fits _ _ _ _ _ c.args.q.t _ c.if-left-eq0.false c.requires.left_in_bounds _ _ _ c.halve-a.ensures) c.well_formed.1.1.1.1.0.1
+    scaled_Fits _ (length c.args.row.now) 4 (middle_fits _ _ _ _ _ c.args.q.t _ c.if-left-eq0.false c.requires.left_in_bounds _ _ _ c.halve-a.ensures) c.well_formed.1.1.0.1
 
 pub bounds-row-k : goal.bounds-row-k
 bounds-row-k t c =

@@ -30,11 +30,3 @@ returns-in-Basis c =
 pub returns-in-CatmullRom : goal.returns-in-CatmullRom
 unfolding colour_in
 returns-in-CatmullRom c = c.any_pair.ensures
-
-pub returns-in-Gimp : goal.returns-in-Gimp
-unfolding colour_in
-returns-in-Gimp c = c.any_pair-in-Gimp.ensures
-
-pub returns-in-GimpSaved : goal.returns-in-GimpSaved
-unfolding colour_in
-returns-in-GimpSaved c = c.any_pair-in-GimpSaved.ensures

@@ -2,5 +2,5 @@
 use Rattle.float.proofs.Patterns.{is_number}
 use Rattle.sqrt.proofs.half_root.start.Goals as goal
 
-pub float_to_bits-b : goal.float_to_bits-b
-float_to_bits-b c = is_number _ c.if-square.false
+pub float_to_bits-square : goal.float_to_bits-square
+float_to_bits-square c = is_number _ c.if-square.false

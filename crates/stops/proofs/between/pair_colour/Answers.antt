@@ -1,4 +1,5 @@
 -- `stops::pair_colour` meets its contract: by the kind. Assumes nothing.
+use mathlib.Core.Logic.{inl, inr}
 use mathlib.Core.Path.{refl}
 use Rattle.stops.specs.declared.Kind.TheVariants.{Linear, Smoothstep, Gimp, GimpSaved}
 use Rattle.stops.specs.Pair.{pair_of}
@@ -24,8 +25,8 @@ returns-in-CatmullRom c = by_catmull c.args.channels.now c.args.n c.args.k c.arg
 
 pub returns-in-Gimp : goal.returns-in-Gimp
 unfolding pair_of
-returns-in-Gimp c = by_kind c.args.channels.now c.args.n c.args.k c.args.p c.args.q c.args.t Gimp c.in-Gimp.is refl
-
-pub returns-in-GimpSaved : goal.returns-in-GimpSaved
-unfolding pair_of
-returns-in-GimpSaved c = by_kind c.args.channels.now c.args.n c.args.k c.args.p c.args.q c.args.t GimpSaved c.in-GimpSaved.is refl
+returns-in-Gimp c = let ps = c.args in
+    elim c.in-Gimp.is [
+      | inl e ↦ by_kind ps.channels.now ps.n ps.k ps.p ps.q ps.t Gimp e refl
+      | inr e ↦ by_kind ps.channels.now ps.n ps.k ps.p ps.q ps.t GimpSaved e refl
+    ]

@@ -6,5 +6,5 @@ use Rattle.stops.proofs.near.find_place.Goals as goal
 pub returns-then-is_between : goal.returns-then-is_between
 returns-then-is_between c = near_pair c.args.positions.now c.args.t c.args.k (sym c.is_between.ensures ∙ c.if-is_between.true)
 
-pub returns : goal.returns
-returns c = near_else c.args.positions.now c.args.t c.args.k (sym c.is_between.ensures ∙ c.if-is_between.false) c.find_place.ensures
+pub returns-else-is_between : goal.returns-else-is_between
+returns-else-is_between c = near_else c.args.positions.now c.args.t c.args.k (sym c.is_between.ensures ∙ c.if-is_between.false) c.find_place.ensures

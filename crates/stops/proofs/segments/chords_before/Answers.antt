@@ -7,5 +7,5 @@ use Rattle.stops.proofs.segments.chords_before.Goals as goal
 pub returns-then-k-gt1 : goal.returns-then-k-gt1
 returns-then-k-gt1 c = simp (lt-ltb 1 c.args.k c.if-k-gt1.true)
 
-pub returns : goal.returns
-returns c = c.chords.ensures ∙ simp (le-ltb 1 c.args.k (omega (arith, c.if-k-gt1.false)))
+pub returns-else-k-gt1 : goal.returns-else-k-gt1
+returns-else-k-gt1 c = c.chords.ensures ∙ simp (le-ltb 1 c.args.k (omega (arith, c.if-k-gt1.false)))

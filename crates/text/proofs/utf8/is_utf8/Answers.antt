@@ -3,11 +3,11 @@ use borrow.Author.Rules.{rules}
 use Rattle.text.proofs.Characters.{due_start, due_on, due_done}
 use Rattle.text.proofs.utf8.is_utf8.Goals as goal
 
-pub loop-i-init : goal.loop-i-init
-loop-i-init c = due_start _ c.still-d.ensures
+pub loop-b-init : goal.loop-b-init
+loop-b-init c = due_start _ c.still-d.ensures
 
-pub loop-i-preserved : goal.loop-i-preserved
-loop-i-preserved c = due_on c.args.s.now c.loop-i.i c.loop-i.d c.loop-i.invariant (search rules) c.next-d.ensures
+pub loop-b-preserved : goal.loop-b-preserved
+loop-b-preserved c = due_on c.args.s.now c.loop-b.b-index c.loop-b.d c.loop-b.invariant (search rules) c.next-d.ensures
 
 pub returns : goal.returns
-returns c = due_done c.args.s.now c.loop-i.i c.loop-i.d c.loop-i.invariant (search rules)
+returns c = due_done c.args.s.now c.loop-b.b-index c.loop-b.d c.loop-b.invariant (search rules)

@@ -3,7 +3,7 @@ use mathlib.Core.Path.{sym, ◌∙◌}
 use native.Mathlib.Omega.{arith}
 use mathlib.Core.List.{[]}
 use Prim.Native.Nat.{◌-◌}
-use Rattle.stops.specs.Lent.{ramp_in}
+use Rattle.gradient.specs.Lent.{lent_ramp}
 use Rattle.gradient.specs.Ramp.{colour_of}
 use Rattle.within.specs.inner.Weighing.{near_by, rest_of}
 use Rattle.within.proofs.Arrays.{sites_length}
@@ -13,7 +13,7 @@ use Rattle.within.proofs.asking.ask.Goals as goal
 pub returns-then-k-eq0 : goal.returns-then-k-eq0
 returns-then-k-eq0 c =
     let a = c.args in
-    let g = colour_of (ramp_in a.kind a.positions a.channels a.codes) in
+    let g = colour_of (lent_ramp a.ramp.now) in
     record {
       yes = asked_none g (near_by a.offs) a.at.end.t a.a.t (rest_of a.ts.now a.marks.now a.at) a.at.lent a.r c.requires.1 (same_points a.at.lent a.ts.now a.marks.now a.r a.at.from _ ∙ sym c.points_to-k.ensures ∙ c.if-k-eq0.true);
       hand = c.requires.0.hand;
@@ -45,20 +45,20 @@ shows_to-requires c =
       hand = p.hand;
       left = p.known;
       right = c.point_after-b.ensures.1;
-      begun = omega (arith, c.at_most-to.ensures, p.begun);
-      some = omega (arith, c.at_most-to.ensures);
+      begun = omega (arith, c.min-to.ensures, p.begun);
+      some = omega (arith, c.min-to.ensures);
       few = omega (arith, p.few);
     }
 
 pub returns : goal.returns
 returns c =
     let a = c.args in
-    let g = colour_of (ramp_in a.kind a.positions a.channels a.codes) in
+    let g = colour_of (lent_ramp a.ramp.now) in
     let k = c.points_to-k.result in
     record {
       yes =
           c.shows_to.ensures.yes
-          ∙ shown_from g (near_by a.offs) a.at.end.t a.a.t _ a.ts.now a.marks.now a.at.from a.at.count k _ c.requires.0.begun c.at_most-to.ensures c.point_after-b.ensures.0
+          ∙ shown_from g (near_by a.offs) a.at.end.t a.a.t _ a.ts.now a.marks.now a.at.from a.at.count k _ c.requires.0.begun c.min-to.ensures c.point_after-b.ensures.0
           ∙ asked_some g (near_by a.offs) a.at.end.t a.a.t (rest_of a.ts.now a.marks.now a.at) a.at.lent a.r k (c.points_to-k.ensures ∙ sym (same_points a.at.lent a.ts.now a.marks.now a.r a.at.from _)) c.if-k-eq0.false;
       hand = c.shows_to.ensures.hand;
     }

@@ -2,7 +2,7 @@
 use mathlib.Core.Path.{refl, sym, ◌∙◌}
 use Prim.Native.Nat.{◌-◌}
 use native.Mathlib.Omega.{arith}
-use Rattle.stops.specs.Lent.{ramp_in}
+use Rattle.gradient.specs.Lent.{lent_ramp}
 use Rattle.gradient.specs.Ramp.{colour_of}
 use Rattle.within.specs.inner.Weighing.{near_by}
 use Rattle.within.proofs.Arrays.{first_no, first_yes, none_left}
@@ -19,7 +19,7 @@ refill-v-requires c =
 
 pub shows-requires : goal.shows-requires
 shows-requires c =
-    let e = c.at_most-stop.ensures in
+    let e = c.min-stop.ensures in
     let r = c.refill-v.ensures in
     (r.from, (omega (arith, e, r.hand.fits), omega (arith, e, r.hand.within)))
 
@@ -28,33 +28,33 @@ returns-then-not-shows c =
     let l = c.loop-i in
     let s = c.requires in
     let a = c.args in
-    let g = colour_of (ramp_in a.kind a.positions a.channels a.codes) in
-    let e = c.at_most-stop.ensures in
+    let g = colour_of (lent_ramp a.ramp.now) in
+    let e = c.min-stop.ensures in
     let r = c.refill-v.ensures in
-    let asked = shown_is g a.ts.now _ _ r.hand (near_by a.offs) a.a a.b s.left s.right a.marks.now l.i c.at_most-stop.result r.from (omega (arith, e)) in
+    let asked = shown_is g a.ts.now _ _ r.hand (near_by a.offs) a.a a.b s.left s.right a.marks.now l.i c.min-stop.result r.from (omega (arith, e)) in
     record {
-      yes = sym (l.invariant.1.1.0 ∙ first_no _ l.i (c.at_most-stop.result - l.i) (a.to - c.at_most-stop.result) (a.to - l.i) (omega (arith, e, r.to, c.loop-i-test.true)) (sym asked ∙ sym c.shows.ensures ∙ c.if-not-shows.true));
+      yes = sym (l.invariant.1.1.0 ∙ first_no _ l.i (c.min-stop.result - l.i) (a.to - c.min-stop.result) (a.to - l.i) (omega (arith, e, r.to, c.loop-i-test.true)) (sym asked ∙ sym c.shows.ensures ∙ c.if-not-shows.true));
       hand = r.hand;
     }
 
 pub loop-i-smaller : goal.loop-i-smaller
 loop-i-smaller c =
-    omega (arith, c.at_most-stop.ensures, c.refill-v.ensures.to, c.loop-i-test.true)
+    omega (arith, c.min-stop.ensures, c.refill-v.ensures.to, c.loop-i-test.true)
 
 pub loop-i-preserved : goal.loop-i-preserved
 loop-i-preserved c =
     let l = c.loop-i in
     let s = c.requires in
     let a = c.args in
-    let g = colour_of (ramp_in a.kind a.positions a.channels a.codes) in
-    let e = c.at_most-stop.ensures in
+    let g = colour_of (lent_ramp a.ramp.now) in
+    let e = c.min-stop.ensures in
     let r = c.refill-v.ensures in
-    let asked = shown_is g a.ts.now _ _ r.hand (near_by a.offs) a.a a.b s.left s.right a.marks.now l.i c.at_most-stop.result r.from (omega (arith, e)) in (
+    let asked = shown_is g a.ts.now _ _ r.hand (near_by a.offs) a.a a.b s.left s.right a.marks.now l.i c.min-stop.result r.from (omega (arith, e)) in (
       omega (arith, l.invariant.0, e, r.to, c.loop-i-test.true),
       (
         omega (arith, e),
         (
-          l.invariant.1.1.0 ∙ first_yes _ l.i (c.at_most-stop.result - l.i) (a.to - c.at_most-stop.result) c.at_most-stop.result (a.to - l.i) (omega (arith, e, r.to, c.loop-i-test.true)) (omega (arith, e, r.to, c.loop-i-test.true)) (sym asked ∙ sym c.shows.ensures ∙ c.if-not-shows.false),
+          l.invariant.1.1.0 ∙ first_yes _ l.i (c.min-stop.result - l.i) (a.to - c.min-stop.result) c.min-stop.result (a.to - l.i) (omega (arith, e, r.to, c.loop-i-test.true)) (omega (arith, e, r.to, c.loop-i-test.true)) (sym asked ∙ sym c.shows.ensures ∙ c.if-not-shows.false),
           r.hand,
         ),
       ),

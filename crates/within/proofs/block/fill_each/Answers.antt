@@ -1,8 +1,8 @@
--- `fill_each` meets its contract: the colours so far are there, and the pair of the last point is drawn. The measure is what is left. Assumes nothing.
+-- `fill_each` meets its contract: the colours so far are there, and the pair of the last point is drawn. Assumes nothing.
 use mathlib.Core.Path.{◌∙◌}
 use native.Mathlib.Omega.{arith}
 use lib.ListN.{length-set}
-use Rattle.stops.specs.Lent.{ramp_in}
+use Rattle.gradient.specs.Lent.{lent_ramp}
 use Rattle.gradient.specs.Ramp.{colour_of}
 use Rattle.within.proofs.Blocks.{filled_next, filled_hand}
 use Rattle.within.proofs.block.fill_each.Goals as goal
@@ -23,7 +23,7 @@ loop-i-preserved c =
       (
         length-set c.loop-i.block c.loop-i.i _ ∙ k.1.0,
         (
-          filled_next (colour_of (ramp_in a.kind a.positions a.channels a.codes)) a.ts.now a.base c.loop-i.i c.loop-i.block c.point_in-x.result (omega (arith, c.loop-i-test.true, k.1.0, c.requires.codes_value.1.1)) w.point_at k.1.1.0,
+          filled_next (colour_of (lent_ramp a.ramp.now)) a.ts.now a.base c.loop-i.i c.loop-i.block c.point_in-x.result (omega (arith, c.loop-i-test.true, k.1.0, c.requires.codes_value.1.1)) w.point_at k.1.1.0,
           w.carrying_2,
         ),
       ),

@@ -1,4 +1,4 @@
--- `to_lent` meets its contract: what is sought from the start is what is left to seek. The measure is how many points are left. Assumes nothing.
+-- `to_lent` meets its contract: what is sought from the start is what is left to seek. Assumes nothing.
 use Rattle.within.proofs.Lenting.{scan_none, scan_start, scan_found, scan_next, scan_max, scan_past}
 use Rattle.within.proofs.lent.to_lent.Goals as goal
 
@@ -19,5 +19,5 @@ loop-i-preserved c =
 pub returns-then-left-eq1 : goal.returns-then-left-eq1
 returns-then-left-eq1 c = scan_max _ _ _ _ _ _ c.loop-i.invariant c.loop-i-test.false c.if-left-eq1.true
 
-pub returns : goal.returns
-returns c = scan_past _ _ _ _ _ _ c.loop-i.invariant c.loop-i-test.false c.if-left-eq1.false
+pub returns-else-left-eq1 : goal.returns-else-left-eq1
+returns-else-left-eq1 c = scan_past _ _ _ _ _ _ c.loop-i.invariant c.loop-i-test.false c.if-left-eq1.false

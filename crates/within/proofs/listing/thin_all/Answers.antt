@@ -3,7 +3,7 @@ use mathlib.Core.Path.{◌≡◌, sym, subst}
 use lib.ListN.{replicate, length-replicate}
 use lib.Ieee.{Float}
 use Rattle.float.specs.F32.{f0}
-use Rattle.stops.specs.Lent.{ramp_in}
+use Rattle.gradient.specs.Lent.{lent_ramp}
 use Rattle.gradient.specs.Ramp.{colour_of}
 use Rattle.sampling.specs.inner.Steps.{PointAt}
 use Rattle.sampling.specs.declared.Point.{Point}
@@ -15,14 +15,14 @@ use Rattle.within.proofs.listing.thin_all.Goals as goal
 pub returns-then-refusal-ne0 : goal.returns-then-refusal-ne0
 returns-then-refusal-ne0 c =
     let a = c.args in
-    let g = colour_of (ramp_in a.kind a.positions a.channels a.codes) in
+    let g = colour_of (lent_ramp a.ramp.now) in
     let first : PointAt g a.min c.evaluate-first.result = near_point _ c.requires.0 _ _ _ c.evaluate-first.ensures in
     first_refused g (near_by a.offs) a.max a.room a.count a.ts.now a.marks.now a.places.now a.colours.now c.evaluate-first.result first.1 c.emit-s.result c.emit-s.new.places c.emit-s.new.colours c.emit-s.ensures a.min first.0 c.if-refusal-ne0.true
 
 pub thin_sites-requires : goal.thin_sites-requires
 thin_sites-requires c =
     let a = c.args in
-    let g = colour_of (ramp_in a.kind a.positions a.channels a.codes) in
+    let g = colour_of (lent_ramp a.ramp.now) in
     let first : PointAt g a.min c.evaluate-first.result = near_point _ c.requires.0 _ _ _ c.evaluate-first.ensures in
     let end : PointAt g a.max c.evaluate-end.result = near_point _ c.requires.0 _ _ _ c.evaluate-end.ensures in
     let l = last_is g a.room 0 a.places.now a.colours.now c.evaluate-first.result first.1 c.emit-s.result c.emit-s.new.places c.emit-s.new.colours c.emit-s.ensures c.if-refusal-ne0.false in
@@ -34,10 +34,10 @@ thin_sites-requires c =
 pub returns : goal.returns
 returns c =
     let a = c.args in
-    let g = colour_of (ramp_in a.kind a.positions a.channels a.codes) in
+    let g = colour_of (lent_ramp a.ramp.now) in
     let first : PointAt g a.min c.evaluate-first.result = near_point _ c.requires.0 _ _ _ c.evaluate-first.ensures in
     let end : PointAt g a.max c.evaluate-end.result = near_point _ c.requires.0 _ _ _ c.evaluate-end.ensures in
     subst
-    (λ (x : Float). EndsWith (whole_ending (ramp_in a.kind a.positions a.channels a.codes) a.offs a.room a.count a.min x a.ts.now a.marks.now a.places.now a.colours.now) c.thin_sites.result c.thin_sites.new.places c.thin_sites.new.colours)
+    (λ (x : Float). EndsWith (whole_ending (lent_ramp a.ramp.now) a.offs a.room a.count a.min x a.ts.now a.marks.now a.places.now a.colours.now) c.thin_sites.result c.thin_sites.new.places c.thin_sites.new.colours)
     end.0
     (then_rest g (near_by a.offs) c.evaluate-end.result.t a.room a.count a.ts.now a.marks.now a.places.now a.colours.now c.evaluate-first.result first.1 c.emit-s.result c.emit-s.new.places c.emit-s.new.colours c.emit-s.ensures a.min first.0 c.if-refusal-ne0.false _ _ _ c.thin_sites.ensures)

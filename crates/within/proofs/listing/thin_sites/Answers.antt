@@ -2,7 +2,7 @@
 use Prim.Native.Nat.{◌+◌, ◌≤◌}
 use native.Mathlib.Omega.{arith}
 use borrow.Author.Tests.{not-true, not-false}
-use Rattle.stops.specs.Lent.{ramp_in}
+use Rattle.gradient.specs.Lent.{lent_ramp}
 use Rattle.gradient.specs.Ramp.{colour_of}
 use Rattle.within.specs.inner.Weighing.{near_by}
 use Rattle.within.proofs.Blocks.{nothing_in_hand}
@@ -22,7 +22,7 @@ pub point_after-b-requires : goal.point_after-b-requires
 point_after-b-requires c =
     let p = c.requires in
     let a = c.args in
-    let g = colour_of (ramp_in a.kind a.positions a.channels a.codes) in
+    let g = colour_of (lent_ramp a.ramp.now) in
     let i = c.loop-i.i in
     let x = c.loop-i.s.last.t in
     let points = c.step_from-step.result.points in
@@ -39,7 +39,7 @@ returns-then-refusal-ne0 c =
     let l = c.loop-i in
     let e = c.step_from-step.ensures in
     let b = c.point_after-b in
-    going_refused (colour_of (ramp_in a.kind a.positions a.channels a.codes)) (near_by a.offs) a.end.t a.room a.count a.ts.now a.marks.now _ _ _ l.i l.s l.w l.block l.places l.colours l.invariant c.loop-i-test.true
+    going_refused (colour_of (lent_ramp a.ramp.now)) (near_by a.offs) a.end.t a.room a.count a.ts.now a.marks.now _ _ _ l.i l.s l.w l.block l.places l.colours l.invariant c.loop-i-test.true
     c.step_from-step.result.points e.points b.result b.ensures.0 b.ensures.1 c.step_from-step.result.shown e.shown c.emit-s.result c.emit-s.new.places c.emit-s.new.colours c.emit-s.ensures c.if-refusal-ne0.true
 
 pub returns-then-not-step : goal.returns-then-not-step
@@ -48,13 +48,13 @@ returns-then-not-step c =
     let l = c.loop-i in
     let e = c.step_from-step.ensures in
     let b = c.point_after-b in
-    going_unshown (colour_of (ramp_in a.kind a.positions a.channels a.codes)) (near_by a.offs) a.end.t a.room a.count a.ts.now a.marks.now _ _ _ l.i l.s l.w l.block l.places l.colours l.invariant c.loop-i-test.true
+    going_unshown (colour_of (lent_ramp a.ramp.now)) (near_by a.offs) a.end.t a.room a.count a.ts.now a.marks.now _ _ _ l.i l.s l.w l.block l.places l.colours l.invariant c.loop-i-test.true
     c.step_from-step.result.points e.points b.result b.ensures.0 b.ensures.1 c.step_from-step.result.shown e.shown c.emit-s.result c.emit-s.new.places c.emit-s.new.colours c.emit-s.ensures c.if-refusal-ne0.false (not-true _ c.if-not-step.true) _
 
 pub overflow_add-i : goal.overflow_add-i
 overflow_add-i c =
     let a = c.args in
-    let g = colour_of (ramp_in a.kind a.positions a.channels a.codes) in
+    let g = colour_of (lent_ramp a.ramp.now) in
     let i = c.loop-i.i in
     let x = c.loop-i.s.last.t in
     let points = c.step_from-step.result.points in
@@ -64,7 +64,7 @@ overflow_add-i c =
 pub loop-i-smaller : goal.loop-i-smaller
 loop-i-smaller c =
     let a = c.args in
-    let g = colour_of (ramp_in a.kind a.positions a.channels a.codes) in
+    let g = colour_of (lent_ramp a.ramp.now) in
     let i = c.loop-i.i in
     let x = c.loop-i.s.last.t in
     let points = c.step_from-step.result.points in
@@ -78,11 +78,11 @@ loop-i-preserved c =
     let l = c.loop-i in
     let e = c.step_from-step.ensures in
     let b = c.point_after-b in
-    going_next (colour_of (ramp_in a.kind a.positions a.channels a.codes)) (near_by a.offs) a.end.t a.room a.count a.ts.now a.marks.now _ _ _ l.i l.s l.w l.block l.places l.colours l.invariant c.loop-i-test.true
+    going_next (colour_of (lent_ramp a.ramp.now)) (near_by a.offs) a.end.t a.room a.count a.ts.now a.marks.now _ _ _ l.i l.s l.w l.block l.places l.colours l.invariant c.loop-i-test.true
     c.step_from-step.result.points e.points b.result b.ensures.0 b.ensures.1 c.step_from-step.result.shown e.shown c.emit-s.result c.emit-s.new.places c.emit-s.new.colours c.emit-s.ensures _ _ e.hand c.if-refusal-ne0.false (not-false _ c.if-not-step.false) c.emit-s.auto.places c.emit-s.auto.colours
 
 pub returns : goal.returns
 returns c =
     let a = c.args in
     let l = c.loop-i in
-    going_done (colour_of (ramp_in a.kind a.positions a.channels a.codes)) (near_by a.offs) a.end.t a.room a.count a.ts.now a.marks.now _ _ _ l.i l.s l.w l.block l.places l.colours l.invariant c.loop-i-test.false
+    going_done (colour_of (lent_ramp a.ramp.now)) (near_by a.offs) a.end.t a.room a.count a.ts.now a.marks.now _ _ _ l.i l.s l.w l.block l.places l.colours l.invariant c.loop-i-test.false

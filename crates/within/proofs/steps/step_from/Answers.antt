@@ -2,7 +2,7 @@
 use mathlib.Core.Path.{sym, ◌∙◌}
 use native.Mathlib.Omega.{arith}
 use Prim.Native.Nat.{◌-◌}
-use Rattle.stops.specs.Lent.{ramp_in}
+use Rattle.gradient.specs.Lent.{lent_ramp}
 use Rattle.gradient.specs.Ramp.{colour_of}
 use Rattle.within.specs.inner.Weighing.{near_by, sites_from}
 use Rattle.within.proofs.Questions.{same_points, reach_all, lent_step, lent_shown_lem, any_step, any_shown_lem, one_step, one_shown}
@@ -11,7 +11,7 @@ use Rattle.within.proofs.steps.step_from.Goals as goal
 pub returns-then-p : goal.returns-then-p
 returns-then-p c =
     let a = c.args in
-    let g = colour_of (ramp_in a.kind a.positions a.channels a.codes) in
+    let g = colour_of (lent_ramp a.ramp.now) in
     let near = near_by a.offs in
     let rest = sites_from a.ts.now a.marks.now a.from (a.count - a.from) in
     let h = sym c.ask-p.ensures.yes ∙ c.if-p.true in
@@ -29,7 +29,7 @@ reach_from-y-requires c =
 pub returns-then-y-gt1 : goal.returns-then-y-gt1
 returns-then-y-gt1 c =
     let a = c.args in
-    let g = colour_of (ramp_in a.kind a.positions a.channels a.codes) in
+    let g = colour_of (lent_ramp a.ramp.now) in
     let near = near_by a.offs in
     let rest = sites_from a.ts.now a.marks.now a.from (a.count - a.from) in
     let h = sym c.ask-p.ensures.yes ∙ c.if-p.false in
@@ -43,7 +43,7 @@ returns-then-y-gt1 c =
 pub returns : goal.returns
 returns c =
     let a = c.args in
-    let g = colour_of (ramp_in a.kind a.positions a.channels a.codes) in
+    let g = colour_of (lent_ramp a.ramp.now) in
     let near = near_by a.offs in
     let rest = sites_from a.ts.now a.marks.now a.from (a.count - a.from) in
     let h = sym c.ask-p.ensures.yes ∙ c.if-p.false in

@@ -5,7 +5,7 @@ use Rattle.colorgrad_c.proofs.plain.Stored.{told_case}
 use Rattle.colorgrad_c.proofs.plain.ramps.tell_colour.Goals as goal
 
 pub returns-in-Colour : goal.returns-in-Colour
-returns-in-Colour c = let k = told_case _ number_of_at colour_told c.in-Colour.is c.tell_floats.ensures in record { value = k.0; colour_value = k.1 }
+returns-in-Colour c = let k = told_case _ number_of_at colour_told c.in-Colour.is c.tell.ensures in record { value = k.0; colour_value = k.1 }
 
 pub returns-in-Refused : goal.returns-in-Refused
-returns-in-Refused c = let k = told_case _ number_of_at colour_told c.in-Refused.is c.tell_floats-in-Refused.ensures in record { value = k.0; colour_value = k.1 }
+returns-in-Refused c = let k = told_case _ number_of_at colour_told c.in-Refused.is c.tell-in-Refused.ensures in record { value = k.0; colour_value = k.1 }

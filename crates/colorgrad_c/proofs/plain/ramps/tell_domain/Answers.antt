@@ -7,10 +7,10 @@ use Rattle.colorgrad_c.proofs.plain.ramps.tell_domain.Goals as goal
 
 pub returns-in-Fine : goal.returns-in-Fine
 returns-in-Fine c =
-    let k = told_case _ number_of_checked (λ (x : Checked). ends_told x c.args.min c.args.max) c.in-Fine.is c.tell_floats.ensures in
+    let k = told_case _ number_of_checked (λ (x : Checked). ends_told x c.args.min c.args.max) c.in-Fine.is c.tell.ensures in
     record { value = k.0; ends_value = k.1 }
 
 pub returns-in-Refused : goal.returns-in-Refused
 returns-in-Refused c =
-    let k = told_case _ number_of_checked (λ (x : Checked). ends_told x c.args.min c.args.max) c.in-Refused.is c.tell_floats-in-Refused.ensures in
+    let k = told_case _ number_of_checked (λ (x : Checked). ends_told x c.args.min c.args.max) c.in-Refused.is c.tell-in-Refused.ensures in
     record { value = k.0; ends_value = k.1 }

@@ -6,6 +6,6 @@ use Rattle.colorgrad_c.proofs.plain.steps.tell_handed.Goals as goal
 pub returns : goal.returns
 returns c = record {
   value = c.told_number.ensures;
-  told_value = tells_same _ c.tell_numbers.ensures (step_is c.args.handed c.has_stop.ensures c.step_told-numbers.ensures);
-  stop_value = tells_same _ c.tell_floats.ensures c.stop_told.ensures;
+  told_value = tells_same _ c.tell.ensures (step_is c.args.handed c.has_stop.ensures c.step_told-numbers.ensures);
+  stop_value = tells_same _ c.tell-2.ensures c.stop_told.ensures;
 }

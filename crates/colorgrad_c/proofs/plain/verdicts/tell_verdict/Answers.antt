@@ -8,6 +8,6 @@ use Rattle.colorgrad_c.proofs.plain.verdicts.tell_verdict.Goals as goal
 pub returns : goal.returns
 returns c = record {
   value = c.verdict_number.ensures;
-  told_value = tells_same _ c.tell_numbers.ensures c.verdict_told.ensures;
-  t_value = tells_same _ c.tell_floats.ensures (ap (λ (x : Float). x ∷ []) c.point_of.ensures);
+  told_value = tells_same _ c.tell.ensures c.verdict_told.ensures;
+  t_value = tells_same _ c.tell-2.ensures (ap (λ (x : Float). x ∷ []) c.point_of.ensures);
 }

@@ -14,14 +14,14 @@ copy_positions-requires c =
     let a = c.args in
     let fits = passed c.if-not-copy_fits.false c.copy_fits.ensures in
     let fine = sym c.check.ensures.answer ∙ c.in-Fine.is in
-    (stop_there a.kind a.positions.now a.edit fine, (room_is _ _ _ _ fits).some)
+    (stop_there a.ramp.now.kind a.ramp.now.positions.now a.edit fine, (room_is _ _ _ _ fits).some)
 
 pub copy_channels-requires : goal.copy_channels-requires
 copy_channels-requires c =
     let a = c.args in
     let fits = passed c.if-not-copy_fits.false c.copy_fits.ensures in
     let fine = sym c.check.ensures.answer ∙ c.in-Fine.is in
-    let l = stop_there a.kind a.positions.now a.edit fine in
+    let l = stop_there a.ramp.now.kind a.ramp.now.positions.now a.edit fine in
     let r = room_is _ _ _ _ fits in
     (omega (arith, l, r.four), r.wide)
 
@@ -30,7 +30,7 @@ stops_after-requires c =
     let a = c.args in
     let fits = passed c.if-not-copy_fits.false c.copy_fits.ensures in
     let fine = sym c.check.ensures.answer ∙ c.in-Fine.is in
-    (stop_there a.kind a.positions.now a.edit fine, (room_is _ _ _ _ fits).most)
+    (stop_there a.ramp.now.kind a.ramp.now.positions.now a.edit fine, (room_is _ _ _ _ fits).most)
 
 pub returns-in-Refused : goal.returns-in-Refused
 returns-in-Refused c = copy_refused _ _ _ _ _ _ _ (sym c.check.ensures.answer ∙ c.in-Refused.is)
@@ -42,4 +42,4 @@ returns-else-not-copy_fits c =
     let fine = sym c.check.ensures.answer ∙ c.in-Fine.is in
     let placed = c.copy_positions in
     let coloured = c.copy_channels in
-    copy_done a.kind a.positions.now a.channels.now a.edit a.places.now a.colours.now fine fits placed.new.to coloured.new.to _ placed.ensures coloured.ensures c.stops_after.ensures
+    copy_done a.ramp.now.kind a.ramp.now.positions.now a.ramp.now.channels.now a.edit a.places.now a.colours.now fine fits placed.new.to coloured.new.to _ placed.ensures coloured.ensures c.stops_after.ensures
