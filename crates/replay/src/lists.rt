@@ -17,6 +17,7 @@ pub const FEW: usize = 2;
 // What stands in lent memory before a call, so that what stays and what is set to zero both show.
 pub const RUBBISH: f32 = 7.5;
 
+// A record of the length that the calls ask.
 #[derive(Drop)]
 pub struct Record {
     pub rows: [f32; RECORD],

@@ -30,6 +30,7 @@ pub struct Tally {
 }
 
 impl Tally {
+    // Before the first answer.
     pub const NONE: Tally = Tally { asked: 0, equal: 0 };
 
     pub fn with(self, is_equal: bool) -> Tally {

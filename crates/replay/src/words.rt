@@ -81,6 +81,7 @@ pub struct Stored {
 }
 
 impl Stored {
+    // All words, before any answer.
     pub fn new(input: StandardInput) -> Stored {
         Stored {
             input,
@@ -88,6 +89,7 @@ impl Stored {
         }
     }
 
+    // How the reading went.
     pub fn end(self) -> io::Result<()> {
         self.input.end()
     }
@@ -101,6 +103,7 @@ impl Stored {
         text[..8].iter().fold(0, |word, b| (word << 4) | digit(*b))
     }
 
+    // The next word, as a length.
     pub fn count(&mut self) -> usize {
         self.word() as usize
     }
