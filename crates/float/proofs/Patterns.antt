@@ -6,7 +6,7 @@ use native.Mathlib.Nat.{lt_of_not-le}
 use native.Mathlib.Decide.{dec_le}
 use native.Mathlib.Omega.{arith}
 use lib.Dec.{T}
-use lib.Ieee.{Float, nan, inf, fin, binary32, ne, is_nan, of_bits, nan_bits}
+use lib.Ieee.{Float, nan, inf, fin, binary32, ne, is_nan, of_bits, to_bits, nan_bits}
 use lib.Ieee.Bits.{nan_bits_is, nan_bits_above}
 use lib.Ieee.Compare.{nan_differs, differs_from_itself}
 use borrow.Author.Tests.{lt-ltb, le-ltb}
@@ -43,3 +43,8 @@ number_below b l h = go (dec_le b 2139095040)
     go : Dec (b ≤ 2139095040) → b ≤ 2139095040
     go (yes m) = m
     go (no f) = let m = lt_of_not-le f in absurd (subst (λ (x : Bool). T (not x)) (nan_bits_above binary32 b ∙ lt-ltb 2139095040 (b % 2147483648) (omega arith)) h)
+
+-- what `to_bits` gives of a NaN
+pub pattern_of_nan : to_bits binary32 nan ≡ 2143289344
+unfolding to_bits
+pattern_of_nan = refl
